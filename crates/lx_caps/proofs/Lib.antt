@@ -1,0 +1,11 @@
+pub mod Histories
+pub mod Bytes
+pub mod Orders
+pub mod Least
+pub mod Begins
+pub mod NextOwned
+pub mod RegionLemmas
+pub mod OwnerLemmas
+pub mod WriterLemmas
+pub mod NameLemmas
+pub mod HeapLemmas

@@ -1,0 +1,30 @@
+-- Atoms in order: bytes, then calls, then references.
+use Rattle.std.specs.Prelude.{◌≡◌, Bool, true, false, ◌&&◌, ◌||◌, nat_eq, nat_lt, Option, Some, None}
+use Rattle.lx_caps.specs.declared.Principal.{Principal}
+use Rattle.lx_caps.specs.declared.Atom.{Atom}
+use Rattle.lx_caps.specs.declared.Atom.TheVariants.{Byte, Call, Ref}
+use Rattle.lx_caps.specs.History.{History, owns}
+
+-- the first atom comes before the second one
+abbrev pub is_before : Atom → Atom → Bool
+is_before (Byte a) (Byte b) = nat_lt a b
+is_before (Byte a) (Call b) = true
+is_before (Byte a) (Ref u b) = true
+is_before (Call a) (Call b) = nat_lt a b
+is_before (Call a) (Ref u b) = true
+is_before (Ref t a) (Ref u b) = nat_lt t u || (nat_eq t u && nat_lt a b)
+is_before _ _ = false
+
+-- the atom comes behind the given one, if one is given
+abbrev pub is_behind : Option Atom → Atom → Bool
+is_behind None x = true
+is_behind (Some y) x = is_before y x
+
+-- the first atom that passes the test: it passes, and none before it does; or none passes at all
+abbrev pub IsFirst : (Atom → Bool) → Option Atom → Type 0
+IsFirst p None = (x : Atom) → p x ≡ false
+IsFirst p (Some x) = (p x ≡ true) × ((y : Atom) → is_before y x ≡ true → p y ≡ false)
+
+-- the next atom that the principal owns behind the given one, if there is one
+abbrev pub IsNextOwned : History → Principal → Option Atom → Option Atom → Type 0
+IsNextOwned h who after next = IsFirst (λ x. is_behind after x && owns h who x) next

@@ -1,0 +1,111 @@
+// What principals reach, what capabilities are made of, and how atoms are ordered.
+ghost use Rattle.std.specs.Prelude.{◌≡◌, ◌<◌};
+ghost use Rattle.lx_caps.specs.Cells.{cells};
+ghost use Rattle.lx_caps.specs.History.{has, is_of, reaches, same_principal};
+ghost use Rattle.lx_caps.specs.Order.{is_before, is_behind};
+ghost use Rattle.lx_caps.specs.Regions.{lies_in, mapped};
+
+use crate::{Atom, Cap, Principal};
+
+const GLOBALS_START: u64 = 0x1000000;
+
+const HEAP_START: u64 = 0x2000000;
+
+const STACKS_START: u64 = 0x3000000;
+
+const REGION_SIZE: u64 = 0x100000;
+
+fn lies_in(start: u64, at: u64, len: u64) -> bool
+    requires { start < 0x4000000 }
+    ensures { result ≡ lies_in start at len }
+{
+    let end = start + REGION_SIZE;
+    start <= at && at <= end && len <= end - at
+}
+
+/// Says whether a range is empty or lies in one of the three regions of memory, each of 1 MiB: globals from
+/// `0x1000000`, heap from `0x2000000`, stacks from `0x3000000`.
+pub fn mapped(at: u64, len: u64) -> bool
+    ensures { result ≡ mapped at len }
+{
+    len == 0
+        || lies_in(GLOBALS_START, at, len)
+        || lies_in(HEAP_START, at, len)
+        || lies_in(STACKS_START, at, len)
+}
+
+/// How much of a store's room a grant of the capability takes at most.
+pub fn cells(cap: Cap) -> u64
+    ensures { result ≡ cells cap }
+{
+    match cap {
+        Cap::Write { size, .. } => size / 64 + 2,
+        Cap::Call { .. } | Cap::Ref { .. } => 1,
+    }
+}
+
+pub(crate) fn is_same(p: Principal, q: Principal) -> bool
+    ensures { result ≡ same_principal p q }
+{
+    match (p, q) {
+        (Principal::Kernel, Principal::Kernel) => true,
+        (Principal::Shared(m), Principal::Shared(n)) => m == n,
+        (Principal::Global(m), Principal::Global(n)) => m == n,
+        (Principal::Inst(m, k), Principal::Inst(n, l)) => m == n && k == l,
+        _ => false,
+    }
+}
+
+fn is_of(m: u32, p: Principal) -> bool
+    ensures { result ≡ is_of m p }
+{
+    match p {
+        Principal::Kernel => false,
+        Principal::Shared(n) | Principal::Global(n) | Principal::Inst(n, _) => m == n,
+    }
+}
+
+/// Says whether a principal may use what `owner` owns. The kernel and a shared principal reach themselves, an
+/// instance reaches itself and its module's shared principal, and a global one every principal of its module.
+pub fn reaches(p: Principal, owner: Principal) -> bool
+    ensures { result ≡ reaches p owner }
+{
+    match p {
+        Principal::Kernel | Principal::Shared(_) => is_same(p, owner),
+        Principal::Global(m) => is_of(m, owner),
+        Principal::Inst(m, _) => is_same(p, owner) || is_same(Principal::Shared(m), owner),
+    }
+}
+
+pub(crate) fn has(cap: Cap, atom: Atom) -> bool
+    ensures { result ≡ has cap atom }
+{
+    match (cap, atom) {
+        (Cap::Write { at, size }, Atom::Byte(b)) => at <= b && b - at < size,
+        (Cap::Call { at }, Atom::Call(a)) => at == a,
+        (Cap::Ref { ty, at }, Atom::Ref(t, a)) => ty == t && at == a,
+        _ => false,
+    }
+}
+
+pub(crate) fn is_before(x: Atom, y: Atom) -> bool
+    ensures { result ≡ is_before x y }
+{
+    match (x, y) {
+        (Atom::Byte(a), Atom::Byte(b)) => a < b,
+        (Atom::Call(a), Atom::Call(b)) => a < b,
+        (Atom::Ref(t, a), Atom::Ref(u, b)) => t < u || (t == u && a < b),
+        (Atom::Byte(_), _) => true,
+        (Atom::Call(_), Atom::Ref(..)) => true,
+        _ => false,
+    }
+}
+
+pub(crate) fn is_behind(after: Option<Atom>, atom: Atom) -> bool
+    ensures { result ≡ is_behind after atom }
+{
+    match after {
+        None => true,
+        Some(last) => is_before(last, atom),
+    }
+}

@@ -1,0 +1,18 @@
+//! Memory: the bytes of three regions, one each for globals, heap and stacks.
+//!
+//! ```text
+//! let mut space = Space::new(alloc)?;
+//! space.write(0x1000000, 4, 7)?;
+//! let number = space.read(0x1000000, 4)?;
+//! ```
+#![tactic(auto)]
+
+mod numbers;
+mod range;
+mod space;
+#[cfg(test)]
+mod tests;
+
+pub use lx_caps::{Memory, mapped};
+pub use range::Unmapped;
+pub use space::Space;

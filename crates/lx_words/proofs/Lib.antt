@@ -1,0 +1,11 @@
+pub mod NumberText
+pub mod HexText
+pub mod Injective
+pub mod Masks
+pub mod Shifts
+pub mod Fronts
+pub mod Lexed
+pub mod Pieces
+pub mod OneWay
+pub mod Standing
+pub mod Values

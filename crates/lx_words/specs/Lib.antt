@@ -1,0 +1,9 @@
+pub mod Text
+pub mod TextLaws
+pub mod Tree
+pub mod Width
+pub mod Word
+pub mod Rows
+pub mod Lexemes
+pub mod Longest
+pub mod Cuts

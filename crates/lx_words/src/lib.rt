@@ -1,0 +1,41 @@
+//! Machine words, the results of instructions on them, number text, tokens, and lists.
+#![tactic(auto)]
+
+mod classes;
+mod front;
+mod items;
+mod lexer;
+mod memory;
+mod number;
+mod operators;
+mod text;
+mod token;
+mod word;
+
+pub use items::Items;
+pub use lexer::{one_way, scan, split};
+pub use memory::Memory;
+pub use number::{are_digits, are_hex_digits, decimal_of, hex_of};
+pub use operators::{DivFault, binary, compare, resize};
+pub use text::{number_texts, put_decimal, put_hex};
+pub use token::{LexFault, Lexeme, Scan, Stop, Token, TokenKind, TokenRule, Tokens};
+pub use word::{BinOp, Pred, Width, Word};
+
+/// The bytes of a name.
+pub type Name = Items<u8>;
+/// A list of names.
+pub type Names = Items<Name>;
+/// A list of words.
+pub type Words = Items<Word>;
+/// A list of thread numbers.
+pub type Schedule = Items<u32>;
+
+ghost use Rattle.lx_words.specs.Rows.{WorkedWords};
+
+/// Worked rows of the instructions' results.
+pub fn worked_words()
+    ensures { WorkedWords }
+{}
+
+#[cfg(test)]
+mod tests;
