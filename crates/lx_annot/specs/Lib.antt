@@ -1,0 +1,13 @@
+pub mod Action
+pub mod ActionCodes
+pub mod ActionFalls
+pub mod ActionNodes
+pub mod Canonical
+pub mod Expr
+pub mod ExprCodes
+pub mod ExprFalls
+pub mod ExprNodes
+pub mod Items
+pub mod Parts
+pub mod Rows
+pub mod Value

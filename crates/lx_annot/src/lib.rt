@@ -1,0 +1,14 @@
+//! Annotations: what a call checks, copies and transfers.
+#![tactic(auto)]
+
+ghost use Rattle.lx_annot.specs.Rows.{WorkedAnnotations};
+
+pub mod action;
+pub mod canonical;
+pub mod expr;
+pub mod interface;
+
+/// Worked rows of values, items and canonical texts.
+pub fn worked_annotations()
+    ensures { WorkedAnnotations }
+{}

@@ -1,0 +1,4 @@
+pub mod InitLists
+pub mod Joined
+pub mod Layouts
+pub mod TypeLists

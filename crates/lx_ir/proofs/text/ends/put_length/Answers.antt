@@ -1,0 +1,6 @@
+use Rattle.std.proofs.lemmas.Result.{IfOk-equal}
+use Rattle.lx_ir.proofs.Joined.{joined_three}
+use Rattle.lx_ir.proofs.text.ends.put_length.Goals as goal
+
+pub returns : goal.returns
+returns c = IfOk-equal c.put-2.result _ _ _ c.put-2.ensures (joined_three _ _ _ _ _ _ c.in_ok-put.ensures c.in_ok-put_argument.ensures)

@@ -1,0 +1,6 @@
+use Rattle.std.proofs.Common.{◌≡◌, ◌++◌, take, map}
+use Rattle.lx_ir.specs.Text.{parameter_text, comma_list}
+use Rattle.lx_ir.proofs.text.functions.put_parameters.Given as goal
+
+abbrev pub invariant-loop-i : goal.invariant-loop-i
+invariant-loop-i l = l.out.items ≡ l.initial.out.items ++ comma_list (map parameter_text (take l.i l.parameters))

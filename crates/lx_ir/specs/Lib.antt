@@ -1,0 +1,17 @@
+pub mod Faults
+pub mod Init
+pub mod InitCodes
+pub mod InitFalls
+pub mod InitNodes
+pub mod IrType
+pub mod Lawful
+pub mod Layout
+pub mod Lookup
+pub mod Operands
+pub mod Rows
+pub mod RowsOfText
+pub mod Text
+pub mod TypeCodes
+pub mod TypeFalls
+pub mod TypeNodes
+pub mod Verified

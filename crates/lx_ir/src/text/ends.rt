@@ -1,0 +1,296 @@
+//! The text of block writes, of what ends a block, and of the lines of an image.
+ghost use Rattle.std.specs.Prelude.{◌≡◌, ◌++◌, OnOk, codes, flat_map};
+ghost use Rattle.lx_ir.specs.Text.{op_text, copy_word, length_text, copied_text, filled_text, target_text, case_text, cases_text, mark_text, guard_word, guarded_text, action_text};
+ghost use Rattle.lx_ir.specs.Operands.{guard_width};
+ghost use Rattle.lx_ir.specs.declared.instr.Op.TheVariants as form;
+
+use crate::instr::{Argument, SwitchCase};
+use crate::module::{Symbol, Value};
+use crate::text::constants::{put_number, put_symbol};
+use crate::text::operands::{Scope, put_argument, put_operand, put_value};
+use crate::text::pieces::{put, put_local};
+use crate::text::types::put_scalar;
+use crate::types::Scalar;
+use lx_words::{Memory, Name, Width, Word};
+
+fn copy_word(moves: bool) -> &'static [u8]
+    ensures { result.now ≡ copy_word moves }
+{
+    if moves {
+        b"call void @llvm.memmove.p0.p0."
+    } else {
+        b"call void @llvm.memcpy.p0.p0."
+    }
+}
+
+/// Appends the length of a block write and what stands behind it.
+fn put_length(out: &mut Vec<u8>, scope: Scope, len: Argument) -> Result<(), Memory>
+    ensures { OnOk result (out.new.items ≡ out.old.items ++ length_text scope.entry.m.now scope.entry.f.now len) }
+{
+    put(out, b", ")?;
+    put_argument(out, scope, len)?;
+    put(out, b", i1 false)")
+}
+
+fn put_copied(
+    out: &mut Vec<u8>,
+    scope: Scope,
+    dest: Value,
+    source: Value,
+    len: Argument,
+) -> Result<(), Memory>
+    ensures { OnOk result (out.new.items ≡ out.old.items ++ copied_text scope.entry.m.now scope.entry.f.now dest source len) }
+{
+    put(out, b"(ptr ")?;
+    put_value(out, scope, dest)?;
+    put(out, b", ptr ")?;
+    put_value(out, scope, source)?;
+    put_length(out, scope, len)
+}
+
+pub fn put_copy_block(
+    out: &mut Vec<u8>,
+    scope: Scope,
+    moves: bool,
+    dest: Value,
+    source: Value,
+    len: Argument,
+) -> Result<(), Memory>
+    ensures { OnOk result (out.new.items ≡ out.old.items ++ op_text scope.entry.m.now scope.entry.f.now (form.CopyBlock moves dest source len)) }
+{
+    put(out, copy_word(moves))?;
+    put_scalar(out, len.ty)?;
+    put_copied(out, scope, dest, source, len)
+}
+
+fn put_filled(
+    out: &mut Vec<u8>,
+    scope: Scope,
+    dest: Value,
+    byte: Value,
+    len: Argument,
+) -> Result<(), Memory>
+    ensures { OnOk result (out.new.items ≡ out.old.items ++ filled_text scope.entry.m.now scope.entry.f.now dest byte len) }
+{
+    put(out, b"(ptr ")?;
+    put_value(out, scope, dest)?;
+    put(out, b", i8 ")?;
+    put_value(out, scope, byte)?;
+    put_length(out, scope, len)
+}
+
+pub fn put_fill_block(
+    out: &mut Vec<u8>,
+    scope: Scope,
+    dest: Value,
+    byte: Value,
+    len: Argument,
+) -> Result<(), Memory>
+    ensures { OnOk result (out.new.items ≡ out.old.items ++ op_text scope.entry.m.now scope.entry.f.now (form.FillBlock dest byte len)) }
+{
+    put(out, b"call void @llvm.memset.p0.")?;
+    put_scalar(out, len.ty)?;
+    put_filled(out, scope, dest, byte, len)
+}
+
+pub fn put_ret(out: &mut Vec<u8>, scope: Scope, value: Option<Argument>) -> Result<(), Memory>
+    ensures { OnOk result (out.new.items ≡ out.old.items ++ op_text scope.entry.m.now scope.entry.f.now (form.Ret value)) }
+{
+    match value {
+        None => put(out, b"ret void"),
+        Some(value) => {
+            put(out, b"ret ")?;
+            put_argument(out, scope, value)
+        }
+    }
+}
+
+pub fn put_jump(out: &mut Vec<u8>, scope: Scope, label: &Name) -> Result<(), Memory>
+    ensures { OnOk result (out.new.items ≡ out.old.items ++ op_text scope.entry.m.now scope.entry.f.now (form.Jump label.now)) }
+{
+    put(out, b"br label ")?;
+    put_local(out, label.as_slice())
+}
+
+/// Appends a label behind what decides for it.
+fn put_target(out: &mut Vec<u8>, label: &Name) -> Result<(), Memory>
+    ensures { OnOk result (out.new.items ≡ out.old.items ++ target_text label.now) }
+{
+    put(out, b", label ")?;
+    put_local(out, label.as_slice())
+}
+
+pub fn put_branch(
+    out: &mut Vec<u8>,
+    scope: Scope,
+    condition: Value,
+    if_true: &Name,
+    if_false: &Name,
+) -> Result<(), Memory>
+    ensures { OnOk result (out.new.items ≡ out.old.items ++ op_text scope.entry.m.now scope.entry.f.now (form.Branch condition if_true.now if_false.now)) }
+{
+    put(out, b"br i1 ")?;
+    put_value(out, scope, condition)?;
+    put_target(out, if_true)?;
+    put_target(out, if_false)
+}
+
+fn put_case(out: &mut Vec<u8>, scope: Scope, ty: Scalar, case: &SwitchCase) -> Result<(), Memory>
+    ensures { OnOk result (out.new.items ≡ out.old.items ++ case_text scope.entry.m.now scope.entry.f.now ty case.now) }
+{
+    put_operand(out, scope, ty, case.value)?;
+    put_target(out, &case.label)
+}
+
+fn put_each_case(
+    out: &mut Vec<u8>,
+    scope: Scope,
+    ty: Scalar,
+    cases: &[SwitchCase],
+) -> Result<(), Memory>
+    ensures { OnOk result (out.new.items ≡ out.old.items ++ flat_map (λ x. codes " " ++ case_text scope.entry.m.now scope.entry.f.now ty x) cases.now) }
+{
+    for case in cases {
+        put(out, b" ")?;
+        put_case(out, scope, ty, case)?;
+    }
+    Ok(())
+}
+
+/// Appends the cases of a switch, on one line.
+#[tactic(auto, using(crate::proofs::TypeLists::cases_some, std::proofs::lemmas::Grind::common_steps))]
+fn put_cases(
+    out: &mut Vec<u8>,
+    scope: Scope,
+    ty: Scalar,
+    cases: &[SwitchCase],
+) -> Result<(), Memory>
+    ensures { OnOk result (out.new.items ≡ out.old.items ++ cases_text scope.entry.m.now scope.entry.f.now ty cases.now) }
+{
+    if cases.is_empty() {
+        return put(out, b"[]");
+    }
+    put(out, b"[")?;
+    put_each_case(out, scope, ty, cases)?;
+    put(out, b" ]")
+}
+
+pub fn put_switch(
+    out: &mut Vec<u8>,
+    scope: Scope,
+    ty: Scalar,
+    value: Value,
+    otherwise: &Name,
+    cases: &[SwitchCase],
+) -> Result<(), Memory>
+    ensures { OnOk result (out.new.items ≡ out.old.items ++ op_text scope.entry.m.now scope.entry.f.now (form.Switch ty value otherwise.now cases.now)) }
+{
+    put(out, b"switch ")?;
+    put_operand(out, scope, ty, value)?;
+    put_target(out, otherwise)?;
+    put(out, b" ")?;
+    put_cases(out, scope, ty, cases)
+}
+
+/// Appends a call of one of the monitor's names, before its first argument.
+fn put_mark(out: &mut Vec<u8>, name: &[u8]) -> Result<(), Memory>
+    ensures { OnOk result (out.new.items ≡ out.old.items ++ mark_text name.now) }
+{
+    put(out, b"call void @lxfi.")?;
+    put(out, name)?;
+    put(out, b"(ptr ")
+}
+
+fn guard_word(narrow: bool) -> &'static [u8]
+    ensures { result.now ≡ guard_word narrow }
+{
+    if narrow { b"guard32" } else { b"guard" }
+}
+
+fn guard_width(narrow: bool) -> Width
+    ensures { result ≡ guard_width narrow }
+{
+    if narrow { Width::W32 } else { Width::W64 }
+}
+
+fn put_guarded(out: &mut Vec<u8>, scope: Scope, narrow: bool, size: Value) -> Result<(), Memory>
+    ensures { OnOk result (out.new.items ≡ out.old.items ++ guarded_text scope.entry.m.now scope.entry.f.now narrow size) }
+{
+    put(out, b", ")?;
+    put_operand(out, scope, Scalar::Int(guard_width(narrow)), size)?;
+    put(out, b")")
+}
+
+pub fn put_guard(
+    out: &mut Vec<u8>,
+    scope: Scope,
+    at: Value,
+    size: Value,
+    narrow: bool,
+) -> Result<(), Memory>
+    ensures { OnOk result (out.new.items ≡ out.old.items ++ op_text scope.entry.m.now scope.entry.f.now (form.Guard at size narrow)) }
+{
+    put_mark(out, guard_word(narrow))?;
+    put_value(out, scope, at)?;
+    put_guarded(out, scope, narrow, size)
+}
+
+pub fn put_check(out: &mut Vec<u8>, scope: Scope, target: Value) -> Result<(), Memory>
+    ensures { OnOk result (out.new.items ≡ out.old.items ++ op_text scope.entry.m.now scope.entry.f.now (form.Check target)) }
+{
+    put_mark(out, b"check")?;
+    put_value(out, scope, target)?;
+    put(out, b")")
+}
+
+pub fn put_enter(out: &mut Vec<u8>, scope: Scope, function: Symbol) -> Result<(), Memory>
+    ensures { OnOk result (out.new.items ≡ out.old.items ++ op_text scope.entry.m.now scope.entry.f.now (form.Enter function)) }
+{
+    put_mark(out, b"enter")?;
+    put_symbol(out, scope.m, function)?;
+    put(out, b")")
+}
+
+pub fn put_leave(out: &mut Vec<u8>, scope: Scope, function: Symbol) -> Result<(), Memory>
+    ensures { OnOk result (out.new.items ≡ out.old.items ++ op_text scope.entry.m.now scope.entry.f.now (form.Leave function)) }
+{
+    put_mark(out, b"leave")?;
+    put_symbol(out, scope.m, function)?;
+    put(out, b")")
+}
+
+/// Appends the number of an annotation's action.
+fn put_action(out: &mut Vec<u8>, number: u32) -> Result<(), Memory>
+    ensures { OnOk result (out.new.items ≡ out.old.items ++ action_text number) }
+{
+    put(out, b", i32 ")?;
+    put_number(
+        out,
+        Word {
+            width: Width::W32,
+            bits: u64::from(number),
+        },
+    )?;
+    put(out, b")")
+}
+
+pub fn put_pre(out: &mut Vec<u8>, scope: Scope, function: Symbol, number: u32) -> Result<(), Memory>
+    ensures { OnOk result (out.new.items ≡ out.old.items ++ op_text scope.entry.m.now scope.entry.f.now (form.Pre function number)) }
+{
+    put_mark(out, b"pre")?;
+    put_symbol(out, scope.m, function)?;
+    put_action(out, number)
+}
+
+pub fn put_post(
+    out: &mut Vec<u8>,
+    scope: Scope,
+    function: Symbol,
+    number: u32,
+) -> Result<(), Memory>
+    ensures { OnOk result (out.new.items ≡ out.old.items ++ op_text scope.entry.m.now scope.entry.f.now (form.Post function number)) }
+{
+    put_mark(out, b"post")?;
+    put_symbol(out, scope.m, function)?;
+    put_action(out, number)
+}

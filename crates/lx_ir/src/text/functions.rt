@@ -1,0 +1,203 @@
+//! The text of functions.
+ghost use Rattle.std.specs.Prelude.{◌≡◌, ◌++◌, OnOk, codes, map, flat_map};
+ghost use Rattle.lx_ir.specs.Text.{op_text, instr_text, block_text, parameter_text, scalar_text, head_text, blocks_text, defined_text, declared_text, function_text, comma_list};
+
+use crate::instr::{Instr, Op};
+use crate::module::{Block, Function, Module, Parameter};
+use crate::text::ends::{
+    put_branch, put_check, put_copy_block, put_enter, put_fill_block, put_guard, put_jump,
+    put_leave, put_post, put_pre, put_ret, put_switch,
+};
+use crate::text::operands::Scope;
+use crate::text::pieces::{put, put_global, put_local, put_separator};
+use crate::text::types::{put_result, put_scalar};
+use crate::text::values::{
+    put_alloca, put_binary, put_call, put_compare, put_convert, put_element, put_freeze, put_load,
+    put_phi, put_select, put_store,
+};
+use lx_words::Memory;
+
+/// Appends an instruction.
+fn put_op(out: &mut Vec<u8>, scope: Scope, op: &Op) -> Result<(), Memory>
+    ensures { OnOk result (out.new.items ≡ out.old.items ++ op_text scope.entry.m.now scope.entry.f.now op.now) }
+{
+    match op {
+        Op::Binary { to, op, ty, a, b } => put_binary(out, scope, *to, *op, *ty, *a, *b),
+        Op::Compare { to, pred, ty, a, b } => put_compare(out, scope, *to, *pred, *ty, *a, *b),
+        Op::Convert {
+            to,
+            how,
+            from,
+            a,
+            into,
+        } => put_convert(out, scope, *to, *how, *from, *a, *into),
+        Op::Freeze { to, ty, a } => put_freeze(out, scope, *to, *ty, *a),
+        Op::Select {
+            to,
+            condition,
+            ty,
+            a,
+            b,
+        } => put_select(out, scope, *to, *condition, *ty, *a, *b),
+        Op::Phi { to, ty, edges } => put_phi(out, scope, *to, *ty, edges.as_slice()),
+        Op::Alloca { to, ty } => put_alloca(out, scope, *to, ty),
+        Op::Load { to, ty, at } => put_load(out, scope, *to, *ty, *at),
+        Op::Store { ty, value, at } => put_store(out, scope, *ty, *value, *at),
+        Op::GetElementPtr {
+            to,
+            ty,
+            base,
+            indices,
+        } => put_element(out, scope, *to, ty, *base, indices.as_slice()),
+        Op::Call {
+            to,
+            ret,
+            callee,
+            args,
+        } => put_call(out, scope, *to, *ret, *callee, args.as_slice()),
+        Op::CopyBlock {
+            moves,
+            dest,
+            source,
+            len,
+        } => put_copy_block(out, scope, *moves, *dest, *source, *len),
+        Op::FillBlock { dest, byte, len } => put_fill_block(out, scope, *dest, *byte, *len),
+        Op::Ret { value } => put_ret(out, scope, *value),
+        Op::Jump { label } => put_jump(out, scope, label),
+        Op::Branch {
+            condition,
+            if_true,
+            if_false,
+        } => put_branch(out, scope, *condition, if_true, if_false),
+        Op::Switch {
+            ty,
+            value,
+            otherwise,
+            cases,
+        } => put_switch(out, scope, *ty, *value, otherwise, cases.as_slice()),
+        Op::Unreachable => put(out, b"unreachable"),
+        Op::Guard { at, size, narrow } => put_guard(out, scope, *at, *size, *narrow),
+        Op::Check { target } => put_check(out, scope, *target),
+        Op::Enter { f } => put_enter(out, scope, *f),
+        Op::Pre { f, k } => put_pre(out, scope, *f, *k),
+        Op::Post { f, k } => put_post(out, scope, *f, *k),
+        Op::Leave { f } => put_leave(out, scope, *f),
+    }
+}
+
+/// Appends the line of an instruction.
+fn put_instr(out: &mut Vec<u8>, scope: Scope, instr: &Instr) -> Result<(), Memory>
+    ensures { OnOk result (out.new.items ≡ out.old.items ++ instr_text scope.entry.m.now scope.entry.f.now instr.now) }
+{
+    put(out, b"  ")?;
+    put_op(out, scope, &instr.op)?;
+    put(out, b"\n")
+}
+
+fn put_instrs(out: &mut Vec<u8>, scope: Scope, instrs: &[Instr]) -> Result<(), Memory>
+    ensures { OnOk result (out.new.items ≡ out.old.items ++ flat_map (instr_text scope.entry.m.now scope.entry.f.now) instrs.now) }
+{
+    for instr in instrs {
+        put_instr(out, scope, instr)?;
+    }
+    Ok(())
+}
+
+/// Appends a block with its label.
+fn put_block(out: &mut Vec<u8>, scope: Scope, block: &Block) -> Result<(), Memory>
+    ensures { OnOk result (out.new.items ≡ out.old.items ++ block_text scope.entry.m.now scope.entry.f.now block.now) }
+{
+    put(out, block.name.as_slice())?;
+    put(out, b":\n")?;
+    put_instrs(out, scope, block.instrs.as_slice())
+}
+
+fn put_blocks(out: &mut Vec<u8>, scope: Scope, blocks: &[Block]) -> Result<(), Memory>
+    ensures { OnOk result (out.new.items ≡ out.old.items ++ flat_map (block_text scope.entry.m.now scope.entry.f.now) blocks.now) }
+{
+    for block in blocks {
+        put_block(out, scope, block)?;
+    }
+    Ok(())
+}
+
+/// Appends the blocks of a function and the brace behind them.
+fn put_body(out: &mut Vec<u8>, scope: Scope, blocks: &[Block]) -> Result<(), Memory>
+    ensures { OnOk result (out.new.items ≡ out.old.items ++ blocks_text scope.entry.m.now scope.entry.f.now blocks.now) }
+{
+    put_blocks(out, scope, blocks)?;
+    put(out, b"}\n")
+}
+
+fn put_parameter(out: &mut Vec<u8>, parameter: &Parameter) -> Result<(), Memory>
+    ensures { OnOk result (out.new.items ≡ out.old.items ++ parameter_text parameter.now) }
+{
+    put_scalar(out, parameter.ty)?;
+    put(out, b" ")?;
+    put_local(out, parameter.name.as_slice())
+}
+
+/// Appends the parameters of a function with their names.
+#[tactic(auto, using(crate::proofs::TypeLists::comma_more, std::proofs::lemmas::Grind::common_steps))]
+fn put_parameters(out: &mut Vec<u8>, parameters: &[Parameter]) -> Result<(), Memory>
+    ensures { OnOk result (out.new.items ≡ out.old.items ++ comma_list (map parameter_text parameters.now)) }
+{
+    for (i, parameter) in parameters.iter().enumerate() {
+        put_separator(out, i)?;
+        put_parameter(out, parameter)?;
+    }
+    Ok(())
+}
+
+/// Appends the types of the parameters of an import.
+#[tactic(auto, using(crate::proofs::TypeLists::comma_more, std::proofs::lemmas::Grind::common_steps))]
+fn put_parameter_types(out: &mut Vec<u8>, parameters: &[Parameter]) -> Result<(), Memory>
+    ensures { OnOk result (out.new.items ≡ out.old.items ++ comma_list (map (λ p. scalar_text p.ty) parameters.now)) }
+{
+    for (i, parameter) in parameters.iter().enumerate() {
+        put_separator(out, i)?;
+        put_scalar(out, parameter.ty)?;
+    }
+    Ok(())
+}
+
+/// Appends the result and the name of a function.
+fn put_head(out: &mut Vec<u8>, f: &Function) -> Result<(), Memory>
+    ensures { OnOk result (out.new.items ≡ out.old.items ++ head_text f.now) }
+{
+    put_result(out, f.ret)?;
+    put(out, b" ")?;
+    put_global(out, f.name.as_slice())?;
+    put(out, b"(")
+}
+
+/// Appends an import.
+fn put_declared(out: &mut Vec<u8>, f: &Function) -> Result<(), Memory>
+    ensures { OnOk result (out.new.items ≡ out.old.items ++ declared_text f.now) }
+{
+    put(out, b"declare ")?;
+    put_head(out, f)?;
+    put_parameter_types(out, f.params.as_slice())?;
+    put(out, b")\n")
+}
+
+/// Appends a function with its blocks.
+fn put_defined(out: &mut Vec<u8>, m: &Module, f: &Function, blocks: &[Block]) -> Result<(), Memory>
+    ensures { OnOk result (out.new.items ≡ out.old.items ++ defined_text m.now f.now blocks.now) }
+{
+    put(out, b"define ")?;
+    put_head(out, f)?;
+    put_parameters(out, f.params.as_slice())?;
+    put(out, b") {\n")?;
+    put_body(out, Scope { m, f }, blocks)
+}
+
+/// Appends an import, or a function with its blocks.
+pub fn put_function(out: &mut Vec<u8>, m: &Module, f: &Function) -> Result<(), Memory>
+    ensures { OnOk result (out.new.items ≡ out.old.items ++ function_text m.now f.now) }
+{
+    match &f.blocks {
+        None => put_declared(out, f),
+        Some(blocks) => put_defined(out, m, f, blocks.as_slice()),
+    }
+}

@@ -1,0 +1,7 @@
+pub mod Asking
+pub mod Transfers
+pub mod Authority
+pub mod Forgetting
+pub mod ForgettingReplies
+pub mod PlainServing
+pub mod PlainEvents
