@@ -1,0 +1,6 @@
+pub mod Ascii
+pub mod BehindCase
+pub mod Journal
+pub mod Reported
+pub mod Threads
+pub mod Written

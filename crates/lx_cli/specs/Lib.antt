@@ -1,0 +1,5 @@
+pub mod Answer
+pub mod Input
+pub mod Rows
+pub mod Runs
+pub mod Turns

@@ -1,0 +1,11 @@
+//! The whole program: from its words, over any shelf, sink and gate, to what it writes and its exit status.
+#![tactic(auto)]
+
+mod answer;
+mod input;
+mod run;
+#[cfg(test)]
+mod tests;
+mod top;
+
+pub use top::lxfi;

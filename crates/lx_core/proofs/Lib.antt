@@ -1,0 +1,12 @@
+pub mod Held
+pub mod Entry
+pub mod Answered
+pub mod Straight
+pub mod Opened
+pub mod Turns
+pub mod Standing
+pub mod Counting
+pub mod Numbered
+pub mod ImageCounts
+pub mod Accounting
+pub mod Accounts

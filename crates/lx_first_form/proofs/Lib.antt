@@ -1,0 +1,11 @@
+pub mod ByLine
+pub mod CaseForm
+pub mod Digits
+pub mod Form
+pub mod Fronts
+pub mod LineForm
+pub mod ModuleForm
+pub mod Placing
+pub mod Steps
+pub mod Straight
+pub mod TextLines

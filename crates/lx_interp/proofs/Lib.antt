@@ -1,0 +1,3 @@
+pub mod CodeFacts
+pub mod NextFacts
+pub mod ReplyFacts

@@ -1,0 +1,6 @@
+pub mod Cuts
+pub mod Mentioned
+pub mod Ranges
+pub mod Listed
+pub mod Numbers
+pub mod Steps

@@ -1,0 +1,4 @@
+mod Numbered
+mod Runs
+mod Maximal
+mod FirstLine

@@ -1,0 +1,5 @@
+pub mod Runs
+pub mod Begun
+pub mod Report
+pub mod Laws
+pub mod Rows
