@@ -1,10 +1,20 @@
 -- One more module, or one more of its functions, is opened behind the others.
-use Rattle.std.proofs.Common.{◌≡◌, ℕ, ◌+◌, Some, List, [], ◌∷◌, ◌++◌, refl, ap, ◌∙◌, add-one}
+use Rattle.std.proofs.Common.{◌≡◌, ℕ, ◌+◌, Bool, true, false, ◌&&◌, Some, List, [], ◌∷◌, ◌++◌, IsTrue, refl, sym, ap, subst, ◌∙◌, add-one}
+use Rattle.std.specs.Prelude.{if◌then◌else◌}
+use Rattle.lx_caps.specs.declared.Principal.TheVariants.{Shared}
+use Rattle.lx_caps.specs.declared.Cap.TheVariants.{Write}
+use Rattle.lx_caps.specs.declared.Act.TheVariants.{Grant, Strip}
 use Rattle.lx_caps.specs.History.{History}
+use Rattle.lx_caps.specs.Regions.{mapped}
+use Rattle.lx_ir.specs.Layout.{size_of}
+use Rattle.lx_ir.specs.declared.module.GlobalVar.{GlobalVar}
+use Rattle.lx_model.specs.declared.program.ProgramGlobal.{ProgramGlobal}
 use Rattle.lx_model.specs.declared.program.Program.{Program}
-use Rattle.lx_model.specs.Program.{target}
-use Rattle.lx_model.specs.Opening.{call_granted, calls_granted, module_opened, modules_opened}
+use Rattle.lx_model.specs.Program.{module_of, target}
+use Rattle.lx_model.specs.Opening.{global_of, global_granted, call_granted, calls_granted, module_opened, modules_opened}
 use Rattle.lx_propagate.specs.Gets.{below}
+use Rattle.lx_core.specs.Serving.{is_placed_history}
+use Rattle.lx_core.specs.Stands.{KeepsHistory}
 
 calls_push : (p : Program) (m : ℕ) (fs : List ℕ) (f : ℕ) (h : History) → calls_granted p m (fs ++ f ∷ []) h ≡ call_granted m (target p (Some m) f) (calls_granted p m fs h)
 calls_push p m [] f h = refl
@@ -19,3 +29,41 @@ modules_push p (x ∷ xs) m h = modules_push p xs m (module_opened p x h)
 
 pub modules_more : (p : Program) (n : ℕ) (h : History) → modules_opened p (below (n + 1)) h ≡ module_opened p n (modules_opened p (below n) h)
 modules_more p n h = ap (λ k. modules_opened p (below k) h) (add-one n) ∙ modules_push p (below n) n h
+
+two_placed : (a b : Bool) → a ≡ true → b ≡ true → (a && (a && b)) ≡ true
+two_placed a b ea eb = cc
+
+one_placed : (a b : Bool) → a ≡ true → b ≡ true → (a && b) ≡ true
+one_placed a b ea eb = cc
+
+-- what a global's range is given as, however large its type is laid out
+abbrev given : ℕ → ℕ → Bool → History → ℕ → History
+given at m constant h size =
+    let c = Write at size in
+    if constant then Strip c ∷ Grant (Shared m) c ∷ h else Grant (Shared m) c ∷ h
+
+given_is : (p : Program) (m : ℕ) (x : ProgramGlobal) (g : GlobalVar) (h : History)
+    → global_granted p m x (Some g) h ≡ given x.at m g.constant h (size_of (module_of p (Some m)).types g.ty)
+given_is p m x g h = refl
+
+-- a constant global is given and taken again
+pub constant_given : {C : Type 0} (stands : C → History → Type 0) (caps : C) (p : Program) (m : ℕ) (x : ProgramGlobal) (g : GlobalVar) (size : ℕ) (h : History)
+    → global_of p x ≡ Some g → g.constant ≡ true → size ≡ size_of (module_of p (Some m)).types g.ty → mapped x.at size ≡ true → IsTrue (is_placed_history h)
+    → stands caps (Strip (Write x.at size) ∷ Grant (Shared m) (Write x.at size) ∷ h) → KeepsHistory stands caps (global_granted p m x (global_of p x) h)
+constant_given stands caps p m x g size h is constant sized placed before stood =
+    subst (λ o. KeepsHistory stands caps (global_granted p m x o h)) (sym is)
+    (subst (KeepsHistory stands caps) (sym (given_is p m x g h))
+    (subst (λ n. KeepsHistory stands caps (given x.at m g.constant h n)) sized
+    (subst (λ b. KeepsHistory stands caps (given x.at m b h size)) (sym constant)
+    (record { history = stood; placed = two_placed (mapped x.at size) (is_placed_history h) placed before }))))
+
+-- any other global is given
+pub variable_given : {C : Type 0} (stands : C → History → Type 0) (caps : C) (p : Program) (m : ℕ) (x : ProgramGlobal) (g : GlobalVar) (size : ℕ) (h : History)
+    → global_of p x ≡ Some g → g.constant ≡ false → size ≡ size_of (module_of p (Some m)).types g.ty → mapped x.at size ≡ true → IsTrue (is_placed_history h)
+    → stands caps (Grant (Shared m) (Write x.at size) ∷ h) → KeepsHistory stands caps (global_granted p m x (global_of p x) h)
+variable_given stands caps p m x g size h is constant sized placed before stood =
+    subst (λ o. KeepsHistory stands caps (global_granted p m x o h)) (sym is)
+    (subst (KeepsHistory stands caps) (sym (given_is p m x g h))
+    (subst (λ n. KeepsHistory stands caps (given x.at m g.constant h n)) sized
+    (subst (λ b. KeepsHistory stands caps (given x.at m b h size)) (sym constant)
+    (record { history = stood; placed = one_placed (mapped x.at size) (is_placed_history h) placed before }))))
