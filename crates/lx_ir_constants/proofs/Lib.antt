@@ -1,0 +1,10 @@
+pub mod ConstantLaws
+pub mod Expressions
+pub mod InitLaws
+pub mod InitsFound
+pub mod ListLaws
+pub mod MemberLists
+pub mod PointerLaws
+pub mod PointersAgree
+pub mod Skips
+pub mod ValueLaws

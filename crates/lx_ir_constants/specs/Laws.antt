@@ -1,0 +1,35 @@
+-- Reading and the grammar of constants, operands and initialisers agree.
+use Rattle.std.specs.Prelude.{ℕ}
+use Rattle.lx_ir.specs.declared.types.Scalar.{Scalar}
+use Rattle.lx_ir.specs.declared.module.Constant.{Constant}
+use Rattle.lx_ir.specs.declared.module.Value.{Value}
+use Rattle.lx_ir_terms.specs.Context.{Context}
+use Rattle.lx_ir_terms.specs.Laws.{Reads, Finds}
+use Rattle.lx_ir_constants.specs.Constants.{constant_at, value_at}
+use Rattle.lx_ir.specs.IrType.{IrType}
+use Rattle.lx_ir.specs.Init.{Init}
+use Rattle.lx_ir_constants.specs.Inits.{init_at}
+use Rattle.lx_ir_constants.specs.InitGrammar.{IsInit}
+use Rattle.lx_ir_constants.specs.Grammar.{IsConstant, IsValue}
+
+-- the tokens of a constant are read as it, whatever follows them
+abbrev pub ConstantsAreRead : Type 0
+ConstantsAreRead = (context : Context) (depth : ℕ) (ty : Scalar) (c : Constant) → Reads (constant_at context depth ty) c (IsConstant context depth ty c)
+
+-- what is read as a constant are its tokens
+abbrev pub ConstantsAreFound : Type 0
+ConstantsAreFound = (context : Context) (depth : ℕ) (ty : Scalar) → Finds (constant_at context depth ty) (IsConstant context depth ty)
+
+-- the same of operands
+abbrev pub ValuesAreRead : Type 0
+ValuesAreRead = (context : Context) (ty : Scalar) (v : Value) → Reads (value_at context ty) v (IsValue context ty v)
+
+abbrev pub ValuesAreFound : Type 0
+ValuesAreFound = (context : Context) (ty : Scalar) → Finds (value_at context ty) (IsValue context ty)
+
+-- the same of initialisers
+abbrev pub InitsAreRead : Type 0
+InitsAreRead = (context : Context) (depth : ℕ) (ty : IrType) (i : Init) → Reads (init_at context depth ty) i (IsInit context depth ty i)
+
+abbrev pub InitsAreFound : Type 0
+InitsAreFound = (context : Context) (depth : ℕ) (ty : IrType) → Finds (init_at context depth ty) (IsInit context depth ty)

@@ -1,0 +1,30 @@
+//! Constants, operands and initialisers of IR text: which tokens they are, and how they are read.
+#![tactic(auto)]
+
+ghost use Rattle.lx_ir_constants.specs.Laws.{ConstantsAreRead, ConstantsAreFound, ValuesAreRead, ValuesAreFound, InitsAreRead, InitsAreFound};
+
+mod constants;
+mod element;
+mod inits;
+mod misplaced;
+mod numbers;
+mod pointers;
+
+pub use constants::{constant, value};
+pub use element::Element;
+pub use inits::init;
+pub use misplaced::is_misplaced;
+pub use numbers::number_in;
+
+/// Reading and the grammar of constants, operands and initialisers agree.
+pub fn constant_laws()
+    ensures constants_read { ConstantsAreRead }
+    ensures constants_found { ConstantsAreFound }
+    ensures values_read { ValuesAreRead }
+    ensures values_found { ValuesAreFound }
+    ensures inits_read { InitsAreRead }
+    ensures inits_found { InitsAreFound }
+{}
+
+#[cfg(test)]
+mod tests;

@@ -1,0 +1,108 @@
+-- How far constant indices go, where types may lie outside the limits.
+use Rattle.std.specs.Prelude.{ℕ, zero, suc, ◌+◌, ◌*◌, ◌%◌, ◌^◌, Bool, true, false, Option, Some, None, List, [], ◌∷◌, slice_get, nat_le, if◌then◌else◌}
+use Rattle.std.specs.Option.{option_flatten}
+use Rattle.lx_words.specs.declared.word.Width.{Width}
+use Rattle.lx_words.specs.declared.word.Width.TheVariants.{W32, W64}
+use Rattle.lx_words.specs.Word.{Word, resize}
+use Rattle.lx_ir.specs.declared.types.NamedType.{NamedType}
+use Rattle.lx_ir.specs.IrType.{IrType, One, Array, Struct, Packed, Named, IrTypes, none, also}
+use Rattle.lx_ir.specs.Layout.{Layout, layout, scalar_size, beside, padded, field_start, unnamed, list_of_types}
+
+infixl 10 ◌>>?◌
+abbrev pub ◌>>?◌ : {A B : Type 0} → Option A → (A → Option B) → Option B
+(Some x) >>? f = f x
+None >>? f = None
+
+-- the layout, where it is of at most 2^32 bytes
+abbrev pub limited : Layout → Option Layout
+limited l = if nat_le l.size 4294967296 then Some l else None
+
+-- the layouts of the named types by their numbers; none for those that are outside the limits
+abbrev pub Layouts : Type 0
+Layouts = List (Option Layout)
+
+abbrev pub named_layout : Layouts → ℕ → Option Layout
+named_layout layouts k = option_flatten (slice_get layouts k)
+
+-- a struct with a further field
+abbrev pub laid_beside : Bool → Layout → Layout → Option Layout
+laid_beside packed laid field = limited (beside packed laid field)
+
+abbrev mutual
+  -- the layout of a type; none where it, or a type in it, is outside the limits
+  pub fit_type : Layouts → IrType → Option Layout
+  fit_type layouts (One s) = Some (layout (scalar_size s) (scalar_size s))
+  fit_type layouts (Array n t) = fit_type layouts t >>? λ l. limited (layout (n * l.size) l.align)
+  fit_type layouts (Struct ts) = fit_fields layouts false ts (layout 0 1) >>? λ l. limited (padded l)
+  fit_type layouts (Packed ts) = fit_fields layouts true ts (layout 0 1)
+  fit_type layouts (Named k) = named_layout layouts k
+
+  -- fields behind those that are laid
+  pub fit_fields : Layouts → Bool → IrTypes → Layout → Option Layout
+  fit_fields layouts packed none laid = Some laid
+  fit_fields layouts packed (also t ts) laid =
+      fit_type layouts t >>? λ l. laid_beside packed laid l >>? λ more. fit_fields layouts packed ts more
+
+-- how far an index goes, counted in values of so many bytes, modulo 2^64
+abbrev pub scaled : Word → ℕ → ℕ
+scaled i size = ((resize i W64 true).bits * size) % 2 ^ 64
+
+-- a part of a type: where it begins in it, and its type
+pub record Part : Type 0 where
+  pub offset : ℕ
+  pub ty : IrType
+
+abbrev pub part : ℕ → IrType → Part
+part n t = record { offset = n; ty = t }
+
+-- a field, behind the fields that are laid
+abbrev pub field_after : Layouts → Bool → IrTypes → Layout → ℕ → Option Part
+field_after layouts packed none laid k = None
+field_after layouts packed (also t ts) laid zero =
+    fit_type layouts t >>? λ l. Some (part (field_start packed laid l) t)
+field_after layouts packed (also t ts) laid (suc k) =
+    fit_type layouts t >>? λ l. laid_beside packed laid l >>? λ more. field_after layouts packed ts more k
+
+abbrev pub numbered : Width → ℕ → Option ℕ
+numbered W32 n = Some n
+numbered _ n = None
+
+-- the number of the field that an index names: it is an `i32`
+abbrev pub field_number : Word → Option ℕ
+field_number i = numbered i.width i.bits
+
+-- the part that an index names: an element of an array, or a field of a struct
+abbrev pub part_of : Layouts → IrType → Word → Option Part
+part_of layouts (Array n t) i = fit_type layouts t >>? λ l. Some (part (scaled i l.size) t)
+part_of layouts (Struct ts) i = field_number i >>? λ k. field_after layouts false ts (layout 0 1) k
+part_of layouts (Packed ts) i = field_number i >>? λ k. field_after layouts true ts (layout 0 1) k
+part_of layouts (One s) i = None
+part_of layouts (Named k) i = None
+
+-- how far indices go behind an offset, each into the part that those before it name
+abbrev pub moved : List NamedType → Layouts → ℕ → IrType → List Word → Option ℕ
+moved named layouts offset t [] = Some offset
+moved named layouts offset t (i ∷ is) =
+    part_of layouts (unnamed named t) i >>? λ p. moved named layouts ((offset + p.offset) % 2 ^ 64) p.ty is
+
+-- how far the indices of a `getelementptr` go: the first counts whole values of the type
+abbrev pub distance : List NamedType → Layouts → IrType → List Word → Option ℕ
+distance named layouts t [] = Some 0
+distance named layouts t (i ∷ is) = fit_type layouts t >>? λ l. moved named layouts (scaled i l.size) t is
+
+-- the type of the field that an index names
+abbrev pub field_type : IrTypes → Word → Option IrType
+field_type ts i = field_number i >>? λ k. slice_get (list_of_types ts) k
+
+-- the type of the part that an index names. What is behind a name that is not known is not looked at
+abbrev pub part_type : IrType → Word → Option IrType
+part_type (Array n t) i = Some t
+part_type (Struct ts) i = field_type ts i
+part_type (Packed ts) i = field_type ts i
+part_type (One s) i = None
+part_type (Named k) i = Some (Named k)
+
+-- the type of the part that indices name, where each names one
+abbrev pub part_at : List NamedType → IrType → List Word → Option IrType
+part_at named t [] = Some t
+part_at named t (i ∷ is) = part_type (unnamed named t) i >>? λ u. part_at named u is

@@ -1,0 +1,9 @@
+pub mod ListStops
+pub mod Loop
+pub mod Marks
+pub mod Parts
+pub mod Passing
+pub mod Stopping
+pub mod TypeLaws
+pub mod TypeStops
+pub mod TypesFound

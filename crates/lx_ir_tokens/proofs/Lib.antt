@@ -1,0 +1,9 @@
+mod Digits
+mod Distinct
+mod Growing
+mod KeptLines
+mod Numbered
+mod OneReading
+mod Ranges
+mod Scanned
+mod Tables

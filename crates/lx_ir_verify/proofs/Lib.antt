@@ -1,0 +1,9 @@
+pub mod Passes
+pub mod SameTypes
+pub mod Numbers
+pub mod FirstLabel
+pub mod BehindPhis
+pub mod BlockPasses
+pub mod Orders
+pub mod OneFault
+pub mod RowProofs

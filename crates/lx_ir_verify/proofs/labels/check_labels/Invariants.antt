@@ -1,0 +1,7 @@
+use Rattle.std.proofs.Common.{◌≡◌, drop}
+use Rattle.std.specs.Prelude.{flat_map}
+use Rattle.lx_ir.specs.Faults.{first_some, label_fault}
+use Rattle.lx_ir_verify.proofs.labels.check_labels.Given as goal
+
+abbrev pub invariant-loop-block : goal.invariant-loop-block
+invariant-loop-block l = first_some (label_fault l.f) (flat_map (λ b. b.instrs) l.blocks) ≡ first_some (label_fault l.f) (flat_map (λ b. b.instrs) (drop l.block-index l.blocks))

@@ -1,0 +1,20 @@
+//! The verifier: finds the first fault of a module, and keeps in a type that a module has none.
+#![tactic(auto)]
+
+mod fault;
+mod labels;
+mod laws;
+mod operands;
+mod order;
+mod phis;
+mod registers;
+mod types;
+mod typing;
+mod verified;
+
+pub use fault::VerifyFault;
+pub use laws::{verifier_laws, worked_faults};
+pub use verified::{Verified, verify};
+
+#[cfg(test)]
+mod tests;

@@ -1,0 +1,5 @@
+pub mod FirstRead
+pub mod Marking
+pub mod Marks
+pub mod ReadLists
+pub mod Rests

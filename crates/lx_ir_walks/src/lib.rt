@@ -1,0 +1,13 @@
+//! Walks over the blocks of a function: the first read of a register that some walk did not assign.
+#![tactic(auto)]
+
+mod exits;
+mod first;
+mod operands;
+mod reads;
+mod search;
+
+pub use exits::last_of;
+pub use first::first_unassigned;
+pub use operands::{blocks_of, operands_of};
+pub use reads::Read;

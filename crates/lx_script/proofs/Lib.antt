@@ -1,0 +1,10 @@
+pub mod Fronts
+pub mod Reached
+pub mod OneWay
+pub mod Cutting
+pub mod Loops
+pub mod Table
+pub mod Counts
+pub mod Law
+pub mod Again
+pub mod Faulty

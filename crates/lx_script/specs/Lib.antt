@@ -1,0 +1,10 @@
+pub mod Faults
+pub mod Case
+pub mod Lines
+pub mod LineParts
+pub mod Words
+pub mod Reading
+pub mod Grammar
+pub mod Runs
+pub mod Says
+pub mod Schedule

@@ -1,0 +1,464 @@
+//! Hostile cases and schedules, with the value or the first fault that each has.
+
+use crate::{Case, CaseArg, CaseFault, Origin, read_case, read_schedule};
+use lx_words::Schedule;
+use std::alloc::Global;
+use std::test::Fail;
+
+/// The bytes that a file may have.
+const MOST_BYTES: usize = 1 << 20;
+
+fn case_in(alloc: Global, text: &[u8]) -> Result<Case, CaseFault> {
+    if text.len() > MOST_BYTES {
+        return Err(CaseFault::Memory);
+    }
+    read_case(alloc, text)
+}
+
+fn schedule_in(alloc: Global, text: &[u8]) -> Result<Schedule, CaseFault> {
+    if text.len() > MOST_BYTES {
+        return Err(CaseFault::Memory);
+    }
+    read_schedule(alloc, text)
+}
+
+/// A text, and its first fault: the number of its kind, its line, and its words.
+struct Row(&'static [u8], u8, u32, &'static [u8]);
+
+fn is_fault(fault: &CaseFault, kind: u8, line: u32, what: &[u8]) -> bool {
+    let (found, at, words) = match fault {
+        CaseFault::Memory => return false,
+        CaseFault::Lexical { line, what } => (1, *line, what),
+        CaseFault::Statement { line, what } => (2, *line, what),
+        CaseFault::Unknown { line, what } => (3, *line, what),
+        CaseFault::Twice { line, what } => (4, *line, what),
+        CaseFault::Range { line, what } => (5, *line, what),
+        CaseFault::Limit { line, what } => (6, *line, what),
+    };
+    found == kind && at == line && words.is_same(what)
+}
+
+static SCHEDULES: [Row; 17] = [
+    Row(b"schedule 0*1\n1*", 2, 2, b"1*"),
+    Row(b"schedule\nschedule", 2, 2, b"schedule"),
+    Row(b"0*1 schedule", 2, 1, b"schedule"),
+    Row(b"*1", 2, 1, b"*1"),
+    Row(b"0*-1", 2, 1, b"0*-1"),
+    Row(b"0*1*1", 2, 1, b"0*1*1"),
+    Row(b"0 * 1", 2, 1, b"0"),
+    Row(b"# 0*1", 2, 1, b"#"),
+    Row(b"\n0*1\n\n 7*00", 5, 4, b"00"),
+    Row(b"4294967296*0", 5, 1, b"4294967296"),
+    Row(b"4294967295*4294967296", 5, 1, b"4294967296"),
+    Row(b"0*99999999999999999999", 5, 1, b"99999999999999999999"),
+    Row(b"0*1052672\n1*1", 6, 2, b"entries"),
+    Row(b"0*1052673", 6, 1, b"entries"),
+    Row(b"0*1\t1*1", 1, 1, b"0x9"),
+    Row(b"0*1\n1*1\r", 1, 2, b"0xd"),
+    Row(b"0*0\x00", 5, 1, b"0"),
+];
+
+fn schedule_row_fails(alloc: Global, row: &Row) -> bool {
+    match schedule_in(alloc, row.0) {
+        Ok(_) => false,
+        Err(fault) => is_fault(&fault, row.1, row.2, row.3),
+    }
+}
+
+#[test]
+fn the_first_fault_of_a_schedule(rt: HostRuntime) {
+    let alloc = rt.alloc();
+    assert_eq!(rt;
+        SCHEDULES
+            .iter()
+            .position(|row| !schedule_row_fails(alloc, row)),
+        None
+    );
+}
+
+#[test]
+fn a_schedule_lists_its_entries(rt: HostRuntime) -> Result<(), Fail> {
+    let entries = schedule_in(rt.alloc(), b"schedule 0*2\n\n4294967295*1 00*01")?;
+    assert_eq!(rt; entries.as_slice(), [0, 0, u32::MAX, 0].as_slice());
+    assert!(rt; schedule_in(rt.alloc(), b"")?.is_empty());
+    assert_eq!(rt; schedule_in(rt.alloc(), b"7*1052672")?.len(), 1_052_672);
+    Ok(())
+}
+
+static CASES: [Row; 62] = [
+    // cut at every word
+    Row(b"", 2, 1, b"end"),
+    Row(b"\n\n# lxfi\n  \n", 2, 1, b"end"),
+    Row(b"lxfi", 2, 1, b"end"),
+    Row(b"\nlxfi case\n", 2, 2, b"end"),
+    Row(b"lxfi case 1\n\n#\n", 2, 1, b"end"),
+    Row(b"lxfi case 1\n\n kernel\n", 2, 3, b"end"),
+    Row(b"lxfi case 1\nkernel file", 2, 2, b"end"),
+    Row(b"lxfi case 1\nkernel none\n\n", 2, 2, b"end"),
+    Row(b"lxfi case 1\nkernel none\ninterface", 2, 3, b"end"),
+    Row(b"lxfi case 1\nkernel none\ninterface file", 2, 3, b"end"),
+    Row(
+        b"lxfi case 1\nkernel none\ninterface none\nmodule",
+        2,
+        4,
+        b"end",
+    ),
+    Row(
+        b"lxfi case 1\nkernel none\ninterface none\nmodule m",
+        2,
+        4,
+        b"end",
+    ),
+    Row(
+        b"lxfi case 1\nkernel none\ninterface none\nthread\ncall",
+        2,
+        5,
+        b"end",
+    ),
+    Row(
+        b"lxfi case 1\nkernel none\ninterface none\nthread\ncall kernel:f\n",
+        2,
+        5,
+        b"end",
+    ),
+    Row(
+        b"lxfi case 1\nkernel none\ninterface none\nthread\ncall kernel:f 1\n",
+        2,
+        5,
+        b"end",
+    ),
+    Row(
+        b"lxfi case 1\nkernel none\ninterface none\nthread\ncall kernel:f fuel",
+        2,
+        5,
+        b"end",
+    ),
+    // words that cannot stand
+    Row(b"lxfi case 2\nkernel", 2, 1, b"2"),
+    Row(b"lxfi case 1 1", 2, 1, b"1"),
+    Row(b"kernel none", 2, 1, b"kernel"),
+    Row(b" # x", 2, 1, b"#"),
+    Row(b"lxfi case 1\ninterface none", 2, 2, b"interface"),
+    Row(b"lxfi case 1\nkernel nothing", 2, 2, b"nothing"),
+    Row(b"lxfi case 1\nkernel builtin x", 2, 2, b"x"),
+    Row(b"lxfi case 1\nkernel none\ninterface file a b", 2, 3, b"b"),
+    Row(
+        b"lxfi case 1\nkernel none\ninterface none\nmodule kernel f",
+        2,
+        4,
+        b"kernel",
+    ),
+    Row(
+        b"lxfi case 1\nkernel none\ninterface none\nmodule M f",
+        2,
+        4,
+        b"M",
+    ),
+    Row(
+        b"lxfi case 1\nkernel none\ninterface none\nmodule _m f",
+        2,
+        4,
+        b"_m",
+    ),
+    Row(
+        b"lxfi case 1\nkernel none\ninterface none\nmodule m f g",
+        2,
+        4,
+        b"g",
+    ),
+    Row(
+        b"lxfi case 1\nkernel none\ninterface none\nthread 1",
+        2,
+        4,
+        b"1",
+    ),
+    Row(
+        b"lxfi case 1\nkernel none\ninterface none\ncall",
+        2,
+        4,
+        b"call",
+    ),
+    Row(
+        b"lxfi case 1\nkernel none\ninterface none\nthread\nmodule m f",
+        2,
+        5,
+        b"module",
+    ),
+    Row(
+        b"lxfi case 1\nkernel none\ninterface none\nthread\ncall kernel fuel 1",
+        2,
+        5,
+        b"kernel",
+    ),
+    Row(
+        b"lxfi case 1\nkernel none\ninterface none\nthread\ncall kernel: fuel 1",
+        2,
+        5,
+        b"kernel:",
+    ),
+    Row(
+        b"lxfi case 1\nkernel none\ninterface none\nthread\ncall x: fuel 1",
+        2,
+        5,
+        b"x:",
+    ),
+    Row(
+        b"lxfi case 1\nkernel none\ninterface none\nthread\ncall X:f fuel 1",
+        2,
+        5,
+        b"X:f",
+    ),
+    Row(
+        b"lxfi case 1\nkernel none\ninterface none\nthread\ncall fuel 1",
+        2,
+        5,
+        b"fuel",
+    ),
+    Row(
+        b"lxfi case 1\nkernel none\ninterface none\nthread\ncall kernel:f - fuel 1",
+        2,
+        5,
+        b"-",
+    ),
+    Row(
+        b"lxfi case 1\nkernel none\ninterface none\nthread\ncall kernel:f 0x fuel 1",
+        2,
+        5,
+        b"0x",
+    ),
+    Row(
+        b"lxfi case 1\nkernel none\ninterface none\nthread\ncall kernel:f -0x1 fuel 1",
+        2,
+        5,
+        b"-0x1",
+    ),
+    Row(
+        b"lxfi case 1\nkernel none\ninterface none\nthread\ncall kernel:f &f fuel 1",
+        2,
+        5,
+        b"&f",
+    ),
+    Row(
+        b"lxfi case 1\nkernel none\ninterface none\nthread\ncall kernel:f fuel 0x10",
+        2,
+        5,
+        b"0x10",
+    ),
+    Row(
+        b"lxfi case 1\nkernel none\ninterface none\nthread\ncall kernel:f fuel 1 2",
+        2,
+        5,
+        b"2",
+    ),
+    // modules that are not there, and one that is there twice
+    Row(
+        b"lxfi case 1\nkernel none\ninterface none\nthread\ncall m:f fuel x",
+        3,
+        5,
+        b"m",
+    ),
+    Row(
+        b"lxfi case 1\nkernel none\ninterface none\nmodule m f\nthread\ncall m:f &n:g",
+        3,
+        6,
+        b"n",
+    ),
+    Row(
+        b"lxfi case 1\nkernel none\ninterface none\nmodule m f\nmodule m",
+        4,
+        5,
+        b"m",
+    ),
+    // numbers
+    Row(
+        b"lxfi case 1\nkernel none\ninterface none\nthread\ncall kernel:f -9223372036854775809",
+        5,
+        5,
+        b"-9223372036854775809",
+    ),
+    Row(
+        b"lxfi case 1\nkernel none\ninterface none\nthread\ncall kernel:f 18446744073709551616",
+        5,
+        5,
+        b"18446744073709551616",
+    ),
+    Row(
+        b"lxfi case 1\nkernel none\ninterface none\nthread\ncall kernel:f 0x10000000000000000",
+        5,
+        5,
+        b"0x10000000000000000",
+    ),
+    Row(
+        b"lxfi case 1\nkernel none\ninterface none\nthread\ncall kernel:f fuel -1",
+        5,
+        5,
+        b"-1",
+    ),
+    Row(
+        b"lxfi case 1\nkernel none\ninterface none\nthread\ncall kernel:f fuel 1048577",
+        5,
+        5,
+        b"1048577",
+    ),
+    Row(
+        b"lxfi case 1\nkernel none\ninterface none\nthread\ncall kernel:f fuel 99999999999999999999 x",
+        5,
+        5,
+        b"99999999999999999999",
+    ),
+    // the sum of the fuel
+    Row(
+        b"lxfi case 1\nkernel none\ninterface none\nthread\ncall kernel:f fuel 1048576\nthread\ncall kernel:f fuel 1 x",
+        6,
+        7,
+        b"fuel",
+    ),
+    // bytes that stand in no text
+    Row(b"\x80", 1, 1, b"0x80"),
+    Row(b"# a comment\n#\x7f\n", 1, 2, b"0x7f"),
+    Row(b"lxfi\tcase 1", 1, 1, b"0x9"),
+    Row(b"lxfi case 1\nkernel none\r\n", 1, 2, b"0xd"),
+    Row(b"lxfi case 1\nkernel non\x00", 2, 2, b"non"),
+    Row(b"lxfi case 1\nkernel none\n\n#\n# \xff", 1, 5, b"0xff"),
+    Row(
+        b"lxfi case 1\nkernel none\ninterface none\nmodule m f\nmodule \x01",
+        1,
+        5,
+        b"0x1",
+    ),
+    // the first of two faults
+    Row(b"lxfi case 1\nkernel x\ninterface y\x01", 2, 2, b"x"),
+    Row(
+        b"lxfi case 1\nkernel none\ninterface none\nthread\ncall m:f 99999999999999999999",
+        3,
+        5,
+        b"m",
+    ),
+    Row(
+        b"lxfi case 1\nkernel none\ninterface none\nthread\ncall kernel:f x &m:g",
+        2,
+        5,
+        b"x",
+    ),
+];
+
+fn case_row_fails(alloc: Global, row: &Row) -> bool {
+    match case_in(alloc, row.0) {
+        Ok(_) => false,
+        Err(fault) => is_fault(&fault, row.1, row.2, row.3),
+    }
+}
+
+#[test]
+fn the_first_fault_of_a_case(rt: HostRuntime) {
+    let alloc = rt.alloc();
+    assert_eq!(rt;
+        CASES.iter().position(|row| !case_row_fails(alloc, row)),
+        None
+    );
+}
+
+static WHOLE: &[u8] = b"# comments and spaces are passed over
+
+  lxfi  case 1
+kernel builtin
+interface file an-interface
+module m0_a m0.ll
+module b b.ll
+thread
+call b:f -9223372036854775808 18446744073709551615 0xAb -0 fuel 0007
+call kernel:g:h &m0_a:x &kernel:y fuel 0
+# and here
+thread
+thread
+call m0_a:main fuel 1048569";
+
+fn is_number(arg: Option<&CaseArg>, number: i128) -> bool {
+    match arg {
+        Some(CaseArg::Number(found)) => *found == number,
+        _ => false,
+    }
+}
+
+fn is_address(arg: Option<&CaseArg>, number: Option<u32>, symbol: &[u8]) -> bool {
+    match arg {
+        Some(CaseArg::Address { module, name }) => *module == number && name.is_same(symbol),
+        _ => false,
+    }
+}
+
+#[test]
+fn a_case_says_its_value(rt: HostRuntime) -> Result<(), Fail> {
+    let case = case_in(rt.alloc(), WHOLE)?;
+    assert!(rt; matches!(&case.kernel, Origin::Builtin));
+    assert!(rt;
+        match &case.interface {
+            Origin::File(name) => name.is_same(b"an-interface"),
+            _ => false
+        }
+    );
+    assert_eq!(rt; case.modules.len(), 2);
+    assert!(rt;
+        case.modules.as_slice()[0].name.is_same(b"m0_a")
+            && case.modules.as_slice()[1].file.is_same(b"b.ll")
+    );
+    let threads = case.threads.as_slice();
+    assert_eq!(rt; threads.len(), 3);
+    assert!(rt; threads[0].len() == 2 && threads[1].is_empty() && threads[2].len() == 1);
+    let first = &threads[0].as_slice()[0];
+    assert!(rt; first.target.module == Some(1) && first.target.function.is_same(b"f"));
+    let args = first.args.as_slice();
+    assert!(rt; is_number(args.get(0), -(1 << 63)) && is_number(args.get(1), (1 << 64) - 1));
+    assert!(rt; is_number(args.get(2), 0xab) && is_number(args.get(3), 0) && args.len() == 4);
+    assert_eq!(rt; (first.fuel, first.line), (7, 9));
+    let second = &threads[0].as_slice()[1];
+    assert!(rt; second.target.module.is_none() && second.target.function.is_same(b"g:h"));
+    let args = second.args.as_slice();
+    assert!(rt; is_address(args.get(0), Some(0), b"x") && is_address(args.get(1), None, b"y"));
+    let last = &threads[2].as_slice()[0];
+    assert_eq!(rt;
+        (last.fuel, last.line, last.target.module),
+        (1_048_569, 14, Some(0))
+    );
+    Ok(())
+}
+
+/// A case with some modules, and threads of some calls each, one line each from line 4 on.
+fn large(alloc: Global, modules: u32, threads: u32, calls: u32) -> Result<Vec<u8>, Fail> {
+    let mut text = Vec::from_slice(alloc, b"lxfi case 1\nkernel none\ninterface none\n")?;
+    for number in 0..modules {
+        let line = format!(in alloc; "module m{number} f\n")?;
+        text.extend_from_slice(line.as_bytes())?;
+    }
+    for _ in 0..threads {
+        text.extend_from_slice(b"thread\n")?;
+        for _ in 0..calls {
+            text.extend_from_slice(b"call kernel:f fuel 1\n")?;
+        }
+    }
+    Ok(text)
+}
+
+fn fails(alloc: Global, text: &[u8], line: u32, what: &[u8]) -> bool {
+    match case_in(alloc, text) {
+        Ok(_) => false,
+        Err(fault) => is_fault(&fault, 6, line, what),
+    }
+}
+
+#[test]
+fn a_case_may_be_as_large_as_its_limits(rt: HostRuntime) -> Result<(), Fail> {
+    let alloc = rt.alloc();
+    let case = case_in(alloc, &large(alloc, 64, 16, 256)?)?;
+    assert_eq!(rt; (case.modules.len(), case.threads.len()), (64, 16));
+    assert!(rt;
+        case.threads
+            .as_slice()
+            .iter()
+            .all(|calls| calls.len() == 256)
+    );
+    assert!(rt; fails(alloc, &large(alloc, 65, 1, 0)?, 68, b"modules"));
+    assert!(rt; fails(alloc, &large(alloc, 0, 17, 0)?, 20, b"threads"));
+    assert!(rt; fails(alloc, &large(alloc, 0, 1, 4097)?, 4101, b"calls"));
+    Ok(())
+}
