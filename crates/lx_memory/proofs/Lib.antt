@@ -1,3 +1,5 @@
 pub mod NumberLemmas
 pub mod RangeLemmas
 pub mod SpaceLemmas
+pub mod Elements
+pub mod Gaps

@@ -1,4 +1,4 @@
-//! Memory: the bytes of three regions, one each for globals, heap and stacks.
+//! Memory: the bytes of three regions, one each for globals, heap and stacks, and the blocks of the heap.
 //!
 //! ```text
 //! let mut space = Space::new(alloc)?;
@@ -7,12 +7,14 @@
 //! ```
 #![tactic(auto)]
 
+mod heap;
 mod numbers;
 mod range;
 mod space;
 #[cfg(test)]
 mod tests;
 
+pub use heap::{KHeap, NotLive};
 pub use lx_caps::{Memory, mapped};
 pub use range::Unmapped;
 pub use space::Space;

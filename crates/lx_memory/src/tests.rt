@@ -1,5 +1,5 @@
 //! Each call once with ample memory, and the edges of the regions. What a call answers is proved.
-use crate::{Space, Unmapped, mapped};
+use crate::{KHeap, NotLive, Space, Unmapped, mapped};
 use std::test::Fail;
 
 fn goes_between_threads<T: Send + Sync>(_: &T) {}
@@ -39,5 +39,23 @@ fn a_region_ends_where_it_ends(rt: HostRuntime) -> Result<(), Fail> {
     assert_eq!(rt; fault, Some(Unmapped { at: 0xffffff }));
     assert!(rt; mapped(0x10ffff8, 8));
     assert!(rt; !mapped(0x10ffff8, 9));
+    Ok(())
+}
+
+#[test]
+fn the_least_gap_is_given(rt: HostRuntime) -> Result<(), Fail> {
+    let mut heap = KHeap::new(rt.alloc())?;
+    assert_eq!(rt; heap.alloc(0)?, 0);
+    assert_eq!(rt; heap.alloc(17)?, 0x2000000);
+    assert_eq!(rt; heap.alloc(1)?, 0x2000020);
+    assert_eq!(rt; heap.alloc(16)?, 0x2000030);
+    heap.free(0x2000020)?;
+    assert_eq!(rt; heap.free(0x2000020).err(), Some(NotLive { at: 0x2000020 }));
+    assert_eq!(rt; heap.alloc(17)?, 0x2000040);
+    assert_eq!(rt; heap.alloc(16)?, 0x2000020);
+    assert_eq!(rt; heap.alloc(0x100000)?, 0);
+    assert_eq!(rt; heap.alloc(u64::MAX)?, 0);
+    assert_eq!(rt; heap.alloc(0xfffa0)?, 0x2000060);
+    assert_eq!(rt; heap.alloc(1)?, 0);
     Ok(())
 }

@@ -1,5 +1,5 @@
 -- The next owned atom, as a number of its kind.
-use Rattle.std.proofs.Common.{◌≡◌, ℕ, zero, suc, ◌+◌, ◌-◌, ◌^◌, ◌<◌, ◌≤◌, Bool, true, false, ◌&&◌, ◌||◌, Option, Some, None, nat_eq, nat_lt, refl, sym, ap, ◌∙◌, subst, arith}
+use Rattle.std.proofs.Common.{◌≡◌, ℕ, zero, suc, ◌-◌, ◌^◌, ◌<◌, ◌≤◌, Bool, true, false, ◌&&◌, ◌||◌, Option, Some, None, nat_eq, nat_lt, refl, sym, subst, arith}
 use Rattle.std.specs.Prelude.{if◌then◌else◌}
 use Rattle.std.proofs.lemmas.Bool.{true≢false}
 use Rattle.std.proofs.lemmas.Bool.Decides.{nat_tests}
@@ -7,10 +7,10 @@ use Rattle.lx_caps.specs.declared.Principal.{Principal}
 use Rattle.lx_caps.specs.declared.Atom.{Atom}
 use Rattle.lx_caps.specs.declared.Atom.TheVariants as atom
 use Rattle.lx_caps.specs.History.{History, owns}
-use Rattle.lx_caps.specs.Order.{is_before, is_behind, IsFirst, IsNextOwned}
+use Rattle.lx_caps.specs.Order.{is_before, is_behind, IsNextOwned}
 use Rattle.lx_owners.specs.declared.number.Kind.{Kind}
 use Rattle.lx_owners.specs.declared.number.Kind.TheVariants as kind
-use Rattle.lx_owners.specs.Kind.{atom_of, owns_number, behind, before_type, start, number_in, fits}
+use Rattle.lx_owners.specs.Kind.{owns_number, behind, before_type, start, number_in, fits}
 use Rattle.lx_owners.specs.Listing.{IsFirstFrom}
 
 not_owned : (b o : Bool) → b ≡ true → (b && o) ≡ false → o ≡ false

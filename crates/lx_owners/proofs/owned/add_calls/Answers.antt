@@ -1,4 +1,4 @@
-use Rattle.std.proofs.Common.{◌≡◌, ◌++◌, map, ap, ◌∙◌}
+use Rattle.std.proofs.Common.{◌++◌, map, ap, ◌∙◌}
 use Rattle.lx_caps.specs.declared.Cap.TheVariants as cap
 use Rattle.lx_owners.proofs.Listed.{calls_are}
 use Rattle.lx_owners.proofs.owned.add_calls.Goals as goal

@@ -1,4 +1,4 @@
-use Rattle.std.proofs.Common.{◌≡◌, ◌++◌, ℕ, suc, ◌^◌, ◌-◌, false}
+use Rattle.std.proofs.Common.{◌≡◌, ◌++◌, ◌^◌, ◌-◌, false}
 use Rattle.std.specs.List.{flat_map}
 use Rattle.lx_caps.specs.declared.Atom.TheVariants.{Byte}
 use Rattle.lx_caps.specs.History.{History, owns}

@@ -1,4 +1,4 @@
-use Rattle.std.proofs.Common.{◌≡◌, [], ◌++◌, arith}
+use Rattle.std.proofs.Common.{[], arith}
 use mathlib.Core.List.{append-nil}
 use Rattle.lx_owners.specs.Kind.{owns_number}
 use Rattle.lx_owners.proofs.Steps.{none_listed, one_listed, falls}

@@ -1,4 +1,4 @@
-use Rattle.std.proofs.Common.{ℕ, ◌-◌, ◌^◌}
+use Rattle.std.proofs.Common.{◌-◌, ◌^◌}
 use Rattle.lx_owners.specs.Kind.{owns_number, behind}
 use Rattle.lx_owners.proofs.Steps.{Listed}
 use Rattle.lx_owners.proofs.owned.owned_numbers.Given as goal

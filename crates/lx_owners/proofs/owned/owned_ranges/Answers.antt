@@ -1,4 +1,4 @@
-use Rattle.std.proofs.Common.{◌≡◌, ◌^◌, ◌-◌, ◌<◌, ◌+◌, [], ◌++◌, arith}
+use Rattle.std.proofs.Common.{[], arith}
 use mathlib.Core.List.{append-nil}
 use Rattle.lx_caps.specs.declared.Atom.TheVariants.{Byte}
 use Rattle.lx_caps.specs.History.{owns}
