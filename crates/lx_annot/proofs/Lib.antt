@@ -1,1 +1,2 @@
 mod Spaced
+pub mod ItemLists

@@ -11,3 +11,4 @@ pub mod Items
 pub mod Parts
 pub mod Rows
 pub mod Value
+pub mod Scope

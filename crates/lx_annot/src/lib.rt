@@ -5,8 +5,10 @@ ghost use Rattle.lx_annot.specs.Rows.{WorkedAnnotations};
 
 pub mod action;
 pub mod canonical;
+pub mod caps;
 pub mod expr;
 pub mod interface;
+pub mod value;
 
 /// Worked rows of values, items and canonical texts.
 pub fn worked_annotations()
