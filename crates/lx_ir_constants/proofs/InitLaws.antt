@@ -1,5 +1,5 @@
 -- Initialisers: what is in the grammar is read, and what is read is in the grammar.
-use Rattle.std.proofs.Common.{◌≡◌, ℕ, zero, suc, Bool, true, false, Some, List, [], ◌∷◌, ◌++◌, Ok, Err, ◌⊎◌, inl, inr, refl, sym, ap, ◌∙◌, subst, append_assoc}
+use Rattle.std.proofs.Common.{◌≡◌, ℕ, zero, suc, true, false, Some, List, [], ◌∷◌, ◌++◌, Ok, inl, inr, refl, sym, ap, ◌∙◌, append_assoc}
 use Rattle.std.specs.Prelude.{if◌then◌else◌}
 use Rattle.lx_ir_tokens.specs.declared.token.Tok.{Tok}
 use Rattle.lx_ir_tokens.specs.declared.token.Kind.{Kind}
@@ -7,29 +7,24 @@ use Rattle.lx_ir_tokens.specs.declared.token.Kind.TheVariants as kinds
 use Rattle.lx_ir_tokens.specs.declared.token.Mark.{Mark}
 use Rattle.lx_ir_tokens.specs.declared.token.Mark.TheVariants.{Comma, OpenBrace, CloseBrace, OpenBracket, CloseBracket, Less, Greater}
 use Rattle.lx_ir_tokens.specs.declared.keyword.Keyword.TheVariants as keywords
-use Rattle.lx_ir.specs.declared.module.Constant.{Constant}
-use Rattle.lx_ir.specs.declared.module.Brackets.{Brackets}
 use Rattle.lx_ir.specs.declared.module.Brackets.TheVariants as brackets
 use Rattle.lx_ir.specs.IrType.{IrType, One, Array, Struct, Packed, Named}
-use Rattle.lx_ir.specs.Init.{Init, Plain}
-use Rattle.lx_ir_terms.specs.declared.fault.FaultKind.TheVariants.{OutOfProfile}
+use Rattle.lx_ir.specs.Init.{Init}
 use Rattle.lx_ir_terms.specs.Context.{Context}
 use Rattle.lx_ir_terms.specs.Reading.{Read, ◌>>=◌, at, has, behind, is_mark, same_mark, mark_at, items_at}
-use Rattle.lx_ir_terms.specs.Types.{is_opening, flat_of, type_at, depth_limit}
-use Rattle.lx_ir_terms.specs.Grammar.{Part, Picks, Is, IsMark, ◌then◌, IsType}
+use Rattle.lx_ir_terms.specs.Types.{is_opening, flat_of, depth_limit, written_type_at}
+use Rattle.lx_ir_terms.specs.Grammar.{Part, Picks, Is, IsMark, ◌then◌, IsType, IsWritten}
 use Rattle.lx_ir_terms.specs.Laws.{Reads, Finds}
 use Rattle.lx_ir_terms.proofs.Marks.{mark_is, other_mark, Next, next_token}
 use Rattle.lx_ir_terms.proofs.Parts.{Joined, Mapped, next_reads, bind_reads, last_reads, behind_reads, pick_finds, next_finds, bind_finds, last_finds, bind_ok, ok_same}
-use Rattle.lx_ir_terms.proofs.TypeLaws.{type_again}
-use Rattle.lx_ir_terms.proofs.TypesFound.{type_found}
+use Rattle.lx_ir_terms.proofs.Written.{written_again}
 use Rattle.lx_ir_constants.specs.declared.inits.Member.{Member}
 use Rattle.lx_ir_constants.specs.declared.inits.Members.{Members}
-use Rattle.lx_ir_constants.specs.Constants.{begins_expression, expression_at, constant_refusal}
-use Rattle.lx_ir_constants.specs.Inits.{flat_init_of, flat_init_at, leaf_at, member_at, members_of, some_members_at, closed_members_at, braced_at, bracketed_at, group, packed_group_behind, group_at, init_at}
-use Rattle.lx_ir_constants.specs.Grammar.{AreItems, IsExpression}
-use Rattle.lx_ir_constants.specs.InitGrammar.{IsLeaf, AreListed, IsMember, IsArrayGroup, IsStructGroup, IsPackedGroup, IsGroup, IsInit}
-use Rattle.lx_ir_constants.proofs.ListLaws.{Found, items_again, items_found}
-use Rattle.lx_ir_constants.proofs.ConstantLaws.{expression_reads, expression_finds}
+use Rattle.lx_ir_constants.specs.Constants.{begins_expression}
+use Rattle.lx_ir_constants.specs.Inits.{flat_init_of, leaf_at, member_at, members_of, closed_members_at, braced_at, bracketed_at, group, packed_group_behind, group_at, init_at}
+use Rattle.lx_ir_constants.specs.InitGrammar.{IsLeaf, AreListed, IsMember, IsGroup, IsInit}
+use Rattle.lx_ir_constants.proofs.ListLaws.{items_again}
+use Rattle.lx_ir_constants.proofs.ConstantLaws.{expression_reads}
 
 -- Leaves.
 
@@ -63,9 +58,9 @@ leaf_again context depth ty i ts us (inr (c, x, e)) =
 
 -- Members.
 
-member_reads : (context : Context) (depth : ℕ) → ((ty : IrType) (i : Init) → Reads (init_at context depth ty) i (IsInit context depth ty i)) → (m : Member) → Reads (member_at context (init_at context depth)) m (IsMember context (IsInit context depth) m)
+pub member_reads : (context : Context) (depth : ℕ) → ((ty : IrType) (i : Init) → Reads (init_at context depth ty) i (IsInit context depth ty i)) → (m : Member) → Reads (member_at context (init_at context depth)) m (IsMember context (IsInit context depth) m)
 member_reads context depth h m =
-    bind_reads (type_at context depth_limit) (λ t. init_at context depth t.0 t.1 >>= λ i. Ok (record { ty = t.0; init = i.0 }, i.1)) m.ty m _ _ (type_again context m.ty depth_limit)
+    bind_reads (written_type_at context) (λ t. init_at context depth t.0 t.1 >>= λ i. Ok (record { ty = t.0; init = i.0 }, i.1)) m.ty m _ _ (written_again context m.ty)
     (last_reads (init_at context depth m.ty) (λ i. record { ty = m.ty; init = i }) m.init _ (h m.ty m.init))
 
 -- a type begins with no mark but those that open one
@@ -95,19 +90,19 @@ type_begins context m c (Struct fields) (suc depth) ts us (f, b, (k, e, g), r, w
 type_begins context m c (Packed fields) zero ts us e = absurd e
 type_begins context m c (Packed fields) (suc depth) ts us (f, b, (k, e, g), r, w) = other_mark Less m (ts ++ us) c.less (rw (w, g) e)
 
-abbrev members_closed_at : Mark → (List Tok → Read Member) → List Tok → Read Members
+abbrev pub members_closed_at : Mark → (List Tok → Read Member) → List Tok → Read Members
 members_closed_at close member ts = closed_members_at (is_mark close) (mark_at close) member ts
 
-closed_reads : (context : Context) (init : IrType → Init → Part) (close : Mark) → Closes close → (member : List Tok → Read Member) → ((m : Member) → Reads member m (IsMember context init m)) → (ms : List Member) → Reads (members_closed_at close member) (members_of ms) (AreListed (IsMember context init) ms then IsMark close)
+pub closed_reads : (context : Context) (init : IrType → Init → Part) (close : Mark) → Closes close → (member : List Tok → Read Member) → ((m : Member) → Reads member m (IsMember context init m)) → (ms : List Member) → Reads (members_closed_at close member) (members_of ms) (AreListed (IsMember context init) ms then IsMark close)
 closed_reads context init close c member h [] ts us (f, b, e, (k, o, g), w) = rw (w, e, g, o) refl
 closed_reads context init close c member h (m ∷ ms) ts us (f, b, (f', b', (f2, b2, ty, i, w2), more, w'), (k, o, g), w) =
     let whole : ts ++ us ≡ f ++ (k ∷ us) = rw (w, g) (append_assoc f (k ∷ []) us) in
     let first : f ++ (k ∷ us) ≡ f2 ++ ((b2 ++ b') ++ (k ∷ us)) = rw (w', w2) (append_assoc (f2 ++ b2) b' (k ∷ us) ∙ append_assoc f2 b2 (b' ++ (k ∷ us)) ∙ ap (λ r. f2 ++ r) (sym (append_assoc b2 b' (k ∷ us)))) in
-    let shut : has (is_mark close) (f ++ (k ∷ us)) ≡ false = rw first (type_begins context close c m.ty depth_limit f2 ((b2 ++ b') ++ (k ∷ us)) ty) in
+    let shut : has (is_mark close) (f ++ (k ∷ us)) ≡ false = rw first (type_begins context close c m.ty depth_limit f2 ((b2 ++ b') ++ (k ∷ us)) ty.0) in
     let items : items_at member (f ++ (k ∷ us)) ≡ Ok (m ∷ ms, k ∷ us) = items_again member (IsMember context init) h (m ∷ ms) f (k ∷ us) (f', b', (f2, b2, ty, i, w2), more, w') (other_mark close Comma (k ∷ us) c.comma o) in
     rw (whole, shut, items, o) refl
 
-braces : Closes CloseBrace
+pub braces : Closes CloseBrace
 braces = record { bracket = refl; brace = refl; less = refl; comma = refl }
 
 brackets_close : Closes CloseBracket

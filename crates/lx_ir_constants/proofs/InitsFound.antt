@@ -1,29 +1,28 @@
 -- Initialisers: what is read is in the grammar.
-use Rattle.std.proofs.Common.{◌≡◌, ℕ, zero, suc, Bool, true, false, Some, List, [], ◌∷◌, ◌++◌, Ok, Err, ◌⊎◌, inl, inr, refl, sym, ap, ◌∙◌, subst, append_assoc}
+use Rattle.std.proofs.Common.{◌≡◌, ℕ, zero, suc, Bool, true, false, List, [], ◌∷◌, ◌++◌, Ok, Err, inl, inr, refl, sym, ap, ◌∙◌, subst}
 use Rattle.std.specs.Prelude.{if◌then◌else◌}
 use Rattle.lx_ir_tokens.specs.declared.token.Tok.{Tok}
 use Rattle.lx_ir_tokens.specs.declared.token.Kind.{Kind}
 use Rattle.lx_ir_tokens.specs.declared.token.Mark.{Mark}
 use Rattle.lx_ir_tokens.specs.declared.token.Mark.TheVariants.{OpenBrace, CloseBrace, OpenBracket, CloseBracket, Less, Greater}
-use Rattle.lx_ir.specs.declared.module.Constant.{Constant}
 use Rattle.lx_ir.specs.declared.module.Brackets.TheVariants as brackets
 use Rattle.lx_ir.specs.IrType.{IrType}
 use Rattle.lx_ir.specs.Init.{Init, Plain}
 use Rattle.lx_ir_terms.specs.declared.fault.FaultKind.TheVariants.{OutOfProfile}
 use Rattle.lx_ir_terms.specs.Context.{Context}
 use Rattle.lx_ir_terms.specs.Reading.{Read, ◌>>=◌, at, has, behind, is_mark, mark_at, items_at}
-use Rattle.lx_ir_terms.specs.Types.{is_opening, type_at, depth_limit}
-use Rattle.lx_ir_terms.specs.Grammar.{Part, Picks, IsMark, ◌then◌, IsType}
+use Rattle.lx_ir_terms.specs.Types.{is_opening, written_type_at}
+use Rattle.lx_ir_terms.specs.Grammar.{Part, Picks, IsMark, ◌then◌, IsWritten}
 use Rattle.lx_ir_terms.specs.Laws.{Reads, Finds}
 use Rattle.lx_ir_terms.proofs.Marks.{Next, next_token}
 use Rattle.lx_ir_terms.proofs.Parts.{Joined, Mapped, pick_finds, next_finds, bind_finds, last_finds, bind_ok, ok_same}
-use Rattle.lx_ir_terms.proofs.TypesFound.{type_found}
+use Rattle.lx_ir_terms.proofs.Written.{written_found}
 use Rattle.lx_ir_constants.specs.declared.inits.Member.{Member}
 use Rattle.lx_ir_constants.specs.declared.inits.Members.{Members}
 use Rattle.lx_ir_constants.specs.Constants.{begins_expression, expression_at, constant_refusal}
 use Rattle.lx_ir_constants.specs.Inits.{flat_init_of, flat_init_at, leaf_at, member_at, members_of, some_members_at, closed_members_at, braced_at, bracketed_at, group, packed_group_behind, group_at, init_at}
-use Rattle.lx_ir_constants.specs.Grammar.{AreItems, IsExpression}
-use Rattle.lx_ir_constants.specs.InitGrammar.{IsLeaf, AreListed, IsMember, IsArrayGroup, IsStructGroup, IsPackedGroup, IsGroup, IsInit}
+use Rattle.lx_ir_constants.specs.Grammar.{AreItems}
+use Rattle.lx_ir_constants.specs.InitGrammar.{IsLeaf, AreListed, IsMember, IsGroup, IsInit}
 use Rattle.lx_ir_constants.proofs.ListLaws.{Found, items_found}
 use Rattle.lx_ir_constants.proofs.ConstantLaws.{expression_finds}
 
@@ -51,18 +50,18 @@ abbrev made : IrType → Init → Member
 made ty i = record { ty = ty; init = i }
 
 abbrev MemberParts : Context → (IrType → Init → Part) → Member → Part
-MemberParts context init = Joined (λ t. IsType context t depth_limit) (λ t. Mapped (λ (i : Init). made t i) (init t))
+MemberParts context init = Joined (λ t. IsWritten context t) (λ t. Mapped (λ (i : Init). made t i) (init t))
 
 member_part : (context : Context) (init : IrType → Init → Part) (m : Member) (ts : List Tok) → MemberParts context init m ts → IsMember context init m ts
 member_part context init m ts (t, (f, b, p, (i, pi, eq), e)) = subst (λ x. IsMember context init x ts) eq (f, b, p, pi, e)
 
-member_found : (context : Context) (read : IrType → List Tok → Read Init) (init : IrType → Init → Part) → ((ty : IrType) → Finds (read ty) (init ty)) → Finds (member_at context read) (IsMember context init)
+pub member_found : (context : Context) (read : IrType → List Tok → Read Init) (init : IrType → Init → Part) → ((ty : IrType) → Finds (read ty) (init ty)) → Finds (member_at context read) (IsMember context init)
 member_found context read init h ts us m e =
-    let w = bind_finds (type_at context depth_limit) (λ t. read t.0 t.1 >>= λ i. Ok (made t.0 i.0, i.1)) _ _ (type_found context depth_limit) (λ t. last_finds (read t) (λ i. made t i) _ (h t)) ts us m e in
+    let w = bind_finds (written_type_at context) (λ t. read t.0 t.1 >>= λ i. Ok (made t.0 i.0, i.1)) _ _ (written_found context) (λ t. last_finds (read t) (λ i. made t i) _ (h t)) ts us m e in
     (w.0, member_part context init m w.0 w.1, w.2)
 
 -- members, and the mark behind them
-abbrev ListOf : (Member → Part) → Mark → Members → Part
+abbrev pub ListOf : (Member → Part) → Mark → Members → Part
 ListOf part close all ts = (ms : List Member) × (AreListed part ms then IsMark close) ts × (members_of ms ≡ all)
 
 as_listed : (part : Member → Part) (ms : List Member) (ts : List Tok) → AreItems part ms ts → AreListed part ms ts
@@ -93,7 +92,7 @@ closed_step close member part h false ts us all o e =
     let w = bind_finds (some_members_at member) (λ ms. mark_at close ms.1 >>= λ c. Ok (ms.0, c.1)) _ _ (some_found member part h) (λ all. last_finds (mark_at close) (λ c. all) _ (next_finds (is_mark close))) ts us all e in
     (w.0, closed_part part close all w.0 w.1, w.2)
 
-closed_found : (close : Mark) (member : List Tok → Read Member) (part : Member → Part) → Finds member part → Finds (λ ts. closed_members_at (is_mark close) (mark_at close) member ts) (ListOf part close)
+pub closed_found : (close : Mark) (member : List Tok → Read Member) (part : Member → Part) → Finds member part → Finds (λ ts. closed_members_at (is_mark close) (mark_at close) member ts) (ListOf part close)
 closed_found close member part h ts us all e = closed_step close member part h (has (is_mark close) ts) ts us all refl e
 
 -- Groups.
@@ -114,7 +113,7 @@ packed_token part i k ts l (o, (f, b, po, (all, (f2, b2, (ms, p, a), (c, m, e), 
 third_mark : (k : Kind) → is_opening k ≡ true → is_mark OpenBracket k ≡ false → is_mark OpenBrace k ≡ false → is_mark Less k ≡ true
 third_mark k o a b = simp (sym o, a, b) refl
 
-third : (ts : List Tok) → has is_opening ts ≡ true → has (is_mark OpenBracket) ts ≡ false → has (is_mark OpenBrace) ts ≡ false → has (is_mark Less) ts ≡ true
+pub third : (ts : List Tok) → has is_opening ts ≡ true → has (is_mark OpenBracket) ts ≡ false → has (is_mark OpenBrace) ts ≡ false → has (is_mark Less) ts ≡ true
 third [] o a b = cc
 third (t ∷ ts) o a b = third_mark t.kind o a b
 

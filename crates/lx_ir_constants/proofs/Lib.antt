@@ -1,6 +1,8 @@
 pub mod ConstantLaws
+pub mod ConstantStops
 pub mod Expressions
 pub mod InitLaws
+pub mod InitStops
 pub mod InitsFound
 pub mod ListLaws
 pub mod MemberLists

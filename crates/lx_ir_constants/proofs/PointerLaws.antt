@@ -1,31 +1,26 @@
 -- Pointers: what is in the grammar is read, and what is read is in the grammar.
-use Rattle.std.proofs.Common.{◌≡◌, ℕ, zero, suc, Bool, true, false, Option, Some, None, List, [], ◌∷◌, ◌++◌, length, Result, Ok, Err, ◌⊎◌, inl, inr, refl, sym, ap, ◌∙◌, subst, append_assoc, arith}
+use Rattle.std.proofs.Common.{◌≡◌, Bool, true, false, Some, None, List, [], ◌∷◌, ◌++◌, Ok, refl, sym, ap, ◌∙◌, subst, append_assoc}
 use Rattle.std.specs.Prelude.{if◌then◌else◌, ◌&&◌, ℤ}
 use Rattle.std.specs.List.{list_all}
 use Rattle.lx_ir_tokens.specs.declared.token.Tok.{Tok}
 use Rattle.lx_ir_tokens.specs.declared.token.Kind.{Kind}
 use Rattle.lx_ir_tokens.specs.declared.token.Kind.TheVariants as kinds
-use Rattle.lx_ir_tokens.specs.declared.token.Mark.{Mark}
 use Rattle.lx_ir_tokens.specs.declared.token.Mark.TheVariants.{Comma, OpenParenthesis, CloseParenthesis}
-use Rattle.lx_ir_tokens.specs.declared.keyword.Keyword.TheVariants as keywords
-use Rattle.lx_words.specs.declared.word.Width.TheVariants.{W64}
 use Rattle.lx_words.specs.declared.word.Width.{Width}
 use Rattle.lx_words.specs.Word.{Word, word_of_int}
 use Rattle.lx_ir.specs.IrType.{IrType}
 use Rattle.lx_ir.specs.declared.module.Pointer.{Pointer}
-use Rattle.lx_ir.specs.declared.module.Pointer.TheVariants as pointers
 use Rattle.lx_ir_terms.specs.Context.{Context}
 use Rattle.lx_ir_terms.specs.Reading.{Read, ◌>>=◌, at, refusal, has, behind, is_mark, is_to, pick_at, next_at, mark_at, closed_at}
-use Rattle.lx_ir_terms.specs.Types.{integer_in, integer_at, scalar_refusal, type_at, depth_limit}
-use Rattle.lx_ir_terms.specs.Grammar.{Part, Picks, Is, IsMark, ◌then◌, IsType}
+use Rattle.lx_ir_terms.specs.Types.{integer_in, integer_at, scalar_refusal, depth_limit, written_type_at}
+use Rattle.lx_ir_terms.specs.Grammar.{Part, Picks, Is, IsMark, ◌then◌, IsWritten}
 use Rattle.lx_ir_terms.specs.Laws.{Reads, Finds}
 use Rattle.lx_ir_terms.proofs.Marks.{mark_is, other_mark, Next, next_token}
 use Rattle.lx_ir_terms.proofs.Parts.{Joined, Mapped, pick_reads, next_reads, bind_reads, last_reads, behind_reads, pick_finds, next_finds, bind_finds, last_finds, ok_same}
-use Rattle.lx_ir_terms.proofs.TypeLaws.{type_again}
-use Rattle.lx_ir_terms.proofs.TypesFound.{type_found}
+use Rattle.lx_ir_terms.proofs.Written.{written_again, written_found}
 use Rattle.lx_ir_constants.specs.declared.element.Element.{Element}
-use Rattle.lx_ir_constants.specs.Constants.{is_in_range, number_in, number_refusal, number_at, is_flag_word, skipped, when, word_refusal, opened_at, is_pointer_word, is_long_word, form_type_at, is_element_word, is_address_word, flat_pointer_of, flat_pointer_at, constant_refusal, address_of, index_at, element_behind, address_behind, begins_pointer, nested_pointer_at, pointer_at}
-use Rattle.lx_ir_constants.specs.Grammar.{AreItems, AreFlags, IsOpened, IsIndex, IsElement, IsAddress, IsFlatPointer, IsPointerExpression, IsPointer}
+use Rattle.lx_ir_constants.specs.Constants.{is_in_range, number_in, number_refusal, number_at, is_flag_word, skipped, when, word_refusal, opened_at, is_pointer_word, form_type_at, index_at, element_behind}
+use Rattle.lx_ir_constants.specs.Grammar.{AreItems, AreFlags, IsOpened, IsIndex}
 use Rattle.lx_ir_constants.proofs.ListLaws.{closed_again, closed_found}
 
 -- A word or a mark that a form names.
@@ -55,22 +50,23 @@ split_and : (a b : Bool) → (a && b) ≡ true → (a ≡ true) × (b ≡ true)
 split_and true b h = (refl, h)
 split_and false b h = cc
 
-flags_skipped : (ts us : List Tok) (t : Tok) → AreFlags ts → is_flag_word t.kind ≡ false → skipped is_flag_word (ts ++ t ∷ us) ≡ t ∷ us
-flags_skipped [] us t e n = rw n refl
-flags_skipped (f ∷ ts) us t e n =
-    let s = split_and (is_flag_word f.kind) (list_all (λ u. is_flag_word u.kind) ts) e in
-    rw s.0 (flags_skipped ts us t s.1 n)
+pub flags_over : (fs vs : List Tok) → AreFlags fs → has is_flag_word vs ≡ false → skipped is_flag_word (fs ++ vs) ≡ vs
+flags_over [] [] e n = refl
+flags_over [] (t ∷ vs) e n = rw n refl
+flags_over (f ∷ fs) vs e n =
+    let s = split_and (is_flag_word f.kind) (list_all (λ u. is_flag_word u.kind) fs) e in
+    rw s.0 (flags_over fs vs s.1 n)
 
 pub opened_reads : Reads opened_at tt IsOpened
 opened_reads ts us (f, b, e, (t, k, g), w) =
     let whole : ts ++ us ≡ f ++ t ∷ us = rw (w, g) (append_assoc f (t ∷ []) us) in
-    rw (whole, flags_skipped f us t e (no_flag t.kind k), k) refl
+    rw (whole, flags_over f (t ∷ us) e (no_flag t.kind k), k) refl
 
 skip_step : (b : Bool) (t : Tok) (ts rest : List Tok) → is_flag_word t.kind ≡ b → ((front : List Tok) × AreFlags front × (ts ≡ front ++ skipped is_flag_word ts)) → (front : List Tok) × AreFlags front × (t ∷ ts ≡ front ++ skipped is_flag_word (t ∷ ts))
 skip_step true t ts rest e w = (t ∷ w.0, rw e w.1, rw e (ap (λ r. t ∷ r) w.2))
 skip_step false t ts rest e w = ([], refl, rw e refl)
 
-flags_found : (ts : List Tok) → (front : List Tok) × AreFlags front × (ts ≡ front ++ skipped is_flag_word ts)
+pub flags_found : (ts : List Tok) → (front : List Tok) × AreFlags front × (ts ≡ front ++ skipped is_flag_word ts)
 flags_found [] = ([], refl, refl)
 flags_found (t ∷ ts) = skip_step (is_flag_word t.kind) t ts [] refl (flags_found ts)
 
@@ -121,13 +117,13 @@ element ty base indices = record { ty = ty; base = base; indices = indices }
 -- what stands behind the word of a `getelementptr`
 abbrev pub IsRest : Context → (Pointer → Part) → Element → Part
 IsRest context base e =
-    IsOpened then IsType context e.ty depth_limit then IsMark Comma then Is is_pointer_word then base e.base
+    IsOpened then IsWritten context e.ty then IsMark Comma then Is is_pointer_word then base e.base
     then IsMark Comma then AreItems IsIndex e.indices then IsMark CloseParenthesis
 
 pub element_reads : (context : Context) (item : List Tok → Read Pointer) (base : Pointer → Part) → ((p : Pointer) → Reads item p (base p)) → (e : Element) → Reads (element_behind context item) e (IsRest context base e)
 element_reads context item base h e =
-    bind_reads opened_at (λ o. type_at context depth_limit o.1 >>= λ t. mark_at Comma t.1 >>= λ c. form_type_at is_pointer_word c.1 >>= λ p. item p.1 >>= λ b. mark_at Comma b.1 >>= λ d. closed_at CloseParenthesis index_at d.1 >>= λ is. Ok (element t.0 b.0 is.0, is.1)) tt e _ _ opened_reads
-    (bind_reads (type_at context depth_limit) (λ t. mark_at Comma t.1 >>= λ c. form_type_at is_pointer_word c.1 >>= λ p. item p.1 >>= λ b. mark_at Comma b.1 >>= λ d. closed_at CloseParenthesis index_at d.1 >>= λ is. Ok (element t.0 b.0 is.0, is.1)) e.ty e _ _ (type_again context e.ty depth_limit)
+    bind_reads opened_at (λ o. written_type_at context o.1 >>= λ t. mark_at Comma t.1 >>= λ c. form_type_at is_pointer_word c.1 >>= λ p. item p.1 >>= λ b. mark_at Comma b.1 >>= λ d. closed_at CloseParenthesis index_at d.1 >>= λ is. Ok (element t.0 b.0 is.0, is.1)) tt e _ _ opened_reads
+    (bind_reads (written_type_at context) (λ t. mark_at Comma t.1 >>= λ c. form_type_at is_pointer_word c.1 >>= λ p. item p.1 >>= λ b. mark_at Comma b.1 >>= λ d. closed_at CloseParenthesis index_at d.1 >>= λ is. Ok (element t.0 b.0 is.0, is.1)) e.ty e _ _ (written_again context e.ty)
     (bind_reads (mark_at Comma) (λ c. form_type_at is_pointer_word c.1 >>= λ p. item p.1 >>= λ b. mark_at Comma b.1 >>= λ d. closed_at CloseParenthesis index_at d.1 >>= λ is. Ok (element e.ty b.0 is.0, is.1)) tt e _ _ (next_reads (is_mark Comma))
     (bind_reads (form_type_at is_pointer_word) (λ p. item p.1 >>= λ b. mark_at Comma b.1 >>= λ d. closed_at CloseParenthesis index_at d.1 >>= λ is. Ok (element e.ty b.0 is.0, is.1)) tt e _ _ (form_reads is_pointer_word refusal)
     (bind_reads item (λ b. mark_at Comma b.1 >>= λ d. closed_at CloseParenthesis index_at d.1 >>= λ is. Ok (element e.ty b.0 is.0, is.1)) e.base e _ _ (h e.base)
@@ -136,7 +132,7 @@ element_reads context item base h e =
 
 abbrev RestParts : Context → (Pointer → Part) → Element → Part
 RestParts context base =
-    Joined (λ (o : Unit {0}). IsOpened) (λ o. Joined (λ t. IsType context t depth_limit) (λ t. Joined (λ (c : Unit {0}). IsMark Comma) (λ c. Joined (λ (p : Unit {0}). Is is_pointer_word) (λ p. Joined base (λ b. Joined (λ (d : Unit {0}). IsMark Comma) (λ d. Mapped (λ (is : List Word). element t b is) (λ is. AreItems IsIndex is then IsMark CloseParenthesis)))))))
+    Joined (λ (o : Unit {0}). IsOpened) (λ o. Joined (λ t. IsWritten context t) (λ t. Joined (λ (c : Unit {0}). IsMark Comma) (λ c. Joined (λ (p : Unit {0}). Is is_pointer_word) (λ p. Joined base (λ b. Joined (λ (d : Unit {0}). IsMark Comma) (λ d. Mapped (λ (is : List Word). element t b is) (λ is. AreItems IsIndex is then IsMark CloseParenthesis)))))))
 
 rest_part : (context : Context) (base : Pointer → Part) (e : Element) (ts : List Tok) → RestParts context base e ts → IsRest context base e ts
 rest_part context base e ts (o, (f, b, po, (t, (f2, b2, pt, (c, (f3, b3, pc, (p, (f4, b4, pp, (q, (f5, b5, pq, (d, (f6, b6, pd, (is, pis, eq), e6)), e5)), e4)), e3)), e2)), e1)) =
@@ -144,8 +140,8 @@ rest_part context base e ts (o, (f, b, po, (t, (f2, b2, pt, (c, (f3, b3, pc, (p,
 
 pub element_finds : (context : Context) (item : List Tok → Read Pointer) (base : Pointer → Part) → Finds item base → Finds (element_behind context item) (IsRest context base)
 element_finds context item base h ts us e g =
-    let w = bind_finds opened_at (λ o. type_at context depth_limit o.1 >>= λ t. mark_at Comma t.1 >>= λ c. form_type_at is_pointer_word c.1 >>= λ p. item p.1 >>= λ b. mark_at Comma b.1 >>= λ d. closed_at CloseParenthesis index_at d.1 >>= λ is. Ok (element t.0 b.0 is.0, is.1)) _ _ opened_finds
-    (λ o. bind_finds (type_at context depth_limit) (λ t. mark_at Comma t.1 >>= λ c. form_type_at is_pointer_word c.1 >>= λ p. item p.1 >>= λ b. mark_at Comma b.1 >>= λ d. closed_at CloseParenthesis index_at d.1 >>= λ is. Ok (element t.0 b.0 is.0, is.1)) _ _ (type_found context depth_limit)
+    let w = bind_finds opened_at (λ o. written_type_at context o.1 >>= λ t. mark_at Comma t.1 >>= λ c. form_type_at is_pointer_word c.1 >>= λ p. item p.1 >>= λ b. mark_at Comma b.1 >>= λ d. closed_at CloseParenthesis index_at d.1 >>= λ is. Ok (element t.0 b.0 is.0, is.1)) _ _ opened_finds
+    (λ o. bind_finds (written_type_at context) (λ t. mark_at Comma t.1 >>= λ c. form_type_at is_pointer_word c.1 >>= λ p. item p.1 >>= λ b. mark_at Comma b.1 >>= λ d. closed_at CloseParenthesis index_at d.1 >>= λ is. Ok (element t.0 b.0 is.0, is.1)) _ _ (written_found context)
     (λ t. bind_finds (mark_at Comma) (λ c. form_type_at is_pointer_word c.1 >>= λ p. item p.1 >>= λ b. mark_at Comma b.1 >>= λ d. closed_at CloseParenthesis index_at d.1 >>= λ is. Ok (element t b.0 is.0, is.1)) _ _ (next_finds (is_mark Comma))
     (λ c. bind_finds (form_type_at is_pointer_word) (λ p. item p.1 >>= λ b. mark_at Comma b.1 >>= λ d. closed_at CloseParenthesis index_at d.1 >>= λ is. Ok (element t b.0 is.0, is.1)) _ _ (form_finds is_pointer_word refusal)
     (λ p. bind_finds item (λ b. mark_at Comma b.1 >>= λ d. closed_at CloseParenthesis index_at d.1 >>= λ is. Ok (element t b.0 is.0, is.1)) _ _ h

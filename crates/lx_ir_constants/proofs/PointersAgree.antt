@@ -1,5 +1,5 @@
 -- Pointers, nested in one another.
-use Rattle.std.proofs.Common.{◌≡◌, ℕ, zero, suc, Bool, true, false, Option, Some, None, List, [], ◌∷◌, ◌++◌, Result, Ok, Err, ◌⊎◌, inl, inr, refl, sym, ap, ◌∙◌, subst}
+use Rattle.std.proofs.Common.{◌≡◌, ℕ, zero, suc, Bool, true, false, Some, List, [], ◌∷◌, ◌++◌, Ok, Err, ◌⊎◌, inl, inr, refl, sym, ap, ◌∙◌}
 use Rattle.std.specs.Prelude.{if◌then◌else◌}
 use Rattle.lx_ir_tokens.specs.declared.token.Tok.{Tok}
 use Rattle.lx_ir_tokens.specs.declared.token.Kind.{Kind}
@@ -14,11 +14,11 @@ use Rattle.lx_ir.specs.declared.module.Pointer.{Pointer}
 use Rattle.lx_ir.specs.declared.module.Pointer.TheVariants as pointers
 use Rattle.lx_ir_terms.specs.declared.fault.FaultKind.TheVariants.{OutOfProfile}
 use Rattle.lx_ir_terms.specs.Context.{Context}
-use Rattle.lx_ir_terms.specs.Reading.{Read, ◌>>=◌, at, refusal, has, behind, is_mark, is_to, pick_at, next_at, mark_at}
+use Rattle.lx_ir_terms.specs.Reading.{Read, ◌>>=◌, at, refusal, has, behind, is_mark, is_to, next_at, mark_at}
 use Rattle.lx_ir_terms.specs.Grammar.{Part, Picks, Is, IsMark, ◌then◌}
 use Rattle.lx_ir_terms.specs.Laws.{Reads, Finds}
-use Rattle.lx_ir_terms.proofs.Marks.{Next, next_token}
-use Rattle.lx_ir_terms.proofs.Parts.{Joined, Mapped, pick_reads, next_reads, bind_reads, last_reads, behind_reads, pick_finds, next_finds, bind_finds, last_finds, ok_same}
+use Rattle.lx_ir_terms.proofs.Marks.{next_token}
+use Rattle.lx_ir_terms.proofs.Parts.{Joined, Mapped, pick_reads, next_reads, bind_reads, last_reads, behind_reads, pick_finds, next_finds, bind_finds, last_finds}
 use Rattle.lx_ir_constants.specs.declared.element.Element.{Element}
 use Rattle.lx_ir_constants.specs.Constants.{number_in, number_refusal, number_at, opened_at, is_pointer_word, is_long_word, form_type_at, is_element_word, is_address_word, flat_pointer_of, flat_pointer_at, constant_refusal, address_of, element_behind, address_behind, begins_pointer, nested_pointer_at, pointer_at}
 use Rattle.lx_ir_constants.specs.Grammar.{IsOpened, IsElement, IsAddress, IsFlatPointer, IsPointerExpression, IsPointer}
@@ -84,11 +84,11 @@ address_kind : (k : Kind) → is_address_word k ≡ true → is_element_word k �
 address_kind (kinds.Word (keywords.Instruction (Conversion IntToPtr))) h = refl
 address_kind k h = cc
 
-no_element : (ts : List Tok) → has is_address_word ts ≡ true → has is_element_word ts ≡ false
+pub no_element : (ts : List Tok) → has is_address_word ts ≡ true → has is_element_word ts ≡ false
 no_element [] h = cc
 no_element (t ∷ ts) h = address_kind t.kind h
 
-an_address : (ts : List Tok) → has begins_pointer ts ≡ true → has is_element_word ts ≡ false → has is_address_word ts ≡ true
+pub an_address : (ts : List Tok) → has begins_pointer ts ≡ true → has is_element_word ts ≡ false → has is_address_word ts ≡ true
 an_address [] h e = cc
 an_address (t ∷ ts) h e = neither (is_element_word t.kind) (is_address_word t.kind) h e
 

@@ -32,7 +32,7 @@ use Rattle.lx_ir_terms.specs.declared.fault.FaultKind.{FaultKind}
 use Rattle.lx_ir_terms.specs.declared.fault.FaultKind.TheVariants.{Statement, OutOfProfile, Unknown}
 use Rattle.lx_ir_terms.specs.Context.{Context, symbol_of, register_number}
 use Rattle.lx_ir_terms.specs.Reading.{Read, ◌>>=◌, at, refusal, behind, pick_at, is_mark, is_to, has, next_at, mark_at, closed_at}
-use Rattle.lx_ir_terms.specs.Types.{integer_at, type_at, depth_limit}
+use Rattle.lx_ir_terms.specs.Types.{integer_at, depth_limit, written_type_at}
 
 -- Numbers.
 
@@ -162,7 +162,7 @@ index_at ts = do
 abbrev pub element_behind : Context → (List Tok → Read Pointer) → List Tok → Read Element
 element_behind context item ts = do
   o ← opened_at ts
-  t ← type_at context depth_limit o.1
+  t ← written_type_at context o.1
   c ← mark_at Comma t.1
   p ← form_type_at is_pointer_word c.1
   base ← item p.1

@@ -16,7 +16,7 @@ use Rattle.lx_ir.specs.declared.module.Value.TheVariants as values
 use Rattle.lx_ir_terms.specs.Context.{Context, register_number}
 use Rattle.lx_ir_terms.specs.Reading.{is_mark, is_to}
 use Rattle.lx_ir_terms.specs.Types.{integer_in, depth_limit}
-use Rattle.lx_ir_terms.specs.Grammar.{Part, Picks, Is, IsMark, IsNothing, ◌then◌, IsType}
+use Rattle.lx_ir_terms.specs.Grammar.{Part, Picks, Is, IsMark, IsNothing, ◌then◌, IsWritten}
 use Rattle.lx_ir_constants.specs.declared.element.Element.{Element}
 use Rattle.lx_ir_constants.specs.Constants.{number_in, is_flag_word, is_pointer_word, is_long_word, is_element_word, is_address_word, is_cast_word, flat_pointer_of, flat_constant_of, address_of, is_register}
 
@@ -48,7 +48,7 @@ IsIndex i = Picks (λ t. integer_in t.kind) i.width then Picks (λ t. number_in 
 -- `getelementptr (T, ptr c, I i, ..)`, where c stands so
 abbrev pub IsElement : Context → (Pointer → Part) → Element → Part
 IsElement context base e =
-    Is is_element_word then IsOpened then IsType context e.ty depth_limit then IsMark Comma then Is is_pointer_word then base e.base
+    Is is_element_word then IsOpened then IsWritten context e.ty then IsMark Comma then Is is_pointer_word then base e.base
     then IsMark Comma then AreItems IsIndex e.indices then IsMark CloseParenthesis
 
 -- `inttoptr (i64 n to ptr)`

@@ -7,8 +7,7 @@ use Rattle.lx_ir.specs.declared.module.Brackets.TheVariants as brackets
 use Rattle.lx_ir.specs.IrType.{IrType}
 use Rattle.lx_ir.specs.Init.{Init, Plain}
 use Rattle.lx_ir_terms.specs.Context.{Context}
-use Rattle.lx_ir_terms.specs.Types.{depth_limit}
-use Rattle.lx_ir_terms.specs.Grammar.{Part, Picks, IsMark, IsNothing, ◌then◌, IsType}
+use Rattle.lx_ir_terms.specs.Grammar.{Part, Picks, IsMark, IsNothing, ◌then◌, IsWritten}
 use Rattle.lx_ir_constants.specs.declared.inits.Member.{Member}
 use Rattle.lx_ir_constants.specs.Inits.{flat_init_of, members_of, group}
 use Rattle.lx_ir_constants.specs.Grammar.{AreItems, IsExpression}
@@ -25,7 +24,7 @@ AreListed item (x ∷ xs) = AreItems item (x ∷ xs)
 
 -- `T c`
 abbrev pub IsMember : Context → (IrType → Init → Part) → Member → Part
-IsMember context init m = IsType context m.ty depth_limit then init m.ty m.init
+IsMember context init m = IsWritten context m.ty then init m.ty m.init
 
 -- the items of a group, inside its marks
 abbrev pub IsArrayGroup : (Member → Part) → List Member → Part

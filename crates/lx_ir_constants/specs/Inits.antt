@@ -19,7 +19,7 @@ use Rattle.lx_ir.specs.InitNodes.{inits_of_list}
 use Rattle.lx_ir_terms.specs.declared.fault.FaultKind.TheVariants.{OutOfProfile}
 use Rattle.lx_ir_terms.specs.Context.{Context, symbol_of, bytes_of}
 use Rattle.lx_ir_terms.specs.Reading.{Read, ◌>>=◌, at, behind, pick_at, is_mark, has, mark_at, items_at}
-use Rattle.lx_ir_terms.specs.Types.{is_opening, type_at, depth_limit}
+use Rattle.lx_ir_terms.specs.Types.{is_opening, written_type_at}
 use Rattle.lx_ir_constants.specs.declared.inits.Member.{Member}
 use Rattle.lx_ir_constants.specs.declared.inits.Members.{Members}
 use Rattle.lx_ir_constants.specs.Constants.{number_in, constant_refusal, blank_of, symbol_pointer, begins_expression, expression_at}
@@ -61,7 +61,7 @@ leaf_at context depth ty ts =
 -- `T c`, where c is read in this way behind its type
 abbrev pub member_at : Context → (IrType → List Tok → Read Init) → List Tok → Read Member
 member_at context init ts = do
-  t ← type_at context depth_limit ts
+  t ← written_type_at context ts
   i ← init t.0 t.1
   Ok (record { ty = t.0; init = i.0 }, i.1)
 

@@ -1,7 +1,7 @@
 //! Constants, operands and initialisers of IR text: which tokens they are, and how they are read.
 #![tactic(auto)]
 
-ghost use Rattle.lx_ir_constants.specs.Laws.{ConstantsAreRead, ConstantsAreFound, ValuesAreRead, ValuesAreFound, InitsAreRead, InitsAreFound};
+ghost use Rattle.lx_ir_constants.specs.Laws.{ConstantsAreRead, ConstantsAreFound, ValuesAreRead, ValuesAreFound, InitsAreRead, InitsAreFound, ConstantsAreRefused, ValuesAreRefused, InitsAreRefused};
 
 mod constants;
 mod element;
@@ -16,7 +16,8 @@ pub use inits::init;
 pub use misplaced::is_misplaced;
 pub use numbers::number_in;
 
-/// Reading and the grammar of constants, operands and initialisers agree.
+/// Reading and the grammar of constants, operands and initialisers agree, and a token at which reading stops cannot stand
+/// there.
 pub fn constant_laws()
     ensures constants_read { ConstantsAreRead }
     ensures constants_found { ConstantsAreFound }
@@ -24,6 +25,9 @@ pub fn constant_laws()
     ensures values_found { ValuesAreFound }
     ensures inits_read { InitsAreRead }
     ensures inits_found { InitsAreFound }
+    ensures constants_refused { ConstantsAreRefused }
+    ensures values_refused { ValuesAreRefused }
+    ensures inits_refused { InitsAreRefused }
 {}
 
 #[cfg(test)]

@@ -17,6 +17,7 @@ fn nothing_known(tokens: &IrTokens) -> Context<'_> {
         registers: &[],
         named: &[],
         layouts: &[],
+        limits: None,
         names: &tokens.names,
         complete: true,
     }

@@ -1,2 +1,3 @@
 pub mod Offsets
 pub mod Laws
+pub mod Shapes

@@ -1,5 +1,5 @@
 -- How far constant indices go, where types may lie outside the limits.
-use Rattle.std.specs.Prelude.{ℕ, zero, suc, ◌+◌, ◌*◌, ◌%◌, ◌^◌, Bool, true, false, Option, Some, None, List, [], ◌∷◌, slice_get, nat_le, if◌then◌else◌}
+use Rattle.std.specs.Prelude.{ℕ, zero, suc, ◌+◌, ◌*◌, ◌%◌, ◌^◌, Bool, true, false, Option, Some, None, List, [], ◌∷◌, slice_get, map, nat_le, if◌then◌else◌}
 use Rattle.std.specs.Option.{option_flatten}
 use Rattle.lx_words.specs.declared.word.Width.{Width}
 use Rattle.lx_words.specs.declared.word.Width.TheVariants.{W32, W64}
@@ -42,6 +42,15 @@ abbrev mutual
   fit_fields layouts packed none laid = Some laid
   fit_fields layouts packed (also t ts) laid =
       fit_type layouts t >>? λ l. laid_beside packed laid l >>? λ more. fit_fields layouts packed ts more
+
+-- the layouts of the named types through at most so many names
+abbrev pub layouts_through : List NamedType → ℕ → Layouts
+layouts_through types zero = map (λ e. None) types
+layouts_through types (suc n) = map (λ e. fit_type (layouts_through types n) e.ty) types
+
+-- the layouts of the named types. One that is within the limits goes through at most 64 names
+abbrev pub fitting_layouts : List NamedType → Layouts
+fitting_layouts types = layouts_through types 64
 
 -- how far an index goes, counted in values of so many bytes, modulo 2^64
 abbrev pub scaled : Word → ℕ → ℕ

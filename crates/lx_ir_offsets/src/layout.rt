@@ -1,16 +1,20 @@
 //! How types lie in memory, by the layouts of the named types.
 
-ghost use Rattle.std.specs.Prelude.{◌≡◌, ◌*◌, ◌<◌, ◌≤◌};
+ghost use Rattle.std.specs.Prelude.{◌≡◌, ◌*◌, ◌<◌, ◌≤◌, None, IfOk, map};
 ghost use Rattle.lx_ir.specs.Layout.{layout, field_start, beside, padded, scalar_size};
 ghost use Rattle.lx_ir.specs.TypeNodes.{types_of_list};
-ghost use Rattle.lx_ir_offsets.specs.Offsets.{limited, named_layout, laid_beside, fit_type, fit_fields, ◌>>?◌};
+ghost use Rattle.lx_ir_offsets.specs.Offsets.{limited, named_layout, laid_beside, fit_type, fit_fields, layouts_through, fitting_layouts, ◌>>?◌};
 
-use lx_ir::types::{IrType, Scalar, TypeNode};
-use lx_words::Width;
+use lx_ir::types::{IrType, NamedType, Scalar, TypeNode};
+use lx_words::{Items, Memory, Width};
+use std::alloc::Global;
 use std::marker::Model;
 
 /// The most bytes that a type may take.
 const MOST_BYTES: u64 = 1 << 32;
+
+/// How many names a type within the limits goes through at most, one in another.
+pub const MOST_NAMES: u32 = 64;
 
 /// How many bytes a type takes, at most 2^32, and what its addresses are divisible by.
 #[derive(Clone, Copy, Debug, PartialEq, Eq)]
@@ -141,4 +145,40 @@ fn fit_fields(layouts: &[Option<Layout>], packed: bool, fields: &[IrType]) -> Op
         laid = laid.beside(packed, fit_type(layouts, field)?)?;
     }
     Some(laid)
+}
+
+/// The layouts of the named types through one name more.
+fn next_layouts(
+    alloc: Global,
+    types: &[NamedType],
+    layouts: &[Option<Layout>],
+) -> Result<Items<Option<Layout>>, Memory>
+    ensures { IfOk result (λ next. next ≡ map (λ e. fit_type layouts.now e.ty) types.now) }
+{
+    let mut next = Items::new(alloc);
+    for named in types {
+        next.push(fit_type(layouts, &named.ty))?;
+    }
+    Ok(next)
+}
+
+fn no_layouts(alloc: Global, types: &[NamedType]) -> Result<Items<Option<Layout>>, Memory>
+    ensures { IfOk result (λ layouts. layouts ≡ map (λ e. None) types.now) }
+{
+    let mut layouts = Items::new(alloc);
+    for _ in types {
+        layouts.push(None)?;
+    }
+    Ok(layouts)
+}
+
+/// The layouts of the named types; none for one that is outside the limits, or that a type in it is.
+pub fn fitting_layouts(alloc: Global, types: &[NamedType]) -> Result<Items<Option<Layout>>, Memory>
+    ensures { IfOk result (λ layouts. layouts ≡ fitting_layouts types.now) }
+{
+    let mut layouts = no_layouts(alloc, types)?;
+    for _ in 0..MOST_NAMES {
+        layouts = next_layouts(alloc, types, layouts.as_slice())?;
+    }
+    Ok(layouts)
 }

@@ -1,13 +1,15 @@
-//! How far constant indices go, over types that may lie outside the limits.
+//! How far constant indices go, over types that may lie outside the limits, and which types do.
 #![tactic(auto)]
 
 ghost use Rattle.lx_ir_offsets.specs.Laws.{FitsAreLayouts};
 
 mod layout;
 mod offset;
+mod shape;
 
-pub use layout::{Layout, fit_type};
+pub use layout::{Layout, fit_type, fitting_layouts};
 pub use offset::{distance, part_at};
+pub use shape::{Shape, is_outside, left_behind, named_shapes};
 
 /// The layout that is kept of a type within the limits is that of its definition.
 pub fn layout_laws()

@@ -7,3 +7,4 @@ pub mod Stopping
 pub mod TypeLaws
 pub mod TypeStops
 pub mod TypesFound
+pub mod Written

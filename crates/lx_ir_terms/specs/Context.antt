@@ -4,6 +4,7 @@ use Rattle.std.specs.Option.{option_flatten}
 use Rattle.lx_ir.specs.declared.types.NamedType.{NamedType}
 use Rattle.lx_ir.specs.declared.module.Symbol.{Symbol}
 use Rattle.lx_ir_offsets.specs.Offsets.{Layouts}
+use Rattle.lx_ir_offsets.specs.Shapes.{Shape}
 use Rattle.lx_ir.specs.declared.module.Symbol.TheVariants.{Global}
 
 pub record Context : Type 0 where
@@ -13,6 +14,8 @@ pub record Context : Type 0 where
   -- the types by their numbers, and their layouts
   pub named : List NamedType
   pub layouts : Layouts
+  -- their shapes, where types have to be within the limits as they are written
+  pub limits : Option (List Shape)
   -- the names of the text, and what its byte strings say
   pub names : List (List ℕ)
   pub complete : Bool

@@ -1,13 +1,14 @@
 -- Which tokens types are: the grammar, apart from how it is read.
-use Rattle.std.specs.Prelude.{◌≡◌, ℕ, zero, suc, Bool, true, Option, Some, List, [], ◌∷◌, ◌++◌}
+use Rattle.std.specs.Prelude.{◌≡◌, ℕ, zero, suc, Bool, true, Option, Some, None, List, [], ◌∷◌, ◌++◌}
 use Rattle.lx_ir_tokens.specs.declared.token.Tok.{Tok}
 use Rattle.lx_ir_tokens.specs.declared.token.Kind.{Kind}
 use Rattle.lx_ir_tokens.specs.declared.token.Mark.{Mark}
 use Rattle.lx_ir_tokens.specs.declared.token.Mark.TheVariants.{Comma, OpenBrace, CloseBrace, OpenBracket, CloseBracket, Less, Greater}
 use Rattle.lx_ir.specs.IrType.{IrType, One, Array, Struct, Packed, Named, IrTypes, none, also}
+use Rattle.lx_ir_offsets.specs.Shapes.{Shape, is_inside}
 use Rattle.lx_ir_terms.specs.Context.{Context}
 use Rattle.lx_ir_terms.specs.Reading.{is_mark, is_times}
-use Rattle.lx_ir_terms.specs.Types.{count_in, flat_in}
+use Rattle.lx_ir_terms.specs.Types.{count_in, flat_in, depth_limit}
 
 -- which lists of tokens a part of the grammar is
 abbrev pub Part : Type 1
@@ -56,3 +57,12 @@ abbrev mutual
   pub AreMore : Context → IrTypes → ℕ → Part
   AreMore context none depth = IsNothing
   AreMore context (also t ts) depth = IsMark Comma then IsType context t depth then AreMore context ts depth
+
+-- the type, and each that is written in it, is within the limits, where there are any
+abbrev pub is_inside_limits : Option (List Shape) → IrType → Bool
+is_inside_limits None t = true
+is_inside_limits (Some shapes) t = is_inside shapes t
+
+-- these tokens are this type as it is written
+abbrev pub IsWritten : Context → IrType → Part
+IsWritten context t ts = IsType context t depth_limit ts × (is_inside_limits context.limits t ≡ true)

@@ -1,12 +1,12 @@
 -- Reading and the grammar of types agree.
-use Rattle.std.specs.Prelude.{◌≡◌, ℕ, List, ◌∷◌, ◌++◌, length, Ok, Err}
+use Rattle.std.specs.Prelude.{◌≡◌, ℕ, None, List, ◌∷◌, ◌++◌, length, Ok, Err}
 use Rattle.lx_ir_tokens.specs.declared.token.Tok.{Tok}
 use Rattle.lx_ir.specs.IrType.{IrType}
 use Rattle.lx_ir_terms.specs.declared.fault.Fault.{Fault}
 use Rattle.lx_ir_terms.specs.Context.{Context}
 use Rattle.lx_ir_terms.specs.Reading.{Read, at}
-use Rattle.lx_ir_terms.specs.Types.{type_at}
-use Rattle.lx_ir_terms.specs.Grammar.{Part, IsType}
+use Rattle.lx_ir_terms.specs.Types.{type_at, written_type_at}
+use Rattle.lx_ir_terms.specs.Grammar.{Part, IsType, IsWritten}
 
 -- what is in this part of the grammar is read as `x`, whatever follows
 abbrev pub Reads : {A : Type 0} → (List Tok → Read A) → A → Part → Type 0
@@ -35,3 +35,14 @@ pub record Stops {A : Type 0} (read : List Tok → Read A) (ts : List Tok) (faul
 -- a token at which the reading of a type stops cannot stand there
 abbrev pub TypesAreRefused : Type 0
 TypesAreRefused = (context : Context) (depth : ℕ) (ts : List Tok) (fault : Fault) → type_at context depth ts ≡ Err fault → Stops (type_at context depth) ts fault
+
+-- the same of types as they are written
+abbrev pub WrittenAreRead : Type 0
+WrittenAreRead = (context : Context) (t : IrType) → Reads (written_type_at context) t (IsWritten context t)
+
+abbrev pub WrittenAreFound : Type 0
+WrittenAreFound = (context : Context) → Finds (written_type_at context) (IsWritten context)
+
+-- and, where no limits are asked, of the token at which their reading stops
+abbrev pub WrittenAreRefused : Type 0
+WrittenAreRefused = (context : Context) → context.limits ≡ None → (ts : List Tok) (fault : Fault) → written_type_at context ts ≡ Err fault → Stops (written_type_at context) ts fault

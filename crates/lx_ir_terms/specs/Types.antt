@@ -1,5 +1,5 @@
 -- Reading types.
-use Rattle.std.specs.Prelude.{ℕ, zero, suc, min, Bool, false, ◌||◌, Option, Some, None, List, Ok, Err, if◌then◌else◌, option_map, pos}
+use Rattle.std.specs.Prelude.{ℕ, zero, suc, min, Bool, false, ◌||◌, Option, Some, None, List, length, Result, Ok, Err, if◌then◌else◌, option_map, pos}
 use Rattle.lx_ir_tokens.specs.declared.token.Tok.{Tok}
 use Rattle.lx_ir_tokens.specs.declared.token.Kind.{Kind}
 use Rattle.lx_ir_tokens.specs.declared.token.Kind.TheVariants as kinds
@@ -14,6 +14,8 @@ use Rattle.lx_ir.specs.IrType.{IrType, One, Array, Struct, Packed, Named}
 use Rattle.lx_ir.specs.TypeNodes.{types_of_list}
 use Rattle.lx_ir_terms.specs.declared.fault.FaultKind.{FaultKind}
 use Rattle.lx_ir_terms.specs.declared.fault.FaultKind.TheVariants.{Statement, OutOfProfile, Unknown}
+use Rattle.lx_ir_offsets.specs.Shapes.{Shape, left_behind}
+use Rattle.lx_ir_terms.specs.declared.fault.Fault.{Fault}
 use Rattle.lx_ir_terms.specs.Context.{Context, type_number}
 use Rattle.lx_ir_terms.specs.Reading.{Read, ◌>>=◌, at, refusal, behind, pick_at, is_mark, is_times, has, next_at, mark_at, listed_at}
 
@@ -133,3 +135,20 @@ type_at context (suc depth) ts = if has is_opening ts then nested_at (type_at co
 -- how deep types and constants nest at most
 abbrev pub depth_limit : ℕ
 depth_limit = 64
+
+-- no token, behind a type in which none is outside the limits
+abbrev pub unless_outside : Result ℕ ℕ → List Tok → Read (Unit {0})
+unless_outside (Ok behind) ts = Ok (tt, ts)
+unless_outside (Err left) ts = Err (record { kind = OutOfProfile; left = left })
+
+-- the same behind a type that was written with so many tokens left, where types have to be within the limits
+abbrev pub within_at : Option (List Shape) → ℕ → IrType → List Tok → Read (Unit {0})
+within_at None left t ts = Ok (tt, ts)
+within_at (Some shapes) left t ts = unless_outside (left_behind shapes t left) ts
+
+-- a type as it is written
+abbrev pub written_type_at : Context → List Tok → Read IrType
+written_type_at context ts = do
+  t ← type_at context depth_limit ts
+  w ← within_at context.limits (length ts) t.0 t.1
+  Ok (t.0, w.1)

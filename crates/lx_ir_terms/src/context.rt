@@ -5,7 +5,7 @@ ghost use Rattle.lx_ir_terms.specs.Context.{entry, unless_complete, type_number,
 
 use lx_ir::module::Symbol;
 use lx_ir::types::NamedType;
-use lx_ir_offsets::Layout;
+use lx_ir_offsets::{Layout, Shape};
 use lx_ir_tokens::NameTable;
 use std::marker::Model;
 
@@ -25,6 +25,8 @@ pub struct Context<'a> {
     pub named: &'a [NamedType],
     /// Their layouts; none for a type that is outside the limits.
     pub layouts: &'a [Option<Layout>],
+    /// Their shapes, where types have to be within the limits as they are written.
+    pub limits: Option<&'a [Shape]>,
     /// The names of the text, and what its byte strings say.
     pub names: &'a NameTable,
     /// Whether the tables hold every type, function and global that the text may name.
@@ -32,6 +34,7 @@ pub struct Context<'a> {
 }
 
 impl<'a> Model for Context<'a> {
+    ghost use Rattle.std.specs.Prelude.{option_map};
     ghost use Rattle.lx_ir_terms.specs.Context.{Context as Meaning};
 
     ghost Value = { Meaning };
@@ -41,7 +44,7 @@ impl<'a> Model for Context<'a> {
 
     ghost coded = { Prim.hlevel (codes, ir_type.the_row.coded) };
 
-    ghost view = { λ c. record { types = c.types.now; symbols = c.symbols.now; registers = c.registers.now; named = c.named.now; layouts = c.layouts.now; names = c.names.now; complete = c.complete } };
+    ghost view = { λ c. record { types = c.types.now; symbols = c.symbols.now; registers = c.registers.now; named = c.named.now; layouts = c.layouts.now; limits = option_map (λ s. s.now) c.limits; names = c.names.now; complete = c.complete } };
 }
 
 fn entry<T: Copy>(table: &[Option<T>], name: u32) -> Option<T>

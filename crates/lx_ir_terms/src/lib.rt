@@ -1,7 +1,7 @@
 //! Types of IR text: which tokens they are, and how they are read.
 #![tactic(auto)]
 
-ghost use Rattle.lx_ir_terms.specs.Laws.{TypesAreRead, TypesAreFound, TypesAreRefused};
+ghost use Rattle.lx_ir_terms.specs.Laws.{TypesAreRead, TypesAreFound, TypesAreRefused, WrittenAreRead, WrittenAreFound, WrittenAreRefused};
 
 mod context;
 mod fault;
@@ -19,4 +19,7 @@ pub fn type_laws()
     ensures read { TypesAreRead }
     ensures found { TypesAreFound }
     ensures refused { TypesAreRefused }
+    ensures written_read { WrittenAreRead }
+    ensures written_found { WrittenAreFound }
+    ensures written_refused { WrittenAreRefused }
 {}

@@ -1,13 +1,14 @@
 //! Reading types.
 
 ghost use Rattle.std.specs.Prelude.{◌≡◌, ◌≤◌, length};
-ghost use Rattle.lx_ir_terms.specs.Reading.{Gives, has, items_at, listed_at};
-ghost use Rattle.lx_ir_terms.specs.Types.{scalar_of, scalar_in, integer_in, result_in, is_opening, scalar_refusal, scalar_at, integer_at, result_at, count_in, count_at, flat_in, flat_refusal, flat_at, array_behind, struct_behind, packed_behind, nested_at, type_at, depth_limit};
+ghost use Rattle.lx_ir_terms.specs.Reading.{Gives, Passes, has, items_at, listed_at};
+ghost use Rattle.lx_ir_terms.specs.Types.{scalar_of, scalar_in, integer_in, result_in, is_opening, scalar_refusal, scalar_at, integer_at, result_at, count_in, count_at, flat_in, flat_refusal, flat_at, array_behind, struct_behind, packed_behind, nested_at, type_at, depth_limit, within_at, written_type_at};
 
 use crate::context::Context;
-use crate::fault::{FaultKind, ReadError};
+use crate::fault::{Fault, FaultKind, ReadError};
 use crate::reader::{Reader, is_mark, refusal};
 use lx_ir::types::{IrType, Scalar, TypeNode};
+use lx_ir_offsets::left_behind;
 use lx_ir_tokens::{Keyword, Kind, Mark, ScalarWord, Tok};
 use lx_words::{Items, Width};
 use std::alloc::Global;
@@ -329,12 +330,46 @@ impl<'a> Reader<'a> {
         Ok(nested)
     }
 
-    /// A type.
-    pub fn ty(&mut self, alloc: Global, context: &Context<'_>) -> Result<IrType, ReadError>
+    /// A type whose nestings are counted alone.
+    fn nesting_type(&mut self, alloc: Global, context: &Context<'_>) -> Result<IrType, ReadError>
         ensures reads { Gives result self.new (type_at context.now depth_limit self.old) }
         ensures shrinks { length self.new ≤ length self.old }
     {
         let ty = self.ty_within(alloc, context, DEPTH_LIMIT)?;
+        Ok(ty)
+    }
+
+    /// Behind a type that was read with so many tokens left: the fault at the first type in it that is outside the limits,
+    /// where the context has limits.
+    fn within_limits(
+        &self,
+        context: &Context<'_>,
+        left: usize,
+        ty: &IrType,
+    ) -> Result<(), ReadError>
+        ensures { Passes result self.now (within_at context.now.limits left ty.now self.now) }
+    {
+        let Some(shapes) = context.limits else {
+            return Ok(());
+        };
+        match left_behind(shapes, ty, left) {
+            Ok(_) => Ok(()),
+            Err(left) => {
+                let kind = FaultKind::OutOfProfile;
+                Err(ReadError::Fault(Fault { kind, left }))
+            }
+        }
+    }
+
+    /// A type as it is written. Where the context has limits, a type that is outside them is a fault at its first token,
+    /// also inside another.
+    pub fn ty(&mut self, alloc: Global, context: &Context<'_>) -> Result<IrType, ReadError>
+        ensures reads { Gives result self.new (written_type_at context.now self.old) }
+        ensures shrinks { length self.new ≤ length self.old }
+    {
+        let left = self.left();
+        let ty = self.nesting_type(alloc, context)?;
+        self.within_limits(context, left, &ty)?;
         Ok(ty)
     }
 }

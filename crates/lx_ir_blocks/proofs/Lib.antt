@@ -1,0 +1,5 @@
+pub mod BlockLaws
+pub mod Filled
+pub mod RunLaws
+mod Shorter
+pub mod Starts

@@ -1,0 +1,3 @@
+pub mod Blocks
+pub mod Grammar
+pub mod Laws

@@ -1,0 +1,3 @@
+pub mod ArgumentLaws
+pub mod IntrinsicLaws
+pub mod CallLaws

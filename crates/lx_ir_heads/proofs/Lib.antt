@@ -1,0 +1,5 @@
+pub mod ImportLaws
+pub mod Onward
+pub mod ParameterLaws
+pub mod ParametersFound
+pub mod WordLaws

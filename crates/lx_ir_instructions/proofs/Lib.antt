@@ -1,0 +1,4 @@
+pub mod FormParts
+pub mod FormReads
+pub mod FormFinds
+pub mod InstructionLaws

@@ -1,0 +1,3 @@
+pub mod Instructions
+pub mod Grammar
+pub mod Laws

@@ -1,0 +1,13 @@
+pub mod AttributeLaws
+pub mod AttributeStops
+pub mod Chains
+pub mod Collecting
+pub mod FlagLaws
+pub mod ListedLaws
+pub mod ListedStops
+pub mod OperandLaws
+pub mod OperandStops
+pub mod PassedLaws
+pub mod Repeats
+pub mod Stepping
+pub mod Unbroken

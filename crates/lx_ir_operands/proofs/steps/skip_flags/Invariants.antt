@@ -1,0 +1,9 @@
+use Rattle.std.proofs.Common.{◌≡◌, ◌≤◌, length}
+use Rattle.lx_ir_constants.specs.Constants.{is_flag_word, skipped}
+use Rattle.lx_ir_operands.proofs.steps.skip_flags.Given as goal
+
+abbrev pub invariant-loop-reader : goal.invariant-loop-reader
+invariant-loop-reader l = record { passed : skipped is_flag_word l.reader ≡ skipped is_flag_word l.fn.reader; shrinks : length l.reader ≤ length l.fn.reader }
+
+abbrev pub decreases-loop-reader : goal.decreases-loop-reader
+decreases-loop-reader l = length l.reader

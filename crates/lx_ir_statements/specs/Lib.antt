@@ -1,0 +1,4 @@
+pub mod Defined
+pub mod Statements
+pub mod Grammar
+pub mod Laws
