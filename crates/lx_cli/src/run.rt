@@ -12,7 +12,7 @@ ghost use Rattle.lx_cli.specs.Runs.{is_lawful};
 use crate::answer::Answer;
 use lx_caps::{CapStore, PlainCaps};
 use lx_core::{EventFault, World};
-use lx_interp::Code;
+use lx_interp::straight_code;
 use lx_model::account::CallOutcome;
 use lx_model::program::{Calls, Program};
 use lx_model::request::Outcome;
@@ -93,7 +93,7 @@ fn run_world<C: CapStore + Drop>(
     ensures { IfOk result (λ a. (text : List ℕ) × (returned : Bool) × (a ≡ Answer.Report text returned) × IsReport program script.items returned text) }
 {
     let threads = script.len() as u32;
-    let mut world = World::open(alloc, Code::new(program), script, caps)?;
+    let mut world = World::open(alloc, straight_code(alloc, program), script, caps)?;
     run_threads(&mut world, threads)?;
     report_of(alloc, &world)
 }

@@ -40,7 +40,7 @@ outcomes_stand p t [] (x ∷ xs) a = absurd a
 outcomes_stand p t (r ∷ rs) [] a = absurd a
 outcomes_stand p t (r ∷ rs) (x ∷ xs) a =
     let rest = outcomes_stand p (t + 1) rs xs (subst (λ n. AllStand p n rs xs) (sym (add-one t)) a.1) in
-    λ i. map (call_outcome t) (a.0.ended i) ++ rest i
+    λ i. map (call_outcome t) (a.0.runs.ended i) ++ rest i
 
 -- without instances there are no names
 pub no_names : (ms : List ℕ) → flat_map (instance_names []) ms ≡ []

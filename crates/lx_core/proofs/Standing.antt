@@ -12,11 +12,10 @@ use Rattle.lx_model.specs.Serve.{serve}
 use Rattle.lx_model.specs.World.{World as Meaning, event, event_of, event_if, after_request, works, can_act}
 use Rattle.lx_interp.specs.declared.runner.Runner.{Runner}
 use Rattle.lx_model.specs.declared.program.ScriptCall.{ScriptCall}
-use Rattle.lx_interp.specs.Straight.{is_straight_call}
-use Rattle.lx_interp.specs.Runner.{StandsFor, AreStraight, calls_left}
+use Rattle.lx_interp.specs.Runner.{StandsFor as Runs, calls_left}
 use Rattle.lx_core.specs.declared.world.World.{World}
 use Rattle.lx_core.specs.Stands.{StandsForState}
-use Rattle.lx_core.specs.Worlds.{AllStand, StandsForWorld, HasTurned, HasStayed, is_idle, is_idle_at, are_straight}
+use Rattle.lx_core.specs.Worlds.{StandsFor, AllStand, StandsForWorld, HasTurned, HasStayed, is_idle, is_idle_at}
 use Rattle.lx_core.proofs.Turns.{has_work_of}
 
 -- the thread that a runner stands for
@@ -64,7 +63,7 @@ pub idle : (p : Program) (i k : ℕ) (rs : List Runner) (xs : List Thread) → A
 idle p i k [] [] all = refl
 idle p i k [] (x ∷ xs) all = absurd all
 idle p i k (y ∷ ys) [] all = absurd all
-idle p i zero (y ∷ ys) (x ∷ xs) all = ap (λ cs. not (has_call cs)) all.0.calls
+idle p i zero (y ∷ ys) (x ∷ xs) all = ap (λ cs. not (has_call cs)) all.0.runs.calls
 idle p i (suc k) (y ∷ ys) (x ∷ xs) all = idle p (suc i) k ys xs all.1
 
 -- an event of a thread that has work
@@ -147,7 +146,7 @@ all_idle p i [] [] all = refl
 all_idle p i [] (x ∷ xs) all = absurd all
 all_idle p i (y ∷ ys) [] all = absurd all
 all_idle p i (y ∷ ys) (x ∷ xs) all =
-    ap (λ cs. not (has_call cs) && list_all is_idle ys) all.0.calls
+    ap (λ cs. not (has_call cs) && list_all is_idle ys) all.0.runs.calls
     ∙ idle_more (has_work x) (list_any has_work xs) (list_all is_idle ys) (all_idle p (suc i) ys xs all.1)
 
 -- a further runner and its thread
@@ -162,24 +161,11 @@ stand_push p i (y ∷ ys) (z ∷ zs) r x all st =
     let at : i + suc (length ys) ≡ suc i + length ys = omega arith in
     (all.0, stand_push p (suc i) ys zs r x all.1 (subst (λ (n : ℕ). StandsFor p n r x) at st))
 
-both_parts : (x y : Bool) → (x && y) ≡ true → (x ≡ true) × (y ≡ true)
-both_parts true y e = (refl, e)
-both_parts false y e = absurd (cc)
-
-one_more_straight : (p : Program) (ys : List (List ScriptCall)) (c : List ScriptCall) → are_straight p (ys ++ c ∷ []) ≡ true → (are_straight p ys ≡ true) × (list_all (is_straight_call p) c ≡ true)
-one_more_straight p [] c e = (refl, (both_parts (list_all (is_straight_call p) c) true e).0)
-one_more_straight p (y ∷ ys) c e =
-    let parts = both_parts (list_all (is_straight_call p) y) (are_straight p (ys ++ c ∷ [])) e in
-    let rest = one_more_straight p ys c parts.1 in
-    (subst (λ (b : Bool). (b && are_straight p ys) ≡ true) (sym parts.0) rest.0, rest.1)
-
 -- a further runner, opened for its calls
 pub open_more : (p : Program) (rs new : List Runner) (ys : List (List ScriptCall)) (r : Runner) (c : List ScriptCall) (t : ℕ) → t ≡ length rs → new ≡ rs ++ r ∷ []
-    → (are_straight p ys ≡ true → AllStand p 0 rs (map fresh_thread ys)) → (AreStraight p c → StandsFor p t r (fresh_thread c))
-    → are_straight p (ys ++ c ∷ []) ≡ true → AllStand p 0 new (map fresh_thread (ys ++ c ∷ []))
-open_more p rs new ys r c t number is stand fresh e =
-    let parts = one_more_straight p ys c e in
+    → AllStand p 0 rs (map fresh_thread ys) → Runs p t r (fresh_thread c) → AllStand p 0 new (map fresh_thread (ys ++ c ∷ []))
+open_more p rs new ys r c t number is stand fresh =
     let at : t ≡ 0 + length rs = omega arith in
     subst (λ (zs : List Runner). AllStand p 0 zs (map fresh_thread (ys ++ c ∷ []))) (sym is)
     (subst (AllStand p 0 (rs ++ r ∷ [])) (sym (map-append fresh_thread ys (c ∷ [])))
-    (stand_push p 0 rs (map fresh_thread ys) r (fresh_thread c) (stand parts.0) (subst (λ (n : ℕ). StandsFor p n r (fresh_thread c)) at (fresh parts.1))))
+    (stand_push p 0 rs (map fresh_thread ys) r (fresh_thread c) stand (subst (λ (n : ℕ). StandsFor p n r (fresh_thread c)) at (record { runs = fresh; straight = tt }))))

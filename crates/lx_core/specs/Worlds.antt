@@ -2,7 +2,7 @@
 use Rattle.std.specs.Prelude.{◌≡◌, ℕ, suc, Bool, true, not, List, [], ◌∷◌, option_map, unwrap_or, slice_get}
 use Rattle.std.specs.List.{sum_by, list_all}
 use Rattle.lx_model.specs.declared.program.ScriptCall.{ScriptCall}
-use Rattle.lx_interp.specs.Straight.{is_straight_call}
+use Rattle.lx_interp.specs.Straight.{is_straight_call, AreStraightFrames}
 use Rattle.lx_caps.specs.History.{History}
 use Rattle.lx_model.specs.declared.program.Program.{Program}
 use Rattle.lx_model.specs.State.{State}
@@ -11,10 +11,15 @@ use Rattle.lx_model.specs.Next.{next, absorb}
 use Rattle.lx_model.specs.Serve.{serve}
 use Rattle.lx_model.specs.World.{World as Meaning}
 use Rattle.lx_interp.specs.declared.runner.Runner.{Runner}
-use Rattle.lx_interp.specs.Runner.{StandsFor, calls_left, events_left}
+use Rattle.lx_interp.specs.Runner.{StandsFor as Runs, calls_left, events_left}
 use Rattle.lx_core.specs.Stands.{StandsForState}
 use Rattle.lx_core.specs.declared.shared.SharedPart.{SharedPart}
 use Rattle.lx_core.specs.declared.world.World.{World}
+
+-- the runner stands for a state of the thread, whose functions are straight-line code
+pub record StandsFor (p : Program) (t : ℕ) (r : Runner) (x : Thread) : Type 0 where
+  pub runs : Runs p t r x
+  pub straight : AreStraightFrames x.frames
 
 -- the runners stand for the threads, the first of which has this number
 abbrev pub AllStand : Program → ℕ → List Runner → List Thread → Type 0

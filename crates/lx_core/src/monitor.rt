@@ -4,7 +4,7 @@ ghost use Rattle.lx_model.specs.declared.program.Program.{Program};
 ghost use Rattle.lx_caps.specs.declared.Cap.TheVariants.{Write};
 ghost use Rattle.lx_caps.specs.Regions.{mapped};
 ghost use Rattle.lx_words.specs.Width.{byte_count};
-ghost use Rattle.lx_core.specs.Serving.{unwritable, entered_by};
+ghost use Rattle.lx_core.specs.Serving.{unwritable, entered_by, is_straight_what};
 
 use crate::space::{read, write};
 use crate::terms::{byte_count, first_unmapped};
@@ -33,6 +33,18 @@ fn unwritable(who: Principal, at: u64, size: u64) -> Outcome
     }
 }
 
+/// Whether a straight-line program may ask this.
+pub(crate) fn is_straight_what(what: &What) -> bool
+    ensures { result ≡ is_straight_what what.now }
+{
+    match what {
+        What::Load { .. } | What::Store { .. } | What::Finish { .. } => true,
+        What::Enter { way, .. } => matches!(way, Way::Script(_)),
+        What::Return { low, high } => mapped(*low, high.saturating_sub(*low)),
+        _ => false,
+    }
+}
+
 impl<C: CapStore + Drop> Monitor<C> {
     ghost use Rattle.lx_model.specs.State.{State};
     ghost use Rattle.lx_model.specs.Next.{request};
@@ -42,7 +54,7 @@ impl<C: CapStore + Drop> Monitor<C> {
     ghost use Rattle.lx_caps.specs.History.{holds};
     ghost use Rattle.lx_interp.specs.Runner.{is_spent};
     ghost use Rattle.lx_core.specs.Stands.{Keeps, Gives};
-    ghost use Rattle.lx_core.specs.Serving.{is_straight_what, is_ready};
+    ghost use Rattle.lx_core.specs.Serving.{is_ready};
 
     /// Makes room for so many cells of the store.
     pub(crate) fn reserve(&mut self, cells: u64) -> Result<(), Memory>

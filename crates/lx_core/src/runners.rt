@@ -1,5 +1,5 @@
 //! The runners of a world.
-ghost use Rattle.std.specs.Prelude.{◌≡◌, ◌≤◌, true, length, map, IfOk};
+ghost use Rattle.std.specs.Prelude.{◌≤◌, length, map, IfOk};
 ghost use Rattle.lx_model.specs.Thread.{fresh_thread};
 
 use lx_interp::{Code, Runner};
@@ -15,12 +15,11 @@ pub struct Runners {
 }
 
 impl Runners {
-    ghost use Rattle.lx_core.specs.Worlds.{AllStand, are_straight};
+    ghost use Rattle.lx_core.specs.Worlds.{AllStand};
 
     /// A runner for each list of calls.
     pub(crate) fn open(alloc: Global, code: &Code, script: Vec<Calls>) -> Result<Self, Memory>
-        requires few { length script.items ≤ 16 }
-        requires straight { are_straight code.now script.items ≡ true }
+        requires { length script.items ≤ 16 }
         ensures { IfOk result (λ runners. AllStand code.now 0 runners.list.items (map fresh_thread script.items)) }
     {
         let mut list = Vec::with_capacity(alloc, script.len())?;

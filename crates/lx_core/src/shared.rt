@@ -2,12 +2,12 @@
 ghost use Rattle.std.specs.Prelude.{◌≡◌, ◌<◌, true, [], OnErr, IfOk};
 ghost use Rattle.lx_model.specs.declared.program.Program.{Program};
 
-use crate::monitor::Monitor;
+use crate::monitor::{Monitor, is_straight_what};
 use crate::opening::{open_modules, put_globals};
 use crate::space::blank;
 use lx_caps::CapStore;
 use lx_model::program::Program;
-use lx_model::request::{Reply, Request};
+use lx_model::request::{Outcome, Reply, Request, Trap};
 use lx_words::Memory;
 use std::alloc::Global;
 
@@ -55,15 +55,18 @@ impl<C: CapStore + Drop> SharedPart<C> {
         })
     }
 
-    /// Serves a request of a thread. Want of memory leaves what the part stands for.
+    /// Serves a request of a thread of a straight-line program; what such a program never asks ends its call. Want of
+    /// memory leaves what the part stands for.
     pub fn serve(&mut self, thread: u32, request: &Request) -> Result<Reply, Memory>
-        requires thread { thread < 16 }
-        requires straight { is_straight_what request.now.what ≡ true }
+        requires { thread < 16 }
         ensures spent { IfOk result (λ reply. is_spent request.now.what reply ≡ true) }
-        ensures served { IfOk result (λ reply. (p : Program) (s : State) → StandsForState C.stands p self.old s
+        ensures served { IfOk result (λ reply. (p : Program) (s : State) → StandsForState C.stands p self.old s → is_straight_what request.now.what ≡ true
             → Serves C.stands p self.new reply (serve p s thread request.now)) }
         ensures memory { OnErr result ((p : Program) (s : State) → StandsForState C.stands p self.old s → StandsForState C.stands p self.new s) }
     {
+        if !is_straight_what(&request.what) {
+            return Ok(Reply::Ended(Outcome::Trapped(Trap::Unreachable)));
+        }
         self.monitor.reserve(1)?;
         match self.journal.push(thread) {
             Ok(()) => Ok(self.monitor.answer(thread, request)),

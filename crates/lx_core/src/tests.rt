@@ -10,7 +10,7 @@ ghost use Rattle.lx_core.specs.Worlds.{are_straight};
 use crate::{EventFault, World};
 use lx_annot::interface::Interface;
 use lx_caps::{PlainCaps, Principal};
-use lx_interp::Code;
+use lx_interp::straight_code;
 use lx_ir::instr::{Argument, Instr, Op};
 use lx_ir::module::{
     Block, Constant, Function, GlobalVar, Init, InitNode, Module, Pointer, Symbol, Value,
@@ -197,7 +197,12 @@ fn script(alloc: Global, fuel: u32) -> Result<Vec<Calls>, Memory>
 fn open(alloc: Global, value: Word, fuel: u32) -> Result<World<PlainCaps>, Memory> {
     let program = program(alloc, value)?;
     let calls = script(alloc, fuel)?;
-    let world = World::open(alloc, Code::new(program), calls, PlainCaps::new(alloc))?;
+    let world = World::open(
+        alloc,
+        straight_code(alloc, program),
+        calls,
+        PlainCaps::new(alloc),
+    )?;
     Ok(world)
 }
 

@@ -2,13 +2,13 @@
 ghost use Rattle.std.specs.Prelude.{◌≡◌, ◌<◌, true, OnOk, OnErr, IsTrue};
 ghost use Rattle.lx_model.specs.State.{State};
 ghost use Rattle.lx_model.specs.Thread.{Thread, has_call, has_work};
-ghost use Rattle.lx_interp.specs.Runner.{StandsFor, calls_left, events_left};
+ghost use Rattle.lx_interp.specs.Runner.{calls_left, events_left};
 ghost use Rattle.lx_core.specs.Stands.{StandsForState};
-ghost use Rattle.lx_core.specs.Worlds.{HasTurned, HasStayed};
+ghost use Rattle.lx_core.specs.Worlds.{StandsFor, HasTurned, HasStayed};
 
 use crate::shared::SharedPart;
 use lx_caps::CapStore;
-use lx_interp::{Code, Runner};
+use lx_interp::{Code, Runner, straight_laws};
 use lx_words::Memory;
 
 /// One event of a thread that has a call left: its next request is served, and it takes in the reply.
@@ -26,6 +26,7 @@ pub(crate) fn turn<C: CapStore + Drop>(
         → HasStayed C.stands code.now thread shared.new runner.new s x) }
     ensures fewer { OnOk result (events_left runner.new < events_left runner.old) }
 {
+    straight_laws();
     runner.local(code)?;
     match runner.request() {
         Some(request) => {

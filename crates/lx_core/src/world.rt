@@ -34,7 +34,8 @@ impl<C: CapStore + Drop> World<C> {
     ghost use Rattle.lx_model.specs.World.{World as Meaning, event, can_act, is_done, opening};
     ghost use Rattle.lx_model.specs.Account.{schedule_of};
     ghost use Rattle.lx_interp.specs.Runner.{calls_left};
-    ghost use Rattle.lx_core.specs.Worlds.{StandsForWorld, program_of, events_in, is_idle_at, are_straight};
+    ghost use Rattle.lx_interp.specs.Straight.{is_straight};
+    ghost use Rattle.lx_core.specs.Worlds.{StandsForWorld, program_of, events_in, is_idle_at};
     ghost use Rattle.lx_core.specs.Limits.{IsWithinLimits};
     ghost use Rattle.lx_core.specs.declared.fault.EventFault.{EventFault};
 
@@ -44,7 +45,7 @@ impl<C: CapStore + Drop> World<C> {
         requires new { C.stands caps [] }
         requires limits { IsWithinLimits code }
         requires threads { length script.items ≤ 16 }
-        requires calls { are_straight code script.items ≡ true }
+        requires straight { is_straight code ≡ true }
         ensures opens { IfOk result (λ world. StandsForWorld C.stands code world (opening code script.items)) }
         ensures program { IfOk result (λ world. program_of world ≡ code) }
     {

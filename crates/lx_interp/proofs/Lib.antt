@@ -1,3 +1,9 @@
-pub mod CodeFacts
-pub mod NextFacts
-pub mod ReplyFacts
+pub mod Calls
+pub mod Stages
+pub mod Goings
+pub mod Takings
+pub mod Replies
+pub mod Registers
+pub mod Tested
+pub mod StraightCode
+pub mod StraightSteps

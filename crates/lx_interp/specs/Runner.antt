@@ -1,50 +1,55 @@
 -- What a runner is: the thread that it stands for, what it asks, and what may answer it.
-use Rattle.std.specs.Prelude.{◌≡◌, ℕ, suc, ◌+◌, ◌≤◌, Bool, true, false, ◌&&◌, IsTrue, Option, Some, None, List, [], ◌∷◌, length, drop, replicate, nat_eq, ⊤}
-use Rattle.std.specs.List.{list_all}
+use Rattle.std.specs.Prelude.{◌≡◌, ℕ, zero, suc, ◌+◌, ◌-◌, ◌≤◌, ◌<◌, ◌++◌, Bool, true, false, ◌&&◌, IsTrue, Option, Some, None, List, [], ◌∷◌, length, map, reverse, drop, replicate, nat_eq, nat_le, vec_len, vec_capacity, ⊤}
 use Rattle.lx_words.specs.Word.{Word}
 use Rattle.lx_caps.specs.declared.Principal.{Principal}
 use Rattle.lx_caps.specs.declared.Principal.TheVariants.{Kernel}
-use Rattle.lx_caps.specs.Regions.{stack_start}
-use Rattle.lx_ir.specs.declared.instr.Op.{Op}
 use Rattle.lx_model.specs.declared.program.Program.{Program}
 use Rattle.lx_model.specs.declared.program.ScriptCall.{ScriptCall}
 use Rattle.lx_model.specs.declared.request.Outcome.{Outcome}
-use Rattle.lx_model.specs.declared.request.Outcome.TheVariants.{Returned}
-use Rattle.lx_model.specs.declared.request.Way.TheVariants.{Script}
+use Rattle.lx_model.specs.declared.request.Outcome.TheVariants.{Trapped}
+use Rattle.lx_model.specs.declared.request.Trap.TheVariants.{Unreachable}
 use Rattle.lx_model.specs.declared.request.What.{What}
 use Rattle.lx_model.specs.declared.request.What.TheVariants as what
 use Rattle.lx_model.specs.declared.request.Request.{Request}
 use Rattle.lx_model.specs.declared.request.Reply.{Reply}
 use Rattle.lx_model.specs.declared.request.Reply.TheVariants as reply
-use Rattle.lx_model.specs.Program.{is_module_function}
-use Rattle.lx_model.specs.Thread.{Activation, Body, Frame, Thread, activation, first_code, routine, has_call, zero_word, activation_behind}
-use Rattle.lx_model.specs.Effect.{returned_value}
-use Rattle.lx_model.specs.Next.{Asking, next, finish, with_run}
-use Rattle.lx_interp.specs.Straight.{is_straight_call}
-use Rattle.lx_interp.specs.declared.runner.Frame.{Frame as Place}
+use Rattle.lx_model.specs.Thread.{Crossing, Frame, Stage, Pre, Body, Post, Thread, has_call, zero_word}
+use Rattle.lx_model.specs.Effect.{Effect}
+use Rattle.lx_model.specs.Next.{Asking, Step, Goes, Asks, next, step, steps_left, comes_to, request, if_paid, has_action, after_leaving, effect_step, instruction_step}
+use Rattle.lx_steps.specs.Standing.{run_of}
+use Rattle.lx_steps.specs.Effects.{effect_of}
+use Rattle.lx_code.specs.Reach.{HasLocals}
+use Rattle.lx_steps.specs.declared.effect.Effect.{Effect as Found}
+use Rattle.lx_interp.specs.declared.frame.Stage.{Stage as Standing}
+use Rattle.lx_interp.specs.declared.frame.Stage.TheVariants as standing
+use Rattle.lx_interp.specs.declared.frame.Crossing.{Crossing as Gate}
+use Rattle.lx_interp.specs.declared.frame.Frame.{Frame as Place}
 use Rattle.lx_interp.specs.declared.runner.Runner.{Runner}
 
--- the instructions of a function's first block
-abbrev pub code_of : Program → ℕ → List Op
-code_of p n = first_code (routine p n).blocks
+-- the frames that a runner keeps
 
--- a function without arguments that stands at a place of its block
-abbrev pub run_of : Program → ℕ → Place → List Word → Activation
-run_of p t f registers =
-    record (activation p f.function [] (stack_start t)) { code = drop f.place (code_of p f.function); registers = registers }
+abbrev pub stage_of : Standing → Stage
+stage_of (standing.Pre k) = Pre k
+stage_of standing.Body = Body
+stage_of (standing.Post k v) = Post k v
 
--- the frame of a function that a script called
-abbrev pub frame_of : Program → ℕ → Place → List Word → Frame
-frame_of p t f registers =
-    record {
-      run = run_of p t f registers;
-      principal = f.principal;
-      crossing = Some (record { function = f.function; source = Kernel; args = []; stage = Body });
-    }
+abbrev pub gate_of : Gate → Crossing
+gate_of c = record { function = c.function; source = c.source; args = c.args; stage = stage_of c.stage }
 
-abbrev pub frames_of : Program → ℕ → Option Place → List Word → List Frame
-frames_of p t None registers = []
-frames_of p t (Some f) registers = frame_of p t f registers ∷ []
+abbrev pub crossing_of : Option Gate → Option Crossing
+crossing_of None = None
+crossing_of (Some c) = Some (gate_of c)
+
+abbrev pub frame_of : Program → Place → Frame
+frame_of p f = record { run = run_of p f.run; principal = f.principal; crossing = crossing_of f.crossing }
+
+-- the frames below the top one, the newest first
+abbrev pub frames_below : Program → List Place → List Frame
+frames_below p below = map (frame_of p) (reverse below)
+
+abbrev pub frames_of : Program → Option Place → List Place → List Frame
+frames_of p None below = []
+frames_of p (Some f) below = frame_of p f ∷ frames_below p below
 
 -- the calls that are left
 abbrev pub calls_left : Runner → List ScriptCall
@@ -58,7 +63,7 @@ thread_of p r =
       ended = r.endings.items;
       fuel = r.fuel;
       due = r.due;
-      frames = frames_of p r.thread r.frame r.registers.items;
+      frames = frames_of p r.top r.below.items;
     }
 
 abbrev pub asking_or : Program → ℕ → Thread → Option Request → Asking
@@ -69,55 +74,55 @@ asking_or p t thread None = next p t thread
 abbrev pub asking_of : Program → Runner → Asking
 asking_of p r = asking_or p r.thread (thread_of p r) r.request
 
--- nothing is due, and a call is left
-abbrev pub IsRunning : Runner → Type 0
-IsRunning r = (r.due ≡ None) × IsTrue (has_call (calls_left r))
+-- the registers of whatever function is entered with the arguments, with room to spare
+abbrev pub IsPrepared : Program → List Word → List Word → Type 0
+IsPrepared p args registers = (most : ℕ) × (registers ≡ args ++ replicate most zero_word) × HasLocals p most
 
--- what a straight-line program asks: the start of a module's function by the kernel, a load, a store, the return of a
--- function without bytes of the stack, and the end of a call
-abbrev pub IsStraightWhat : Program → ℕ → Principal → What → Type 0
-IsStraightWhat p t who (what.Enter (Script n) args) = (who ≡ Kernel) × (args ≡ []) × IsTrue (is_module_function p n)
-IsStraightWhat p t who (what.Load at width) = ⊤
-IsStraightWhat p t who (what.Store at v) = ⊤
-IsStraightWhat p t who (what.Return low high) = (low ≡ stack_start t) × (high ≡ stack_start t)
-IsStraightWhat p t who (what.Finish o) = who ≡ Kernel
-IsStraightWhat p t who w = ⊥
+-- the function that runs has room for bytes of the stack more
+abbrev pub HasSpace : Option Place → Type 0
+HasSpace None = ⊤
+HasSpace (Some f) = vec_len f.run.allocas < vec_capacity f.run.allocas
 
-abbrev pub IsStraightRequest : Program → ℕ → Request → Type 0
-IsStraightRequest p t q = IsStraightWhat p t q.who q.what
+-- where the function stands in its crossing; one that crosses nothing is in its body
+abbrev pub stage_in : Option Gate → Standing
+stage_in None = standing.Body
+stage_in (Some c) = c.stage
 
--- the runner has what the frame of an entered function needs: its registers, and no frame in its place
+abbrev pub stage_on : Option Place → Option Standing
+stage_on None = None
+stage_on (Some f) = Some (stage_in f.crossing)
+
+-- a `u32` counts the actions behind the body
+abbrev pub IsCounted : Option Standing → Type 0
+IsCounted (Some (standing.Post k v)) = k < 4294967295
+IsCounted _ = ⊤
+
+-- the runner has what the reply needs: registers and a place for the frame of an entered function, and a place for the
+-- bytes that a function is given
 abbrev pub HasRoomFor : Program → Runner → What → Type 0
-HasRoomFor p r (what.Enter (Script n) args) = (r.frame ≡ None) × (r.registers.items ≡ replicate (routine p n).locals zero_word)
+HasRoomFor p r (what.Perform n post k env source dest) = IsCounted (stage_on r.top)
+HasRoomFor p r (what.Enter way args) = IsPrepared p args r.registers.items × (vec_len r.below < vec_capacity r.below)
+HasRoomFor p r (what.Alloca at size) = HasSpace r.top
 HasRoomFor p r w = ⊤
-
--- but at the end of a call nothing is due
-abbrev pub IsRunningOrEnding : Runner → What → Type 0
-IsRunningOrEnding r (what.Finish o) = IsTrue (has_call (calls_left r))
-IsRunningOrEnding r w = IsRunning r
-
--- the runner is ready for every reply to what it asks
-pub record IsReadyFor (p : Program) (r : Runner) (who : Principal) (w : What) : Type 0 where
-  pub asks : IsStraightWhat p r.thread who w
-  pub runs : IsRunningOrEnding r w
-  pub room : HasRoomFor p r w
 
 abbrev pub IsReadyIf : Program → Runner → Option Request → Type 0
 IsReadyIf p r None = ⊤
-IsReadyIf p r (Some q) = IsReadyFor p r q.who q.what
+IsReadyIf p r (Some q) = HasRoomFor p r q.what
 
+-- the runner is ready for every reply to what it asks
 abbrev pub IsReady : Program → Runner → Type 0
 IsReady p r = IsReadyIf p r r.request
 
--- the calls are calls of module functions without arguments
-abbrev pub AreStraight : Program → List ScriptCall → Type 0
-AreStraight p calls = IsTrue (list_all (is_straight_call p) calls)
+-- a call is left where something is asked
+abbrev pub HasCallIf : Runner → Option Request → Type 0
+HasCallIf r None = ⊤
+HasCallIf r (Some q) = IsTrue (has_call (calls_left r))
 
 -- the runner of the thread with this number stands for a state of the thread, up to register steps
 pub record StandsFor (p : Program) (t : ℕ) (r : Runner) (thread : Thread) : Type 0 where
   pub number : r.thread ≡ t
-  pub straight : AreStraight p r.calls
   pub ready : IsReady p r
+  pub works : HasCallIf r r.request
   pub asks : asking_of p r ≡ next p t thread
   pub calls : calls_left r ≡ thread.calls
   pub ended : r.endings.items ≡ thread.ended
@@ -129,19 +134,137 @@ request_of r = r.request
 -- the runner of the thread with this number asks this
 pub record IsAsking (p : Program) (t : ℕ) (r : Runner) (asking : Asking) : Type 0 where
   pub number : r.thread ≡ t
-  pub straight : AreStraight p r.calls
   pub ready : IsReady p r
+  pub work : IsTrue (has_call (calls_left r))
   pub thread : asking.thread ≡ thread_of p r
   pub request : request_of r ≡ Some asking.request
 
--- the replies that the monitor may give to what is asked
+-- the replies that the monitor may give to what is asked: bytes of the stack end within the stack's room, and only an
+-- end answers the request to end
 abbrev pub may_answer : What → Reply → Bool
 may_answer w (reply.Ended o) = true
-may_answer (what.Enter (Script n) args) (reply.Entered m q crosses) = nat_eq m n && crosses
-may_answer (what.Load at width) (reply.Value v) = true
-may_answer (what.Store at v) reply.Done = true
-may_answer (what.Return low high) reply.Done = true
-may_answer w _ = false
+may_answer (what.Finish o) r = false
+may_answer (what.Alloca at size) r = nat_le (at + size) 9223372036854775808
+may_answer w r = true
+
+-- steps
+
+-- a step as a runner has taken it: it asks, or goes on
+abbrev pub taken : Thread → Option Request → Step
+taken thread None = Goes thread
+taken thread (Some q) = Asks thread q
+
+-- the thread, a unit of fuel poorer
+abbrev pub poorer : Thread → Thread
+poorer thread = record thread { fuel = thread.fuel - 1 }
+
+-- what the function that runs comes to by an effect
+abbrev pub effect_on : Program → ℕ → Thread → Option Place → List Place → Found → Step
+effect_on p t thread None below e = comes_to (Trapped Unreachable) thread
+effect_on p t thread (Some f) below e = effect_step p t thread (frame_of p f) (frames_below p below) (effect_of p (run_of p f.run) e)
+
+-- whose the function is that runs
+abbrev pub principal_of : Option Place → Principal
+principal_of None = Kernel
+principal_of (Some f) = f.principal
+
+-- the frames alone have changed
+pub record IsSameBut (old new : Runner) : Type 0 where
+  pub number : new.thread ≡ old.thread
+  pub calls : new.calls ≡ old.calls
+  pub ended : new.endings ≡ old.endings
+  pub fuel : new.fuel ≡ old.fuel
+  pub due : new.due ≡ old.due
+  pub request : new.request ≡ old.request
+
+-- nothing but room has changed
+pub record IsRoomier (p : Program) (old new : Runner) : Type 0 where
+  pub number : new.thread ≡ old.thread
+  pub calls : new.calls ≡ old.calls
+  pub ended : new.endings ≡ old.endings
+  pub fuel : new.fuel ≡ old.fuel
+  pub due : new.due ≡ old.due
+  pub request : new.request ≡ old.request
+  pub frames : frames_of p new.top new.below.items ≡ frames_of p old.top old.below.items
+  pub stage : stage_on new.top ≡ stage_on old.top
+
+-- the next instruction of the function that runs
+abbrev pub instruction_on : Program → ℕ → Thread → Option Place → List Place → Step
+instruction_on p t thread None below = comes_to (Trapped Unreachable) thread
+instruction_on p t thread (Some f) below = instruction_step p t (frame_of p f) (frames_below p below) (run_of p f.run).code thread
+
+-- what it comes to by its effect, if it has one
+abbrev pub found_on : Program → ℕ → Thread → Option Place → List Place → Option Found → Step
+found_on p t thread top below None = comes_to (Trapped Unreachable) thread
+found_on p t thread top below (Some e) = effect_on p t thread top below e
+
+-- the function that is crossed into
+abbrev pub crossed_in : Option Gate → ℕ
+crossed_in None = 0
+crossed_in (Some c) = c.function
+
+abbrev pub crossed_on : Option Place → ℕ
+crossed_on None = 0
+crossed_on (Some f) = crossed_in f.crossing
+
+-- the request for an action of the crossing, behind its body or before it
+abbrev pub performed_in : Principal → Option Gate → Bool → ℕ → Option Word → Option Request
+performed_in who None post k v = None
+performed_in who (Some c) true k v =
+    Some (request who (what.Perform c.function true k (record { args = c.args; ret = v }) who c.source))
+performed_in who (Some c) false k v =
+    Some (request c.source (what.Perform c.function false k (record { args = c.args; ret = None }) c.source who))
+
+abbrev pub performed_on : Option Place → Bool → ℕ → Option Word → Option Request
+performed_on None post k v = None
+performed_on (Some f) post k v = performed_in f.principal f.crossing post k v
+
+-- a paid step that asks this, if there is something to ask
+abbrev pub asked_if : Thread → Option Request → Step
+asked_if thread q = if_paid thread (λ less. taken less q)
+
+-- the function that runs takes its next instruction
+abbrev pub body_on : Program → ℕ → Thread → Option Place → List Place → Step
+body_on p t thread top below = if_paid thread (λ less. instruction_on p t less top below)
+
+-- behind the body, before an action
+abbrev pub out_if : Bool → Program → Thread → Option Place → List Place → ℕ → Option Word → Step
+out_if true p thread top below k v = asked_if thread (performed_on top true k v)
+out_if false p thread top below k v = Goes (after_leaving v (frames_below p below) thread)
+
+abbrev pub post_on : Program → Thread → Option Place → List Place → ℕ → Option Word → Step
+post_on p thread top below k v = out_if (has_action p (crossed_on top) true k) p thread top below k v
+
+-- the runner has taken this step
+pub record HasTaken (p : Program) (old new : Runner) (s : Step) : Type 0 where
+  pub number : new.thread ≡ old.thread
+  pub calls : new.calls ≡ old.calls
+  pub ended : new.endings ≡ old.endings
+  pub is : s ≡ taken (thread_of p new) new.request
+  pub ready : IsReady p new
+
+-- nothing that the thread shows has changed
+pub record HasStayed (p : Program) (old new : Runner) : Type 0 where
+  pub number : new.thread ≡ old.thread
+  pub calls : new.calls ≡ old.calls
+  pub ended : new.endings ≡ old.endings
+  pub state : thread_of p new ≡ thread_of p old
+  pub idle : new.request ≡ None
+
+-- the runner goes on to what it asks, or stays before it
+pub record GoesOn (p : Program) (old new : Runner) : Type 0 where
+  pub number : new.thread ≡ old.thread
+  pub calls : new.calls ≡ old.calls
+  pub ended : new.endings ≡ old.endings
+  pub asks : asking_of p new ≡ asking_of p old
+  pub ready : IsReady p new
+
+-- behind a reply: nothing is asked, and the thread is this
+pub record Becomes (p : Program) (old new : Runner) (thread : Thread) : Type 0 where
+  pub number : new.thread ≡ old.thread
+  pub calls : new.calls ≡ old.calls
+  pub idle : new.request ≡ None
+  pub state : thread_of p new ≡ thread
 
 -- how many events calls may have: their fuel, and the end of each
 abbrev pub events_of : List ScriptCall → ℕ
@@ -166,50 +289,16 @@ paid (Some q) = paid_for q.what
 abbrev pub events_left : Runner → ℕ
 events_left r = r.fuel + paid r.request + unpaid_events (calls_left r)
 
--- the call has come to this outcome, and asks to end
-pub record IsStopped (o : Outcome) (old new : Runner) : Type 0 where
-  pub thread : new.thread ≡ old.thread
-  pub calls : new.calls ≡ old.calls
-  pub ended : new.endings.items ≡ old.endings.items
-  pub fuel : new.fuel ≡ old.fuel
-  pub due : new.due ≡ Some o
-  pub frame : new.frame ≡ None
-  pub request : new.request ≡ Some (finish o)
+-- how many steps the runner may take before it asks, and 0 where it asks
+abbrev pub steps_before : Program → Runner → Option Request → ℕ
+steps_before p r None = suc (steps_left (thread_of p r))
+steps_before p r (Some q) = 0
 
--- the runner goes on to what it asks, or stays before it
-pub record GoesOn (p : Program) (old new : Runner) : Type 0 where
-  pub thread : new.thread ≡ old.thread
-  pub calls : new.calls ≡ old.calls
-  pub ended : new.endings.items ≡ old.endings.items
-  pub asks : asking_of p new ≡ asking_of p old
-  pub ready : IsReady p new
+-- steps are under way: nothing else is asked, and a call is left
+pub record IsUnderWay (p : Program) (old new : Runner) : Type 0 where
+  pub goes : GoesOn p old new
   pub events : events_left new ≤ events_left old
-
--- behind a reply: nothing is asked, and the thread is this
-pub record Becomes (p : Program) (old new : Runner) (thread : Thread) : Type 0 where
-  pub number : new.thread ≡ old.thread
-  pub calls : new.calls ≡ old.calls
-  pub idle : new.request ≡ None
-  pub state : thread_of p new ≡ thread
-
--- the end of a function is asked
-abbrev pub is_return : What → Bool
-is_return (what.Return low high) = true
-is_return w = false
-
-abbrev pub is_return_asked : Option Request → Bool
-is_return_asked None = false
-is_return_asked (Some q) = is_return q.what
-
--- the thread whose only function has returned, and is left at once
-abbrev pub left_by : Program → Runner → Option Place → Thread
-left_by p r None = thread_of p r
-left_by p r (Some f) =
-    record (thread_of p r) { due = Some (Returned (returned_value p (run_of p r.thread f r.registers.items))); frames = [] }
-
--- a frame behind its instruction, which gives a value or none
-abbrev pub frame_behind : Option Word → Frame → Frame
-frame_behind v f = with_run f (activation_behind v f.run)
+  pub work : IsTrue (has_call (calls_left new))
 
 -- a reply behind which fewer events are left: the end of a call answers its request to end
 abbrev pub is_spent : What → Reply → Bool
@@ -220,3 +309,20 @@ is_spent w r = true
 abbrev pub spends : Option Request → Reply → Bool
 spends None r = false
 spends (Some q) r = is_spent q.what r
+
+-- the value that a reply brings
+abbrev pub reply_value : Reply → Option Word
+reply_value (reply.Value v) = Some v
+reply_value r = None
+
+-- the outcome that a reply ends a call with
+abbrev pub end_in : Reply → Option Outcome
+end_in (reply.Ended o) = Some o
+end_in r = None
+
+-- no fuel was spent, no call has ended, and nothing is asked
+pub record KeepsFuel (old new : Runner) : Type 0 where
+  pub calls : new.calls ≡ old.calls
+  pub ended : new.endings ≡ old.endings
+  pub fuel : new.fuel ≡ old.fuel
+  pub idle : new.request ≡ None

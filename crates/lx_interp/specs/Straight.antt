@@ -1,6 +1,6 @@
 -- The programs that the runner runs: no kernel and no interface, and modules of straight-line functions, each one
 -- block of stores, loads and returns, over globals of one word.
-use Rattle.std.specs.Prelude.{Bool, true, false, ◌&&◌, Option, Some, None, List, [], ◌∷◌, slice_get, is_some, nat_eq}
+use Rattle.std.specs.Prelude.{◌≡◌, ℕ, ⊤, IsTrue, Bool, true, false, ◌&&◌, Option, Some, None, List, [], ◌∷◌, slice_get, is_some, nat_eq}
 use Rattle.std.specs.List.{list_all}
 use Rattle.lx_caps.specs.Regions.{mapped}
 use Rattle.lx_ir.specs.declared.module.Symbol.TheVariants as symbol
@@ -26,6 +26,9 @@ use Rattle.lx_model.specs.declared.request.Way.TheVariants.{Script}
 use Rattle.lx_model.specs.declared.request.What.{What}
 use Rattle.lx_model.specs.declared.request.What.TheVariants as what
 use Rattle.lx_model.specs.declared.request.Request.{Request}
+use Rattle.lx_model.specs.declared.request.Reply.{Reply}
+use Rattle.lx_model.specs.Thread.{Crossing, Frame, Stage, Pre, Thread}
+use Rattle.lx_model.specs.Next.{next, absorb}
 use Rattle.lx_model.specs.Program.{Home, module_of, is_module_function}
 
 abbrev pub has_none : {A : Type 0} → List A → Bool
@@ -112,6 +115,28 @@ may_ask (what.Return low high) = nat_eq low high
 may_ask (what.Finish o) = true
 may_ask w = false
 
-abbrev pub may_ask_if : Option Request → Bool
-may_ask_if None = true
-may_ask_if (Some q) = may_ask q.what
+abbrev pub IsNoPre : Stage → Type 0
+IsNoPre (Pre k) = ⊥
+IsNoPre _ = ⊤
+
+-- a crossing that has no action before its body left
+abbrev pub IsPastActions : Option Crossing → Type 0
+IsPastActions None = ⊤
+IsPastActions (Some c) = IsNoPre c.stage
+
+-- a function of straight-line code that has no bytes of the stack
+pub record IsStraightFrame (f : Frame) : Type 0 where
+  pub simple : list_all is_simple_op f.run.code ≡ true
+  pub empty : f.run.low ≡ f.run.high
+  pub past : IsPastActions f.crossing
+
+abbrev pub AreStraightFrames : List Frame → Type 0
+AreStraightFrames [] = ⊤
+AreStraightFrames (f ∷ fs) = IsStraightFrame f × AreStraightFrames fs
+
+-- what straight-line programs ask and come to
+pub record StraightLaws : Type 0 where
+  pub asks : (p : Program) (t : ℕ) (x : Thread) → IsTrue (is_straight p) → AreStraightFrames x.frames → may_ask (next p t x).request.what ≡ true
+  pub stays : (p : Program) (t : ℕ) (x : Thread) → IsTrue (is_straight p) → AreStraightFrames x.frames → AreStraightFrames (next p t x).thread.frames
+  pub takes : (p : Program) (t : ℕ) (x : Thread) (r : Request) (answer : Reply) → IsTrue (is_straight p) → may_ask r.what ≡ true → AreStraightFrames x.frames →
+      AreStraightFrames (absorb p t x r answer).frames

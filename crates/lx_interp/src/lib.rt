@@ -1,13 +1,14 @@
 //! The runner: register steps of one thread of a program, up to its next request.
 #![tactic(auto)]
 
-mod code;
 mod ending;
-mod operand;
+mod frame;
 mod runner;
+mod straight;
 #[cfg(test)]
 mod tests;
 
-pub use code::Code;
 pub use ending::Ending;
+pub use lx_code::{ActionCounts, Code};
 pub use runner::Runner;
+pub use straight::{straight_code, straight_laws};

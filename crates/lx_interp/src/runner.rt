@@ -1,26 +1,20 @@
 //! The runner.
-ghost use Rattle.std.specs.Prelude.{◌≡◌, ◌≤◌, true, length, vec_capacity};
-ghost use Rattle.lx_interp.specs.Straight.{may_ask_if};
+ghost use Rattle.std.specs.Prelude.{◌≡◌, ◌≤◌, length, vec_capacity};
 
+mod crossings;
+mod effects;
 mod replies;
 mod steps;
 
 use crate::ending::Ending;
-use lx_caps::Principal;
+use crate::frame::Frame;
 use lx_model::program::Calls;
 use lx_model::request::{Outcome, Request};
 use lx_words::Word;
 use std::alloc::Global;
 
-/// A function that runs: its number, the place of its next instruction, and whose it is.
-#[derive(Clone, Copy)]
-struct Frame {
-    function: u32,
-    place: usize,
-    principal: Principal,
-}
-
-/// The runner of a thread.
+/// The runner of a thread: its calls and how the first of them ended, the fuel of the one that runs, an outcome that
+/// it comes to, its frames, what it asks, and registers for the function that this may enter.
 #[derive(Drop)]
 pub struct Runner {
     alloc: Global,
@@ -29,9 +23,9 @@ pub struct Runner {
     endings: Vec<Ending>,
     fuel: u32,
     due: Option<Outcome>,
-    frame: Option<Frame>,
+    top: Option<Frame>,
+    below: Vec<Frame>,
     registers: Vec<Word>,
     request: Option<Request>,
     ghost room: { length calls ≤ vec_capacity endings },
-    ghost asks: { may_ask_if request ≡ true },
 }

@@ -1,7 +1,6 @@
--- What is kept of statements, and what names a fault.
+-- What is kept of statements.
 use Rattle.std.proofs.Common.{◌≡◌, ℕ, Bool, true, false, Option, Some, None, List, [], ◌∷◌, length, Result, refl, sym, ap, ◌∙◌}
 use Rattle.std.specs.Prelude.{fold, if◌then◌else◌}
-use Rattle.lx_words.specs.Text.{decimal_text}
 use Rattle.lx_ir_tokens.specs.declared.token.Tok.{Tok}
 use Rattle.lx_ir_tokens.specs.declared.read.IrTokens.{IrTokens}
 use Rattle.lx_ir.specs.declared.types.Scalar.{Scalar}
@@ -27,7 +26,7 @@ use Rattle.lx_ir_tables.specs.Numbering.{Numbering, numbering, with_thing, is_ne
 use Rattle.lx_ir_tables.specs.Registers.{with_given, with_given_by, with_all_given, with_read, with_operands, with_read_by, with_all_read, with_parameters, registers_of}
 use Rattle.lx_ir_read.specs.declared.first.Found.{Found}
 use Rattle.lx_ir_read.specs.declared.first.FirstReading.{FirstReading}
-use Rattle.lx_ir_read.specs.declared.fault.TextFault.{TextFault}
+use Rattle.lx_ir_faults.specs.declared.fault.TextFault.{TextFault}
 use Rattle.lx_ir_read.specs.declared.fault.ModuleError.{ModuleError}
 use Rattle.lx_ir_read.specs.declared.fault.ModuleError.TheVariants as errors
 use Rattle.lx_ir_read.specs.declared.draft.Draft.{Draft}
@@ -35,7 +34,6 @@ use Rattle.lx_ir_read.specs.declared.reading.Tables.{Tables}
 use Rattle.lx_ir_read.specs.First.{knowing_registers, first_reading}
 use Rattle.lx_ir_read.specs.Tables.{types_of, symbols_of, naming_types, named_types}
 use Rattle.lx_ir_read.specs.Again.{registers_in, local_names, with_body, kept}
-use Rattle.lx_ir_read.specs.Fault.{numbered_in, is_nameless, sigil, name_at, name_shown}
 use Rattle.lx_ir_read.specs.Reading.{first_early, left_at, first_of, early_context, front_fault, tables_of, module_found, unless_faulty, module_by, module_at}
 use Rattle.lx_ir_read.specs.Says.{FailsIn}
 
@@ -107,15 +105,6 @@ tables_are form ir found count types numbers symbols named given kept layouts sh
     ∙ ap (λ x. tables (table_of (types_of (length ir.names) found)) (symbols_of (knowing_registers ir.names (own_numbers 0 (length ir.names))) (length ir.names) found) named x shapes) (laid ∙ ap fitting_layouts first)
     ∙ ap (λ x. tables (table_of (types_of (length ir.names) found)) (symbols_of (knowing_registers ir.names (own_numbers 0 (length ir.names))) (length ir.names) found) named (fitting_layouts named) x) (shaped ∙ ap named_shapes second)
     ∙ ap (λ x. tables (table_of (types_of (length ir.names) found)) (symbols_of (knowing_registers ir.names (own_numbers 0 (length ir.names))) (length ir.names) found) x (fitting_layouts x) (named_shapes x)) read
-
--- Names of faults.
-
-abbrev shown_by : Bool → List (List ℕ) → List Tok → Tok → List ℕ
-shown_by b names before t = if b then 37 ∷ decimal_text (numbered_in names before) else sigil t.kind ∷ name_at names t.name
-
-pub nameless_shown : (names : List (List ℕ)) (before toks : List Tok) (t : Tok) (ts : List Tok) (n : ℕ) (out : List ℕ) → toks ≡ t ∷ ts → is_nameless t.kind ts ≡ true → n ≡ numbered_in names before → out ≡ 37 ∷ decimal_text n → out ≡ name_shown names before toks
-nameless_shown names before toks t ts n out whole test count is =
-    is ∙ ap (λ m. 37 ∷ decimal_text m) count ∙ sym (ap (λ b. shown_by b names before t) test) ∙ ap (name_shown names before) (sym whole)
 
 -- The first fault, and the module.
 

@@ -1,7 +1,6 @@
 pub mod First
 pub mod Tables
 pub mod Again
-pub mod Fault
 pub mod Says
 pub mod Reading
 pub mod Grammar

@@ -3,9 +3,7 @@ use Rattle.std.specs.Prelude.{◌≡◌, Result, Ok, Err}
 use Rattle.lx_ir_terms.specs.declared.fault.Fault.{Fault}
 use Rattle.lx_ir_terms.specs.declared.fault.ReadError.{ReadError}
 use Rattle.lx_ir_terms.specs.Reading.{Fails}
-use Rattle.lx_ir_read.specs.declared.fault.TextFault.{TextFault}
-use Rattle.lx_ir_read.specs.declared.fault.ReadFault.{ReadFault}
-use Rattle.lx_ir_read.specs.declared.fault.ReadFault.TheVariants as reads
+use Rattle.lx_ir_faults.specs.declared.fault.TextFault.{TextFault}
 use Rattle.lx_ir_read.specs.declared.fault.ModuleError.{ModuleError}
 use Rattle.lx_ir_read.specs.declared.fault.ModuleError.TheVariants as errors
 
@@ -27,8 +25,3 @@ FailsIn (errors.Fault f) read = read ≡ Err f
 abbrev pub AnswersText : {X : Type 0} → Result X ModuleError → Result X TextFault → Type 0
 AnswersText (Ok x) read = read ≡ Ok x
 AnswersText (Err e) read = FailsIn e read
-
--- a fault as it is told, unless memory ran out
-abbrev pub IsTold : ReadFault → ReadFault → Type 0
-IsTold reads.Memory fault = Unit {0}
-IsTold told fault = told ≡ fault

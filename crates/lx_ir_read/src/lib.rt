@@ -12,10 +12,11 @@ mod fault;
 mod first;
 mod reading;
 mod tables;
-mod what;
 
-pub use fault::ReadFault;
+pub use draft::Draft;
+pub use first::{FirstReading, Found, Progress};
 pub use lx_ir_calls::TextForm;
+pub use lx_ir_faults::{ReadFault, TextFault};
 pub use reading::{module_laws, read_module};
 
 #[cfg(test)]

@@ -11,13 +11,13 @@ ghost use Rattle.lx_ir_read.specs.Laws.{OneModule, OneFault, NotBoth, ModulesAre
 use crate::again::all_again;
 use crate::draft::Draft;
 use crate::early::front_fault;
-use crate::fault::{ModuleError, ReadFault, TextFault};
+use crate::fault::ModuleError;
 use crate::first::{FirstReading, Found, first_reading, knowing_registers};
 use crate::tables::{named_types, symbols_of, types_of};
-use crate::what::shown;
 use lx_ir::module::{Module, Symbol};
 use lx_ir::types::NamedType;
 use lx_ir_calls::TextForm;
+use lx_ir_faults::{ReadFault, TextFault, shown};
 use lx_ir_offsets::{Layout, Shape, fitting_layouts, named_shapes};
 use lx_ir_statements::statement_laws;
 use lx_ir_tables::own_numbers;

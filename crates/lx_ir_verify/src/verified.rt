@@ -40,6 +40,14 @@ impl Verified {
     {
         &self.module
     }
+
+    /// The module by value, which is verified.
+    pub fn into_module(self) -> Module
+        ensures whole { result ≡ self }
+        ensures verified { IsVerified result }
+    {
+        self.module
+    }
 }
 
 /// Verifies a lawful module.

@@ -2,7 +2,7 @@
 use Rattle.std.specs.Prelude.{ℕ, zero, suc, Bool, true, false, Option, Some, None, List, [], ◌∷◌, map, nat_eq, bytes_eq, find, unwrap_or, option_map, slice_set, filter, not, ℤ, pos, ◌+ℤ◌}
 use Rattle.std.specs.Int.{next_multiple_of}
 use Rattle.lx_words.specs.declared.word.Width.{Width}
-use Rattle.lx_words.specs.declared.word.Width.TheVariants.{W1, W64}
+use Rattle.lx_words.specs.declared.word.Width.TheVariants.{W1, W8, W64}
 use Rattle.lx_words.specs.Word.{Word, word, word_of_int, signed, binary, compare, resize}
 use Rattle.lx_ir.specs.declared.types.Scalar.{Scalar}
 use Rattle.lx_ir.specs.declared.types.NamedType.{NamedType}
@@ -151,7 +151,7 @@ effect p a (op.GetElementPtr to ty base indices) =
     value_effect a (word_of_int W64 (pos (bits p a base) +ℤ element_offset (types_of p a) ty (indices_of p a indices)))
 effect p a (op.Call to ret callee args) = call_effect p a callee (argument_words p a args)
 effect p a (op.CopyBlock moves dest source len) = Wants (what.Copy (bits p a dest) (bits p a source) (bits p a len.value))
-effect p a (op.FillBlock dest byte len) = Wants (what.Fill (bits p a dest) (bits p a byte) (bits p a len.value))
+effect p a (op.FillBlock dest byte len) = Wants (what.Fill (bits p a dest) (word W8 (bits p a byte)).bits (bits p a len.value))
 effect p a (op.Ret v) = Wants (what.Return a.low a.high)
 effect p a (op.Jump label) = jump_effect p a label
 effect p a (op.Branch test first second) = jump_effect p a (choice (bits p a test) first second)

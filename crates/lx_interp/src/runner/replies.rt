@@ -1,62 +1,108 @@
 //! What a reply does to the runner.
-ghost use Rattle.std.specs.Prelude.{◌≡◌, ℕ, ◌<◌, IsTrue};
+ghost use Rattle.std.specs.Prelude.{◌≡◌, ℕ, ◌<◌, ◌≤◌, ◌+◌, ◌++◌, true, false, Some, None, IsTrue, replicate, vec_len, vec_capacity};
+ghost use Rattle.lx_words.specs.declared.word.Width.TheVariants.{W64};
+ghost use Rattle.lx_words.specs.Word.{word};
 ghost use Rattle.lx_model.specs.declared.program.Program.{Program};
-ghost use Rattle.lx_model.specs.Next.{absorb, after_end, thread_behind, on_top, Asking};
-ghost use Rattle.lx_model.specs.Thread.{first_fuel, has_call};
-ghost use Rattle.lx_interp.specs.Runner.{frame_of, frames_of, frame_behind, thread_of, request_of, IsAsking, StandsFor, Becomes, is_return_asked, left_by, may_answer, events_left, calls_left, spends};
+ghost use Rattle.lx_model.specs.declared.request.Way.TheVariants.{Script};
+ghost use Rattle.lx_model.specs.declared.request.What.TheVariants as what;
+ghost use Rattle.lx_model.specs.Program.{same_result};
+ghost use Rattle.lx_model.specs.Thread.{Frame as Meant, has_call, routine, zero_word};
+ghost use Rattle.lx_model.specs.Next.{absorb, after_action, after_end, after_entry, after_reply, after_ret, crossing_if, entered_frame, first_stage, fits_site, has_action, next_stage, thread_behind, way_address, with_stack_bytes, Asking};
+ghost use Rattle.lx_interp.specs.Runner.{Becomes, HasRoomFor, HasSpace, IsAsking, IsCounted, IsPrepared, IsSameBut, KeepsFuel, StandsFor, calls_left, crossing_of, events_left, end_in, frames_of, may_answer, reply_value, request_of, spends, stage_of, stage_on, thread_of};
 
+use super::Runner;
 use super::steps::fuel_at;
-use super::{Frame, Runner};
-use crate::code::Code;
 use crate::ending::Ending;
-use crate::operand::{destination_of, set_register};
+use crate::frame::{Crossing, Frame, Stage};
 use lx_caps::Principal;
-use lx_model::request::{Outcome, Reply, Request, What};
-use lx_words::Word;
+use lx_code::Code;
+use lx_model::request::{Outcome, Reply, Request, Trap, Way, What};
+use lx_steps::{Activation, call_result, returned};
+use lx_words::{Width, Word, Words};
+use std::mem;
 
-// Whether the end of a function is asked.
-fn is_return(request: &Option<Request>) -> bool
-    ensures { result ≡ is_return_asked request.now }
+// The address of an indirect call.
+fn way_address(way: &Way) -> u64
+    ensures { result ≡ way_address way.now }
 {
-    match request {
-        Some(asked) => match &asked.what {
-            What::Return { .. } => true,
-            _ => false,
-        },
-        None => false,
+    match way {
+        Way::Indirect(at) => *at,
+        _ => 0,
     }
 }
 
-// The frame behind its instruction, which gives a value or none.
-fn behind(code: &Code, frame: &Frame, value: &Option<Word>, registers: &mut Vec<Word>) -> Frame
-    ensures { (t : ℕ) → frame_of code.now t result registers.new.items ≡ frame_behind value.now (frame_of code.now t frame.now registers.old.items) }
+// The value that a reply brings.
+fn value_of(reply: &Reply) -> Option<Word>
+    ensures { result ≡ reply_value reply.now }
 {
-    match code.instruction(frame.function, frame.place) {
-        Some(op) => {
-            set_register(registers, destination_of(op), value);
-            Frame {
-                function: frame.function,
-                place: frame.place + 1,
-                principal: frame.principal,
+    match reply {
+        Reply::Value(word) => Some(*word),
+        _ => None,
+    }
+}
+
+// The outcome that a reply ends a call with.
+fn end_of(reply: &Reply) -> Option<Outcome>
+    ensures { result ≡ end_in reply.now }
+{
+    match reply {
+        Reply::Ended(outcome) => Some(*outcome),
+        _ => None,
+    }
+}
+
+// Whether two results are of one width, or both are none.
+fn is_same_result(a: Option<Width>, b: Option<Width>) -> bool
+    ensures { result ≡ same_result a b }
+{
+    match (a, b) {
+        (None, None) => true,
+        (Some(v), Some(w)) => v.bit_count() == w.bit_count(),
+        _ => false,
+    }
+}
+
+// The stage behind an action.
+fn stage_behind(code: &Code, function: u32, stage: Stage) -> Stage
+    ensures { IsCounted (Some stage) → stage_of result ≡ next_stage code.now function (stage_of stage) }
+{
+    match stage {
+        Stage::Pre(index) => {
+            if code.has_next(function, false, index) {
+                Stage::Pre(index + 1)
+            } else {
+                Stage::Body
             }
         }
-        None => *frame,
+        Stage::Body => Stage::Body,
+        Stage::Post(index, value) => Stage::Post(index.saturating_add(1), value),
     }
 }
 
-// The frames behind the instruction of the top one.
-fn behind_top(
+// The crossing of a function that is entered, if it crosses.
+fn new_crossing(
     code: &Code,
-    frame: &Option<Frame>,
-    value: &Option<Word>,
-    registers: &mut Vec<Word>,
-) -> Option<Frame>
-    ensures { (t : ℕ) → frames_of code.now t result registers.new.items ≡ on_top (frame_behind value.now) (frames_of code.now t frame.now registers.old.items) }
+    function: u32,
+    source: Principal,
+    args: Words,
+    crosses: bool,
+) -> Option<Crossing>
+    ensures { crossing_of result ≡ crossing_if crosses (record { function = function; source = source; args = args; stage = first_stage (has_action code.now function false 0) }) }
 {
-    match frame {
-        Some(frame) => Some(behind(code, frame, value, registers)),
-        None => None,
+    if !crosses {
+        return None;
     }
+    let stage = if code.has_action(function, false, 0) {
+        Stage::Pre(0)
+    } else {
+        Stage::Body
+    };
+    Some(Crossing {
+        function,
+        source,
+        args,
+        stage,
+    })
 }
 
 impl Runner {
@@ -77,49 +123,178 @@ impl Runner {
         }
         self.fuel = fuel_at(&self.calls, self.endings.len());
         self.due = None;
-        self.frame = None;
-        self.request = None;
-    }
-
-    // A function is entered.
-    fn enter(&mut self, function: u32, principal: Principal)
-        ensures number { self.new.thread ≡ self.old.thread }
-        ensures calls { self.new.calls ≡ self.old.calls }
-        ensures ended { self.new.endings ≡ self.old.endings }
-        ensures fuel { self.new.fuel ≡ self.old.fuel }
-        ensures due { self.new.due ≡ self.old.due }
-        ensures registers { self.new.registers ≡ self.old.registers }
-        ensures frame { self.new.frame ≡ Some (record { function = function; place = 0; principal = principal }) }
-        ensures idle { self.new.request ≡ None }
-    {
-        self.frame = Some(Frame {
-            function,
-            place: 0,
-            principal,
-        });
-        self.request = None;
-    }
-
-    // The function has returned; the only frame is left.
-    fn leave(&mut self, code: &Code)
-        ensures { Becomes code.now self.old self.new (left_by code.now self.old self.old.frame) }
-    {
-        let frame = self.frame;
-        if let Some(frame) = frame {
-            let value = self.returned(code, &frame);
-            self.due = Some(Outcome::Returned(value));
-        }
-        self.frame = None;
+        self.top = None;
         self.request = None;
     }
 
     // The function goes past its instruction, with a value or none.
     fn pass(&mut self, code: &Code, value: &Option<Word>)
-        ensures { Becomes code.now self.old self.new (thread_behind value.now (thread_of code.now self.old)) }
+        ensures becomes { Becomes code.now self.old self.new (thread_behind value.now (thread_of code.now self.old)) }
+        ensures rest { KeepsFuel self.old self.new }
     {
-        let frame = self.frame;
-        self.frame = behind_top(code, &frame, value, &mut self.registers);
+        if let Some(mut frame) = self.top.take() {
+            frame.run.pass(code, value);
+            self.top = Some(frame);
+        }
         self.request = None;
+    }
+
+    // The function has the bytes of the stack that it asked for, and goes on with their address.
+    fn lodge(&mut self, code: &Code, at: u64, size: u64)
+        ensures becomes { HasSpace self.old.top → at + size ≤ 9223372036854775808 → Becomes code.now self.old self.new (thread_behind (Some (word W64 at)) (with_stack_bytes at size (thread_of code.now self.old))) }
+        ensures rest { KeepsFuel self.old self.new }
+    {
+        if let Some(mut frame) = self.top.take() {
+            frame.run.lodge(at, size);
+            self.top = Some(frame);
+        }
+        let address = Word {
+            width: Width::W64,
+            bits: at,
+        };
+        self.pass(code, &Some(address));
+    }
+
+    // Whether the site of an indirect call has the function's result.
+    fn fits(&self, code: &Code, way: &Way, function: u32) -> bool
+        ensures { result ≡ fits_site code.now way.now (frames_of code.now self.now.top self.now.below.items) function }
+    {
+        match way {
+            Way::Indirect(_) => match &self.top {
+                Some(frame) => is_same_result(
+                    call_result(code, &frame.run),
+                    code.result_width(function),
+                ),
+                None => true,
+            },
+            _ => true,
+        }
+    }
+
+    // The registers of a function that is entered with so many arguments.
+    fn take_registers(&mut self, code: &Code, args: &[Word], function: u32) -> Vec<Word>
+        ensures registers { IsPrepared code.now args.now self.old.registers.items → result.items ≡ args.now ++ replicate (routine code.now function).locals zero_word }
+        ensures rest { IsSameBut self.old self.new }
+        ensures top { self.new.top ≡ self.old.top }
+        ensures below { self.new.below ≡ self.old.below }
+    {
+        let mut registers = mem::replace(&mut self.registers, Vec::new(self.alloc));
+        registers.truncate(args.len().saturating_add(code.locals(function)));
+        registers
+    }
+
+    // A function is entered, by a way on which it may cross.
+    fn enter(
+        &mut self,
+        code: &Code,
+        who: Principal,
+        args: Words,
+        function: u32,
+        principal: Principal,
+        crosses: bool,
+    )
+        ensures becomes { IsPrepared code.now args self.old.registers.items → vec_len self.old.below < vec_capacity self.old.below → Becomes code.now self.old self.new (after_entry true (Script 0) (entered_frame code.now self.old.thread who args (frames_of code.now self.old.top self.old.below.items) function principal crosses) (thread_of code.now self.old)) }
+        ensures rest { KeepsFuel self.old self.new }
+    {
+        let registers = self.take_registers(code, args.as_slice(), function);
+        let low = self.stack_top();
+        let run = Activation::start(self.alloc, function, registers, low);
+        let crossing = new_crossing(code, function, who, args, crosses);
+        if self.below.len() < self.below.capacity() {
+            self.push(Frame {
+                run,
+                principal,
+                crossing,
+            });
+        }
+        self.request = None;
+    }
+
+    // The function that was entered has another signature than its call.
+    fn differ(&mut self, way: &Way)
+        ensures becomes { (p : Program) → (f : Meant) → Becomes p self.old self.new (after_entry false way.now f (thread_of p self.old)) }
+        ensures rest { KeepsFuel self.old self.new }
+    {
+        self.due = Some(Outcome::Trapped(Trap::Signature {
+            at: way_address(way),
+        }));
+        self.top = None;
+        self.request = None;
+    }
+
+    // The crossing is behind its action.
+    fn go_on(&mut self, code: &Code)
+        ensures becomes { IsCounted (stage_on self.old.top) → Becomes code.now self.old self.new (after_action code.now (thread_of code.now self.old)) }
+        ensures rest { KeepsFuel self.old self.new }
+    {
+        if let Some(mut frame) = self.top.take() {
+            if let Some(mut crossing) = frame.crossing.take() {
+                crossing.stage = stage_behind(code, crossing.function, crossing.stage);
+                frame.crossing = Some(crossing);
+            }
+            self.top = Some(frame);
+        }
+        self.request = None;
+    }
+
+    // The function has returned: a crossing goes on to its actions behind the body, and any other function is left.
+    fn go_back(&mut self, code: &Code)
+        ensures becomes { Becomes code.now self.old self.new (after_ret code.now (frames_of code.now self.old.top self.old.below.items) (thread_of code.now self.old)) }
+        ensures rest { KeepsFuel self.old self.new }
+    {
+        self.request = None;
+        if let Some(mut frame) = self.top.take() {
+            let value = returned(code, &frame.run);
+            match frame.crossing.take() {
+                Some(mut crossing) => {
+                    crossing.stage = Stage::Post(0, value);
+                    frame.crossing = Some(crossing);
+                    frame.run.clear();
+                    self.top = Some(frame);
+                }
+                None => self.leave(code, &value),
+            }
+        }
+    }
+
+    // What was asked to be entered is entered, or not.
+    fn answer_entry(&mut self, code: &Code, who: Principal, way: Way, args: Words, reply: &Reply)
+        ensures becomes { HasRoomFor code.now self.old (what.Enter way args) → Becomes code.now self.old self.new (after_reply code.now self.old.thread (thread_of code.now self.old) who (what.Enter way args) reply.now) }
+        ensures rest { KeepsFuel self.old self.new }
+    {
+        match reply {
+            Reply::Entered {
+                function,
+                principal,
+                crosses,
+            } => {
+                if self.fits(code, &way, *function) {
+                    self.enter(code, who, args, *function, *principal, *crosses);
+                } else {
+                    self.differ(&way);
+                }
+            }
+            _ => self.pass(code, &value_of(reply)),
+        }
+    }
+
+    // A reply that ends nothing is taken in.
+    fn take_in(&mut self, code: &Code, who: Principal, what: What, reply: &Reply)
+        ensures becomes { HasRoomFor code.now self.old what → IsTrue (may_answer what reply.now) → end_in reply.now ≡ None → Becomes code.now self.old self.new (after_reply code.now self.old.thread (thread_of code.now self.old) who what reply.now) }
+        ensures rest { KeepsFuel self.old self.new }
+    {
+        match what {
+            What::Alloca { at, size } => self.lodge(code, at, size),
+            What::Enter { way, args } => self.answer_entry(code, who, way, args, reply),
+            What::Perform { .. } => self.go_on(code),
+            What::Return { .. } => self.go_back(code),
+            What::Load { .. }
+            | What::Store { .. }
+            | What::Copy { .. }
+            | What::Fill { .. }
+            | What::Native { .. }
+            | What::Finish { .. } => self.pass(code, &value_of(reply)),
+        }
     }
 
     /// Takes in the reply to what the runner asks.
@@ -129,20 +304,11 @@ impl Runner {
         ensures events { (t : ℕ) → (asking : Asking) → IsAsking code.now t self.old asking → IsTrue (may_answer asking.request.what reply.now) → events_left self.new < events_left self.old }
         ensures spends { IsTrue (has_call (calls_left self.old)) → IsTrue (spends (request_of self.old) reply.now) → events_left self.new < events_left self.old }
     {
-        let _program = code.program();
-        match reply {
-            Reply::Ended(outcome) => self.end(outcome),
-            Reply::Entered {
-                function,
-                principal,
-                ..
-            } => self.enter(*function, *principal),
-            Reply::Value(word) => self.pass(code, &Some(*word)),
-            Reply::Done => {
-                if is_return(&self.request) {
-                    self.leave(code);
-                } else {
-                    self.pass(code, &None);
+        match end_of(reply) {
+            Some(outcome) => self.end(&outcome),
+            None => {
+                if let Some(Request { who, what }) = self.request.take() {
+                    self.take_in(code, who, what, reply);
                 }
             }
         }

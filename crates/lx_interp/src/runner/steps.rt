@@ -1,25 +1,23 @@
 //! Register steps, up to the next request.
-ghost use Rattle.std.specs.Prelude.{◌≡◌, ℕ, ◌+◌, ◌≤◌, ◌<◌, Bool, false, not, IsTrue, List, ◌∷◌, [], length, drop, IfOk, OnOk, IsSome, IsNone, IfSome, true, option_copied, vec_capacity};
-ghost use Rattle.lx_caps.specs.Regions.{stack_start};
+ghost use Rattle.std.specs.Prelude.{◌≡◌, ℕ, ◌+◌, ◌≤◌, ◌<◌, Bool, false, not, IsTrue, List, ◌∷◌, [], length, drop, IfOk, OnOk, OnErr, IsSome, IsNone, true, option_copied, vec_capacity, Some};
 ghost use Rattle.lx_model.specs.declared.program.Program.{Program};
-ghost use Rattle.lx_model.specs.Effect.{effect, Wants, operand, returned_value, returned_by};
-ghost use Rattle.lx_model.specs.Next.{finish, next, absorb, Asking};
+ghost use Rattle.lx_model.specs.declared.request.Way.TheVariants.{Script};
+ghost use Rattle.lx_model.specs.declared.request.What.TheVariants as what;
+ghost use Rattle.lx_model.specs.Next.{next, absorb, Asking, start_step, step, undue_step};
 ghost use Rattle.lx_model.specs.Thread.{Thread, has_call, has_work, fresh_thread, first_fuel};
-ghost use Rattle.lx_interp.specs.Straight.{is_simple_op, is_simple_value, may_ask};
-ghost use Rattle.lx_interp.specs.Runner.{run_of, calls_left, thread_of, asking_of, AreStraight, StandsFor, request_of, IsAsking, IsStraightRequest, GoesOn, IsStopped, may_answer, events_of, events_left};
+ghost use Rattle.lx_interp.specs.Runner.{HasTaken, HasStayed, GoesOn, IsAsking, IsCounted, StandsFor, body_on, calls_left, events_left, events_of, found_on, frames_of, instruction_on, request_of, stage_on, thread_of};
 
-use super::{Frame, Runner};
-use crate::code::Code;
+use super::Runner;
+use super::effects::finishing;
 use crate::ending::Ending;
-use crate::operand::{
-    blank_word, constant_of, cut, destination_of, home_of, register, set_register, width_of,
-};
+use crate::frame::Stage;
 use lx_caps::Principal;
-use lx_ir::instr::Op;
-use lx_ir::module::Value;
-use lx_model::program::Calls;
-use lx_model::request::{Outcome, Reply, Request, Trap, Way, What};
-use lx_words::{Items, Memory, Word};
+use lx_code::Code;
+use lx_model::model_laws;
+use lx_model::program::{Calls, ScriptCall};
+use lx_model::request::{Outcome, Request, Trap, Way, What};
+use lx_steps::{Effect, instruction, instruction_effect};
+use lx_words::{Items, Memory};
 use std::alloc::Global;
 
 // The fuel of the call at a place, and 0 behind the last.
@@ -32,21 +30,22 @@ pub(super) fn fuel_at(calls: &Calls, place: usize) -> u32
     }
 }
 
-// The request that ends a call.
-fn finishing(outcome: &Outcome) -> Request
-    ensures { result ≡ finish outcome.now }
+// What a script asks to start a call.
+fn entry(alloc: Global, call: &ScriptCall) -> Result<What, Memory>
+    ensures { IfOk result (λ w. w ≡ what.Enter (Script call.now.function) call.now.args) }
 {
-    Request {
-        who: Principal::Kernel,
-        what: What::Finish { outcome: *outcome },
-    }
+    let args = Items::from_slice(alloc, call.args.as_slice())?;
+    Ok(What::Enter {
+        way: Way::Script(call.function),
+        args,
+    })
 }
 
 impl Runner {
     /// The runner of the thread with this number before its first call. `Memory` where there is no room for the
     /// endings of its calls.
     pub fn open(alloc: Global, thread: u32, calls: Calls) -> Result<Runner, Memory>
-        ensures fresh { IfOk result (λ r. (p : Program) → AreStraight p calls → StandsFor p thread r (fresh_thread calls)) }
+        ensures fresh { IfOk result (λ r. (p : Program) → StandsFor p thread r (fresh_thread calls)) }
         ensures idle { IfOk result (λ r. request_of r ≡ None) }
         ensures events { IfOk result (λ r. events_left r ≡ events_of calls) }
     {
@@ -59,14 +58,15 @@ impl Runner {
             endings,
             fuel,
             due: None,
-            frame: None,
+            top: None,
+            below: Vec::new(alloc),
             registers: Vec::new(alloc),
             request: None,
         })
     }
 
     /// Whether no call is left.
-    #[tactic(auto, using(crate::proofs::CodeFacts::none_left))]
+    #[tactic(auto, using(crate::proofs::Calls::none_left))]
     pub fn done(&self) -> bool
         ensures work { (p : Program) → (t : ℕ) → (thread : Thread) → StandsFor p t self.now thread → result ≡ not (has_work thread) }
         ensures left { result ≡ not (has_call (calls_left self.now)) }
@@ -74,172 +74,138 @@ impl Runner {
         self.calls.len() <= self.endings.as_slice().len()
     }
 
-    // The word of an operand.
-    fn operand(&self, code: &Code, frame: &Frame, value: &Value) -> Word
-        requires { IsTrue (is_simple_value value.now) }
-        ensures { result ≡ operand code.now (run_of code.now self.now.thread frame.now self.now.registers.items) value.now }
-    {
-        match value {
-            Value::Register(number) => register(self.registers.as_slice(), *number),
-            Value::Constant(constant) => {
-                constant_of(
-                    code.program(),
-                    home_of(code.program(), frame.function),
-                    constant,
-                )
-            }
-        }
-    }
-
-    // Where the thread's stack begins.
-    fn stack_start(&self) -> u64
-        ensures { result ≡ stack_start self.now.thread }
-    {
-        0x300_0000 + 0x1_0000 * u64::from(self.thread)
-    }
-
-    // What an instruction asks.
-    fn wanted(&self, code: &Code, frame: &Frame, op: &Op) -> What
-        requires { IsTrue (is_simple_op op.now) }
-        ensures wants { effect code.now (run_of code.now self.now.thread frame.now self.now.registers.items) op.now ≡ Wants result }
-        ensures kind { may_ask result ≡ true }
-    {
-        match op {
-            Op::Store { ty, value, at } => {
-                let value = self.operand(code, frame, value);
-                let at = self.operand(code, frame, at);
-                What::Store {
-                    at: at.bits,
-                    value: cut(width_of(ty), value.bits),
-                }
-            }
-            Op::Load { ty, at, .. } => {
-                let at = self.operand(code, frame, at);
-                What::Load {
-                    at: at.bits,
-                    width: width_of(ty),
-                }
-            }
-            Op::Ret { .. } => {
-                let low = self.stack_start();
-                What::Return { low, high: low }
-            }
-            _ => unreachable!(),
-        }
-    }
-
-    // The value that an instruction returns, where it is a `ret`.
-    fn result_of(&self, code: &Code, frame: &Frame, op: &Op) -> Option<Word>
-        requires { IsTrue (is_simple_op op.now) }
-        ensures { result ≡ returned_by code.now (run_of code.now self.now.thread frame.now self.now.registers.items) op.now }
-    {
-        match op {
-            Op::Ret {
-                value: Some(argument),
-            } => Some(self.operand(code, frame, &argument.value)),
-            _ => None,
-        }
-    }
-
-    // The value that a function returns, where it stands at a `ret`.
-    #[tactic(auto, using(crate::proofs::CodeFacts::returned_here, crate::proofs::CodeFacts::returned_nowhere))]
-    pub(super) fn returned(&self, code: &Code, frame: &Frame) -> Option<Word>
-        ensures { result ≡ returned_value code.now (run_of code.now self.now.thread frame.now self.now.registers.items) }
-    {
-        match code.instruction(frame.function, frame.place) {
-            Some(op) => self.result_of(code, frame, op),
-            None => None,
-        }
-    }
-
-    // The call comes to an outcome, and asks to end.
-    fn stop(&mut self, outcome: &Outcome)
-        ensures same { IsStopped outcome.now self.old self.new }
-        ensures spares { events_left self.new ≤ events_left self.old }
-    {
-        self.due = Some(*outcome);
-        self.frame = None;
-        self.request = Some(finishing(outcome));
-    }
-
     // The first call that is left starts.
     fn start(&mut self, code: &Code) -> Result<(), Memory>
-        requires due { self.old.due ≡ None }
-        requires frame { self.old.frame ≡ None }
         requires request { self.old.request ≡ None }
-        requires fuel { 0 < self.old.fuel }
+        requires top { self.old.top ≡ None }
         requires work { IsTrue (has_call (calls_left self.old)) }
-        ensures goes_on { AreStraight code.now self.old.calls → GoesOn code.now self.old self.new }
-        ensures calls { calls_left self.new ≡ calls_left self.old }
+        ensures steps { OnOk result (HasTaken code.now self.old self.new (start_step (calls_left self.old) (thread_of code.now self.old))) }
+        ensures stays { OnErr result (HasStayed code.now self.old self.new) }
         ensures spares { events_left self.new ≤ events_left self.old }
-        ensures asks { OnOk result (IsSome self.new.request) }
     {
-        let place = self.endings.len();
-        let calls = self.calls.as_slice();
-        let function = calls[place].function;
-        self.registers.clear();
-        let locals = code.locals(function);
-        self.registers.resize(locals, blank_word())?;
-        self.fuel -= 1; // the start of a call costs a unit
-        self.request = Some(Request {
-            who: Principal::Kernel,
-            what: What::Enter {
-                way: Way::Script(function),
-                args: Items::new(self.alloc),
-            },
-        });
-        Ok(())
-    }
-
-    // The function that runs goes on to its next instruction.
-    fn run(&mut self, code: &Code, frame: &Frame)
-        requires due { self.old.due ≡ None }
-        requires frame { self.old.frame ≡ Some frame.now }
-        requires request { self.old.request ≡ None }
-        requires fuel { 0 < self.old.fuel }
-        requires work { IsTrue (has_call (calls_left self.old)) }
-        ensures goes_on { GoesOn code.now self.old self.new }
-        ensures calls { calls_left self.new ≡ calls_left self.old }
-        ensures spares { events_left self.new ≤ events_left self.old }
-        ensures asks { IsSome self.new.request }
-    {
-        self.fuel -= 1; // an instruction costs a unit
-        match code.instruction(frame.function, frame.place) {
-            Some(op) => {
-                let what = self.wanted(code, frame, op);
-                self.request = Some(Request {
-                    who: frame.principal,
-                    what,
-                });
-            }
-            None => self.stop(&Outcome::Trapped(Trap::Unreachable)),
-        }
-    }
-
-    // The steps of a thread that has a call left and asks nothing.
-    fn take_steps(&mut self, code: &Code) -> Result<(), Memory>
-        requires request { self.old.request ≡ None }
-        requires work { IsTrue (has_call (calls_left self.old)) }
-        ensures goes_on { AreStraight code.now self.old.calls → GoesOn code.now self.old self.new }
-        ensures calls { calls_left self.new ≡ calls_left self.old }
-        ensures spares { events_left self.new ≤ events_left self.old }
-        ensures asks { OnOk result (IsSome self.new.request) }
-    {
-        if let Some(outcome) = &self.due {
-            self.request = Some(finishing(outcome));
-            return Ok(());
-        }
         if self.fuel == 0 {
             self.stop(&Outcome::Budget);
             return Ok(());
         }
-        match self.frame {
-            None => self.start(code),
-            Some(frame) => {
-                self.run(code, &frame);
-                Ok(())
-            }
+        let place = self.endings.len();
+        let what = entry(self.alloc, &self.calls.as_slice()[place])?;
+        self.make_room(code, &what)?;
+        self.fuel -= 1; // the start of a call costs a unit
+        self.request = Some(Request {
+            who: Principal::Kernel,
+            what,
+        });
+        Ok(())
+    }
+
+    // The effect of the next instruction; none, where there is none.
+    fn next_effect(&self, code: &Code) -> Result<Option<Effect>, Memory>
+        ensures { IfOk result (λ e. (t : ℕ) → (thread : Thread) → instruction_on code.now t thread self.now.top self.now.below.items ≡ found_on code.now t thread self.now.top self.now.below.items e) }
+    {
+        match &self.top {
+            Some(frame) => match instruction(code, &frame.run) {
+                Some(op) => {
+                    let effect = instruction_effect(self.alloc, code, &frame.run, op)?;
+                    Ok(Some(effect))
+                }
+                None => Ok(None),
+            },
+            None => Ok(None),
         }
+    }
+
+    // The function that runs takes its next instruction.
+    fn run(&mut self, code: &Code) -> Result<(), Memory>
+        requires request { self.old.request ≡ None }
+        requires top { IsSome self.old.top }
+        requires counted { IsCounted (stage_on self.old.top) }
+        ensures steps { OnOk result (HasTaken code.now self.old self.new (body_on code.now self.old.thread (thread_of code.now self.old) self.old.top self.old.below.items)) }
+        ensures stays { OnErr result (HasStayed code.now self.old self.new) }
+        ensures spares { events_left self.new ≤ events_left self.old }
+    {
+        if self.fuel == 0 {
+            self.stop(&Outcome::Budget);
+            return Ok(());
+        }
+        let found = self.next_effect(code)?;
+        match found {
+            Some(effect) => self.apply(code, effect)?,
+            None => self.trap(Trap::Unreachable),
+        }
+        Ok(())
+    }
+
+    // A call that has come to an outcome asks to end.
+    fn finish(&mut self, outcome: &Outcome)
+        requires request { self.old.request ≡ None }
+        requires due { self.old.due ≡ Some outcome.now }
+        ensures steps { (p : Program) → HasTaken p self.old self.new (step p self.old.thread (thread_of p self.old)) }
+        ensures spares { events_left self.new ≤ events_left self.old }
+    {
+        self.request = Some(finishing(outcome));
+    }
+
+    // A step of the function that runs, by where it stands in its crossing.
+    fn go_in(&mut self, code: &Code, stage: Stage) -> Result<(), Memory>
+        requires request { self.old.request ≡ None }
+        requires stage { Some stage ≡ stage_on self.old.top }
+        ensures steps { OnOk result (HasTaken code.now self.old self.new (undue_step code.now self.old.thread (frames_of code.now self.old.top self.old.below.items) (thread_of code.now self.old))) }
+        ensures stays { OnErr result (HasStayed code.now self.old self.new) }
+        ensures spares { events_left self.new ≤ events_left self.old }
+    {
+        match stage {
+            Stage::Pre(index) => self.perform(false, index, &None)?,
+            Stage::Body => self.run(code)?,
+            Stage::Post(index, value) => self.go_out(code, index, &value)?,
+        }
+        Ok(())
+    }
+
+    // A step of a call that has come to no outcome.
+    fn advance(&mut self, code: &Code) -> Result<(), Memory>
+        requires request { self.old.request ≡ None }
+        requires due { self.old.due ≡ None }
+        requires work { IsTrue (has_call (calls_left self.old)) }
+        ensures steps { OnOk result (HasTaken code.now self.old self.new (step code.now self.old.thread (thread_of code.now self.old))) }
+        ensures stays { OnErr result (HasStayed code.now self.old self.new) }
+        ensures spares { events_left self.new ≤ events_left self.old }
+    {
+        match self.stage() {
+            None => self.start(code)?,
+            Some(stage) => self.go_in(code, stage)?,
+        }
+        Ok(())
+    }
+
+    // A step of a thread that has a call left and asks nothing.
+    fn take_step(&mut self, code: &Code) -> Result<(), Memory>
+        requires request { self.old.request ≡ None }
+        requires work { IsTrue (has_call (calls_left self.old)) }
+        ensures steps { OnOk result (HasTaken code.now self.old self.new (step code.now self.old.thread (thread_of code.now self.old))) }
+        ensures stays { OnErr result (HasStayed code.now self.old self.new) }
+        ensures spares { events_left self.new ≤ events_left self.old }
+    {
+        let due = self.due;
+        match due {
+            Some(outcome) => self.finish(&outcome),
+            None => self.advance(code)?,
+        }
+        Ok(())
+    }
+
+    // Steps up to the next request.
+    fn go(&mut self, code: &Code) -> Result<(), Memory>
+        requires work { IsTrue (has_call (calls_left self.old)) }
+        requires request { self.old.request ≡ None }
+        ensures goes_on { GoesOn code.now self.old self.new }
+        ensures asks { OnOk result (IsSome self.new.request) }
+        ensures spares { events_left self.new ≤ events_left self.old }
+    {
+        model_laws();
+        while self.request.is_none() {
+            self.take_step(code)?;
+        }
+        Ok(())
     }
 
     /// Takes register steps up to the next request, and makes the room that its reply needs. After `Memory` a
@@ -254,14 +220,14 @@ impl Runner {
         if self.request.is_some() || self.done() {
             return Ok(());
         }
-        self.take_steps(code)
+        self.go(code)?;
+        Ok(())
     }
 
     /// What the runner asks; nothing, where no call is left or register steps are due.
+    #[tactic(auto, using(crate::proofs::Goings::asks_nothing))]
     pub fn request(&self) -> Option<&Request>
         ensures value { option_copied result ≡ request_of self.now }
-        ensures kind { IfSome result (λ q. may_ask q.now.what ≡ true) }
-        ensures straight { (p : Program) → (t : ℕ) → (asking : Asking) → IsAsking p t self.now asking → IsStraightRequest p t asking.request }
         ensures asked { (p : Program) → (t : ℕ) → (asking : Asking) → IsAsking p t self.now asking → option_copied result ≡ Some asking.request }
         ensures idle { (p : Program) → (t : ℕ) → (thread : Thread) → StandsFor p t self.now thread → has_work thread ≡ false → IsNone result }
     {

@@ -10,14 +10,14 @@ use Rattle.lx_cli.proofs.run.run_world.Goals as goal
 -- the world that is reported stands for the run's
 pub report_of-requires : goal.report_of-requires
 report_of-requires g c =
-    let p = c.new.result in
+    let p = c.straight_code.result in
     let start = opening p c.args.script.items in
     let many : length (map fresh_thread c.args.script.items) ≡ c.len-threads.result = simp length-map (omega arith) in
     let ran = c.in_ok-run_threads.ensures p start c.in_ok-world.ensures.opens many in (p, run p ran.0 start, ran.2)
 
 pub returns : goal.returns
 returns g c =
-    let p = c.new.result in
+    let p = c.straight_code.result in
     let start = opening p c.args.script.items in
     let many : length (map fresh_thread c.args.script.items) ≡ c.len-threads.result = simp length-map (omega arith) in
     let ran = c.in_ok-run_threads.ensures p start c.in_ok-world.ensures.opens many in
@@ -25,6 +25,6 @@ returns g c =
       said.0,
       said.1,
       said.2,
-      subst (λ (q : Program). IsReport q c.args.script.items said.1 said.0) c.new.ensures
+      subst (λ (q : Program). IsReport q c.args.script.items said.1 said.0) c.straight_code.ensures
           (report_is p c.args.script.items ran.0 said.1 said.0 ran.1 (said.3 p (run p ran.0 start) ran.2)),
     )) c.report_of.ensures

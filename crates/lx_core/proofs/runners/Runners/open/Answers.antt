@@ -21,4 +21,4 @@ invariant_of-result c =
     let e = YieldsList-from_vec c.args.script.items gives.0 (omega (arith, gives.1, c.args.script.ok.0)) in
     let all : length c.loop-calls.yielded ≡ length c.args.script.items =
     (YieldsList-end e c.loop-calls.yielded c.loop-calls.calls-iterator c.loop-calls.yielded_by c.next.result c.next.new.self c.in-None.is c.next.ensures.steps).1 in
-    record { few = at_most (length c.loop-calls.list.items) (length c.loop-calls.yielded) (length c.args.script.items) c.loop-calls.invariant.as_many all c.requires.few }
+    record { few = at_most (length c.loop-calls.list.items) (length c.loop-calls.yielded) (length c.args.script.items) c.loop-calls.invariant.as_many all c.requires }

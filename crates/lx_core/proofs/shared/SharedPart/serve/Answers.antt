@@ -4,9 +4,9 @@ use Rattle.lx_core.proofs.Answered.{entered, kept}
 use Rattle.lx_core.proofs.shared.SharedPart.serve.Goals as goal
 
 pub returns-in-Ok-clause-served : goal.returns-in-Ok-clause-served
-returns-in-Ok-clause-served g c = λ p s st.
+returns-in-Ok-clause-served g c = λ p s st straight.
     entered g.C.CapStore.stands p s c.args.thread c.args.request.now c.answer.new.self c.args.self.now
-    (record { monitor = c.answer.new.self; journal = c.push.new.self }) c.answer.result c.requires.straight st
+    (record { monitor = c.answer.new.self; journal = c.push.new.self }) c.answer.result straight st
     c.in-Ok.ensures.items (c.answer.ensures.gives p s (c.reserve.ensures.stays p s st.keeps))
 
 pub returns-in_err-reserve-clause-memory : goal.returns-in_err-reserve-clause-memory

@@ -1,13 +1,26 @@
-use Rattle.std.proofs.Common.{refl}
-use Rattle.lx_interp.proofs.NextFacts.{asked, at_end}
+use Rattle.std.proofs.Common.{refl, ap, ◌∙◌, arith}
+use Rattle.lx_interp.specs.Runner.{found_on, instruction_on, poorer, thread_of}
+use Rattle.lx_interp.proofs.Takings.{retaken, budget, paid_taken}
 use Rattle.lx_interp.proofs.runner.Runner.run.Goals as goal
 
-pub returns-in-Some-clause-goes_on : goal.returns-in-Some-clause-goes_on
-returns-in-Some-clause-goes_on c =
-    asked c.args.code.now c.args.self.now _ c.args.frame.now c.in-Some.op.now c.wanted-what.result c.requires.due c.requires.frame c.requires.request c.requires.fuel c.requires.work
-    c.in-Some.ensures.found c.in-Some.ensures.simple c.wanted-what.ensures.wants refl refl refl refl refl refl refl refl
+pub returns-then-self-eq0-clause-steps : goal.returns-then-self-eq0-clause-steps
+returns-then-self-eq0-clause-steps c =
+    let p = c.args.code.now in
+    let old = c.args.self.now in
+    budget p old c.stop.new.self (λ less. instruction_on p old.thread less old.top old.below.items) c.if-self-eq0.true (c.stop.ensures.stops p)
 
-pub returns-in-None-clause-goes_on : goal.returns-in-None-clause-goes_on
-returns-in-None-clause-goes_on c =
-    at_end c.args.code.now c.args.self.now _ c.stop.new.self c.args.frame.now c.requires.due c.requires.frame c.requires.request c.requires.fuel c.requires.work
-    c.in-None.ensures.found refl refl refl refl c.stop.ensures.same
+pub returns-in-None-clause-steps : goal.returns-in-None-clause-steps
+returns-in-None-clause-steps c =
+    let p = c.args.code.now in
+    let old = c.args.self.now in
+    let less = poorer (thread_of p old) in
+    paid_taken p old c.trap.new.self (λ x. instruction_on p old.thread x old.top old.below.items) (omega (arith, c.if-self-eq0.false))
+    (retaken p old old c.trap.new.self _ _ refl refl refl (c.in_ok-found.ensures old.thread less ∙ ap (found_on p old.thread less old.top old.below.items) c.in-None.is) (c.trap.ensures.stops p))
+
+pub returns-in_ok-apply-in-Some-clause-steps : goal.returns-in_ok-apply-in-Some-clause-steps
+returns-in_ok-apply-in-Some-clause-steps c =
+    let p = c.args.code.now in
+    let old = c.args.self.now in
+    let less = poorer (thread_of p old) in
+    paid_taken p old c.apply.new.self (λ x. instruction_on p old.thread x old.top old.below.items) (omega (arith, c.if-self-eq0.false))
+    (retaken p old old c.apply.new.self _ _ refl refl refl (c.in_ok-found.ensures old.thread less ∙ ap (found_on p old.thread less old.top old.below.items) c.in-Some.is) c.in_ok-apply-in-Some.ensures.steps)

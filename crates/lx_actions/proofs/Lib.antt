@@ -1,0 +1,4 @@
+pub mod Acting
+pub mod Looking
+pub mod Moved
+pub mod Refusing

@@ -1,0 +1,5 @@
+pub mod Deeds
+pub mod Laws
+pub mod Performs
+pub mod Rooms
+pub mod Shown

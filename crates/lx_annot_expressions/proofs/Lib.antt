@@ -1,0 +1,6 @@
+pub mod Chains
+pub mod ExprFinds
+pub mod ExprReads
+pub mod Numbered
+pub mod Parts
+pub mod Tables

@@ -1,0 +1,4 @@
+pub mod Aside
+pub mod Bodies
+pub mod TokensSay
+pub mod Windows

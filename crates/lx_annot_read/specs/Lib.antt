@@ -1,0 +1,6 @@
+pub mod Said
+pub mod Interfaces
+pub mod Faults
+pub mod Texts
+pub mod Aside
+pub mod Draft

@@ -1,0 +1,585 @@
+//! Interfaces, with the first fault or the canonical texts that each has.
+
+use crate::{InterfaceFault, read_interface};
+use lx_annot::action::Annotation;
+use lx_annot::canonical::canonical;
+use lx_annot::interface::Interface;
+use lx_words::Memory;
+use std::alloc::Global;
+use std::test::Fail;
+
+/// The bytes that a file may have.
+const MOST_BYTES: usize = 1 << 20;
+
+fn interface_in(alloc: Global, text: &[u8]) -> Result<Interface, InterfaceFault> {
+    if text.len() > MOST_BYTES {
+        return Err(InterfaceFault::Memory);
+    }
+    read_interface(alloc, text)
+}
+
+/// A text, and its first fault: the number of its kind, its line, and its words.
+struct Row(&'static [u8], u8, u32, &'static [u8]);
+
+fn is_fault(fault: &InterfaceFault, kind: u8, line: u32, what: &[u8]) -> bool {
+    let (found, at, words) = match fault {
+        InterfaceFault::Memory => return false,
+        InterfaceFault::Lexical { line, what } => (1, *line, what),
+        InterfaceFault::Statement { line, what } => (2, *line, what),
+        InterfaceFault::Unknown { line, what } => (3, *line, what),
+        InterfaceFault::Twice { line, what } => (4, *line, what),
+        InterfaceFault::NeedsSize { line, what } => (5, *line, what),
+    };
+    found == kind && at == line && words.is_same(what)
+}
+
+fn fails(alloc: Global, text: &[u8], kind: u8, line: u32, what: &[u8]) -> bool {
+    match interface_in(alloc, text) {
+        Err(fault) => is_fault(&fault, kind, line, what),
+        Ok(_) => false,
+    }
+}
+
+static HEADS: [Row; 8] = [
+    Row(b"", 2, 1, b"end"),
+    Row(b"interface", 2, 1, b"end"),
+    Row(b"# nothing\n\ninterface\n# more\n", 2, 3, b"end"),
+    Row(b"interface 01", 2, 1, b"01"),
+    Row(b"interface 2\n", 2, 1, b"2"),
+    Row(b"reftype a\n", 2, 1, b"reftype"),
+    Row(b"@", 1, 1, b"0x40"),
+    Row(b"interface 1\nreftype a\n\"b\"", 1, 3, b"0x22"),
+];
+
+static NAMES: [Row; 22] = [
+    Row(b"interface 1\nfoo", 2, 2, b"foo"),
+    Row(b"interface 1\nreftype", 2, 2, b"end"),
+    Row(b"interface 1\nreftype 7", 2, 2, b"7"),
+    Row(b"interface 1\nreftype a reftype\nb reftype a", 4, 3, b"a"),
+    Row(
+        b"interface 1\niterator i(p) { call p }\niterator i",
+        4,
+        3,
+        b"i",
+    ),
+    Row(
+        b"interface 1\niterator i(shared) { call shared }",
+        2,
+        2,
+        b"shared",
+    ),
+    Row(b"interface 1\niterator i(p) { }", 2, 2, b"}"),
+    Row(b"interface 1\niterator i(p) { call p; }", 2, 2, b"}"),
+    Row(b"interface 1\niterator i(p) { i(p) }", 2, 2, b"i"),
+    Row(
+        b"interface 1\niterator i(p) { if (p) if (p) call p }",
+        2,
+        2,
+        b"if",
+    ),
+    Row(b"interface 1\niterator i(p) { ref d, p }", 3, 2, b"d"),
+    Row(
+        b"interface 1\niterator i(p) { call return }",
+        3,
+        2,
+        b"return",
+    ),
+    Row(b"interface 1\nslot s : i32 ()\nslot s @", 4, 3, b"s"),
+    Row(b"interface 1\nslot s : int ()", 2, 2, b"int"),
+    Row(b"interface 1\nslot s : i32 (ptr p, i8 p +", 4, 2, b"p"),
+    Row(b"interface 1\nslot s : i32 (ptr global)", 2, 2, b"global"),
+    Row(b"interface 1\nslot s : i32 (void)", 2, 2, b")"),
+    Row(
+        b"interface 1\nslot s : i32 () export s : void () export s",
+        4,
+        2,
+        b"s",
+    ),
+    Row(b"interface 1\nfield %t 0 : s", 3, 2, b"s"),
+    Row(
+        b"interface 1\nslot s : i32 ()\nfield %\"a b\" 0 : s\nfield\n%\"a b\" 0 +",
+        4,
+        5,
+        b"%a b",
+    ),
+    Row(
+        b"interface 1\nslot s : i32 ()\nfield %t 4294967295 : s field %t 4294967296 : s",
+        2,
+        3,
+        b"4294967296",
+    ),
+    Row(b"interface 1\nslot s : i32 ()\nfield t 0 : s", 2, 3, b"t"),
+];
+
+static CLAUSES: [Row; 26] = [
+    Row(
+        b"interface 1\nexport f : void (ptr p) pre(copy(write, p))",
+        5,
+        2,
+        b"write",
+    ),
+    Row(
+        b"interface 1\nexport f : void (ptr p) pre(copy(\nwrite,\np\n)\n)",
+        5,
+        3,
+        b"write",
+    ),
+    Row(
+        b"interface 1\nexport f : void (ptr p) pre(copy(write, q))",
+        3,
+        2,
+        b"q",
+    ),
+    Row(
+        b"interface 1\nexport f : void (ptr p) pre(copy(write))",
+        2,
+        2,
+        b")",
+    ),
+    Row(
+        b"interface 1\nexport f : void (ptr p) pre(copy(write, p;",
+        2,
+        2,
+        b";",
+    ),
+    Row(b"interface 1\niterator i(p) { write p }", 5, 2, b"write"),
+    Row(
+        b"interface 1\niterator i(p) { call p;\nwrite\np; call p }",
+        5,
+        3,
+        b"write",
+    ),
+    Row(b"interface 1\niterator i(p) { write p )", 2, 2, b")"),
+    Row(b"interface 1\niterator i(p) { write, p, 8 }", 2, 2, b","),
+    Row(
+        b"interface 1\nexport f : void (ptr p) pre(copy(call, write))",
+        3,
+        2,
+        b"write",
+    ),
+    Row(
+        b"interface 1\nexport f : i32 (ptr p) pre(check(call, return))",
+        3,
+        2,
+        b"return",
+    ),
+    Row(
+        b"interface 1\nexport f : void (ptr p) post(check(call, return))",
+        3,
+        2,
+        b"return",
+    ),
+    Row(
+        b"interface 1\nexport f : i32 (ptr p) principal(return)",
+        3,
+        2,
+        b"return",
+    ),
+    Row(
+        b"interface 1\nexport f : i32 (ptr p) principal(shared + 1)",
+        2,
+        2,
+        b"+",
+    ),
+    Row(
+        b"interface 1\nexport f : i32 (ptr p) principal(p) principal(p)",
+        2,
+        2,
+        b"principal",
+    ),
+    Row(
+        b"interface 1\nexport f : i32 (ptr p) pre(lend(call, p))",
+        2,
+        2,
+        b"lend",
+    ),
+    Row(
+        b"interface 1\nexport f : i32 (ptr p) pre(check(each(p)))\niterator each(p) { call p }",
+        3,
+        2,
+        b"each",
+    ),
+    Row(
+        b"interface 1\nexport f : i32 (ptr p) pre(check(ref(d), p))",
+        3,
+        2,
+        b"d",
+    ),
+    Row(
+        b"interface 1\nexport f : i32 (ptr p) pre(check(call, 9223372036854775808))",
+        2,
+        2,
+        b"9223372036854775808",
+    ),
+    Row(
+        b"interface 1\nexport f : i32 (ptr p) pre(check(call, load64))",
+        3,
+        2,
+        b"load64",
+    ),
+    Row(
+        b"interface 1\nexport f : i32 (ptr p) pre(check(call, load64",
+        2,
+        2,
+        b"end",
+    ),
+    Row(
+        b"interface 1\nexport f : i32 (ptr load64) pre(check(call, load64(load64 +)))",
+        2,
+        2,
+        b")",
+    ),
+    Row(
+        b"interface 1\nexport f : i32 (ptr p) pre(check(call, p p))",
+        2,
+        2,
+        b"p",
+    ),
+    Row(
+        b"interface 1\nexport f : i32 (ptr p) pre(check(call, p = 1))",
+        1,
+        2,
+        b"0x3d",
+    ),
+    Row(b"interface 1\nexport f : i32 (ptr p) pre(if p)", 2, 2, b"p"),
+    Row(
+        b"interface 1\nexport f : i32 (ptr p) pre(check(call, p)) q @",
+        2,
+        2,
+        b"q",
+    ),
+];
+
+fn row_fails(alloc: Global, row: &Row) -> bool {
+    fails(alloc, row.0, row.1, row.2, row.3)
+}
+
+#[test]
+fn the_first_fault_of_a_head(rt: HostRuntime) {
+    let alloc = rt.alloc();
+    assert_eq!(rt; HEADS.iter().position(|row| !row_fails(alloc, row)), None);
+}
+
+#[test]
+fn the_first_fault_of_names(rt: HostRuntime) {
+    let alloc = rt.alloc();
+    assert_eq!(rt; NAMES.iter().position(|row| !row_fails(alloc, row)), None);
+}
+
+#[test]
+fn the_first_fault_of_clauses(rt: HostRuntime) {
+    let alloc = rt.alloc();
+    assert_eq!(rt; CLAUSES.iter().position(|row| !row_fails(alloc, row)), None);
+}
+
+/// An expression over `p` and `q`, and its canonical text.
+struct Sample(&'static str, &'static [u8]);
+
+static EXPRESSIONS: [Sample; 26] = [
+    Sample("p", b"$0"),
+    Sample("q", b"$1"),
+    Sample("007", b"7"),
+    Sample("9223372036854775807", b"9223372036854775807"),
+    Sample("((p))", b"$0"),
+    Sample("- ! -p", b"(-(!(-$0)))"),
+    Sample("-p * q", b"((-$0) * $1)"),
+    Sample("-(p * q)", b"(-($0 * $1))"),
+    Sample("p - q - 1", b"(($0 - $1) - 1)"),
+    Sample("p - (q - 1)", b"($0 - ($1 - 1))"),
+    Sample("p - q * 2", b"($0 - ($1 * 2))"),
+    Sample("p * q + 2", b"(($0 * $1) + 2)"),
+    Sample("p * q * 2", b"(($0 * $1) * 2)"),
+    Sample("p << 1 + 2 >> q", b"(($0 << (1 + 2)) >> $1)"),
+    Sample("p < q << 1", b"($0 < ($1 << 1))"),
+    Sample("p < q <= 1 > 2 >= 3", b"(((($0 < $1) <= 1) > 2) >= 3)"),
+    Sample("p == q < 1 != 2", b"(($0 == ($1 < 1)) != 2)"),
+    Sample("p & q == 1", b"($0 & ($1 == 1))"),
+    Sample("p ^ q & 1", b"($0 ^ ($1 & 1))"),
+    Sample("p | q ^ 1", b"($0 | ($1 ^ 1))"),
+    Sample("p && q | 1", b"($0 && ($1 | 1))"),
+    Sample("p || q && 1 || 2", b"(($0 || ($1 && 1)) || 2)"),
+    Sample("p && q && 1", b"(($0 && $1) && 1)"),
+    Sample("load64(p + 8) + 8", b"(load64(($0 + 8)) + 8)"),
+    Sample("load64 ( load64\t(p) ) # more", b"load64(load64($0))"),
+    Sample("!load64(p)", b"(!load64($0))"),
+];
+
+fn text_of(alloc: Global, parts: &[&str]) -> Result<Vec<u8>, Memory> {
+    let mut text = Vec::new(alloc);
+    for part in parts {
+        text.extend_from_slice(part.as_bytes())?;
+    }
+    Ok(text)
+}
+
+/// The canonical text of the first export.
+fn export_text(alloc: Global, text: &[u8]) -> Result<Vec<u8>, InterfaceFault> {
+    let interface = interface_in(alloc, text)?;
+    match interface.exports.as_slice().first() {
+        Some(export) => {
+            let said = canonical(alloc, &interface, &export.annotation)?;
+            Ok(said)
+        }
+        None => Err(InterfaceFault::Memory),
+    }
+}
+
+/// The canonical text of a check of this address.
+fn in_check(alloc: Global, address: &[u8]) -> Result<Vec<u8>, Memory> {
+    let mut text = text_of(alloc, &["pre(check(call, "])?;
+    text.extend_from_slice(address)?;
+    text.extend_from_slice(b"))")?;
+    Ok(text)
+}
+
+/// Whether an expression is read as it says.
+fn is_sample(alloc: Global, sample: &Sample) -> Result<bool, InterfaceFault> {
+    let text = text_of(
+        alloc,
+        &[
+            "interface 1 export f : void (ptr p, i8 q) pre(check(call, ",
+            sample.0,
+            "\n))",
+        ],
+    )?;
+    let wanted = in_check(alloc, sample.1)?;
+    let found = export_text(alloc, text.as_slice())?;
+    Ok(found.as_slice() == wanted.as_slice())
+}
+
+#[test]
+fn operators_bind_by_their_level_and_from_the_left(rt: HostRuntime) {
+    let alloc = rt.alloc();
+    assert_eq!(rt;
+        EXPRESSIONS
+            .iter()
+            .position(|sample| !is_sample(alloc, sample).unwrap_or(false)),
+        None
+    );
+}
+
+static BUILT_IN: &[u8] = b"interface 1
+reftype device
+iterator skb_caps(p) { write p, 24; write load64(p), load64(p + 8) }
+slot probe : i32 (ptr dev) principal(dev) pre(copy(ref(device), dev)) post(if (return < 0) transfer(ref(device), dev))
+slot xmit : i32 (ptr skb, ptr dev) principal(dev) pre(transfer(skb_caps(skb))) post(if (return < 0) transfer(skb_caps(skb)))
+field %struct.dev_ops 0 : probe
+field %struct.dev_ops 1 : xmit
+export kmalloc : ptr (i64 n) post(if (return != 0) transfer(write, return, n))
+export kzalloc : ptr (i64 n) post(if (return != 0) transfer(write, return, n))
+export kfree : void (ptr p) pre(if (p != 0) transfer(write, p, load64(p - 16)))
+export dev_register : ptr (ptr ops)
+export dev_set_priv : void (ptr dev, ptr v) pre(check(ref(device), dev))
+export dev_zero : void (ptr p, i64 n) pre(check(write, p, n))
+export dev_wipe : void (ptr p, i64 n) pre(transfer(write, p, n)) post(transfer(write, p, n))
+export skb_new : ptr (i64 n) post(if (return != 0) transfer(write, return, 24)) post(if (return != 0) transfer(write, load64(return), n))
+export netif_rx : i32 (ptr skb) pre(transfer(skb_caps(skb)))
+export hook_get : ptr () post(copy(call, return))
+export hook_fn : i64 (i64 x)
+";
+
+static SLOT_TEXTS: [&[u8]; 2] = [
+    b"principal($0) pre(copy(ref(device), $0)) post(if ((return < 0)) transfer(ref(device), $0))",
+    b"principal($1) pre(transfer(skb_caps($0))) post(if ((return < 0)) transfer(skb_caps($0)))",
+];
+
+static EXPORT_TEXTS: [&[u8]; 11] = [
+    b"post(if ((return != 0)) transfer(write, return, $0))",
+    b"post(if ((return != 0)) transfer(write, return, $0))",
+    b"pre(if (($0 != 0)) transfer(write, $0, load64(($0 - 16))))",
+    b"",
+    b"pre(check(ref(device), $0))",
+    b"pre(check(write, $0, $1))",
+    b"pre(transfer(write, $0, $1)) post(transfer(write, $0, $1))",
+    b"post(if ((return != 0)) transfer(write, return, 24)) post(if ((return != 0)) transfer(write, load64(return), $0))",
+    b"pre(transfer(skb_caps($0)))",
+    b"post(copy(call, return))",
+    b"",
+];
+
+fn is_text(alloc: Global, interface: &Interface, annotation: &Annotation, wanted: &[u8]) -> bool {
+    match canonical(alloc, interface, annotation) {
+        Ok(text) => text.as_slice() == wanted,
+        Err(_) => false,
+    }
+}
+
+#[test]
+fn a_whole_interface_says_its_annotations(rt: HostRuntime) -> Result<(), Fail> {
+    let alloc = rt.alloc();
+    let interface = interface_in(alloc, BUILT_IN)?;
+    let slots = interface.slots.as_slice();
+    let exports = interface.exports.as_slice();
+    assert_eq!(rt; slots.len(), SLOT_TEXTS.len());
+    assert_eq!(rt; exports.len(), EXPORT_TEXTS.len());
+    assert!(rt;
+        slots.iter().zip(SLOT_TEXTS.iter()).all(|(slot, text)| {
+            is_text(alloc, &interface, &slot.annotation, text)
+        })
+    );
+    assert!(rt;
+        exports.iter().zip(EXPORT_TEXTS.iter()).all(|(export, text)| {
+            is_text(alloc, &interface, &export.annotation, text)
+        })
+    );
+    Ok(())
+}
+
+fn has_iterator(interface: &Interface, line: u32, items: usize) -> bool {
+    match interface.iterators.as_slice().first() {
+        Some(iterator) => iterator.line == line && iterator.items.len() == items,
+        None => false,
+    }
+}
+
+fn has_second_field(interface: &Interface, name: &[u8], line: u32) -> bool {
+    match interface.fields.as_slice().get(1) {
+        Some(field) => {
+            field.name.is_same(name) && field.index == 1 && field.slot == 1 && field.line == line
+        }
+        None => false,
+    }
+}
+
+fn has_third_export(interface: &Interface, name: &[u8], line: u32) -> bool {
+    match interface.exports.as_slice().get(2) {
+        Some(export) => {
+            export.name.is_same(name) && export.params.len() == 1 && export.line == line
+        }
+        None => false,
+    }
+}
+
+#[test]
+fn a_whole_interface_keeps_names_numbers_and_lines(rt: HostRuntime) -> Result<(), Fail> {
+    let interface = interface_in(rt.alloc(), BUILT_IN)?;
+    assert!(rt; has_iterator(&interface, 3, 2));
+    assert!(rt; has_second_field(&interface, b"struct.dev_ops", 7));
+    assert!(rt; has_third_export(&interface, b"kfree", 10));
+    Ok(())
+}
+
+/// Puts a piece of text so many times.
+fn put_times(text: &mut Vec<u8>, piece: &[u8], count: usize) -> Result<(), Memory> {
+    for _ in 0..count {
+        text.extend_from_slice(piece)?;
+    }
+    Ok(())
+}
+
+/// An interface of one iterator with an item and so many more.
+fn with_items(alloc: Global, more: usize) -> Result<Vec<u8>, Memory> {
+    let mut text = text_of(alloc, &["interface 1\niterator i(p) {\ncall p"])?;
+    put_times(&mut text, b"\n; call p", more)?;
+    text.extend_from_slice(b" }")?;
+    Ok(text)
+}
+
+fn has_items(alloc: Global, text: &[u8], items: usize) -> bool {
+    match interface_in(alloc, text) {
+        Ok(interface) => has_iterator(&interface, 2, items),
+        Err(_) => false,
+    }
+}
+
+#[test]
+fn an_iterator_has_sixteen_items_at_most(rt: HostRuntime) -> Result<(), Fail> {
+    let alloc = rt.alloc();
+    let most = with_items(alloc, 15)?;
+    assert!(rt; has_items(alloc, most.as_slice(), 16));
+    let past = with_items(alloc, 16)?;
+    assert!(rt; fails(alloc, past.as_slice(), 2, 19, b";"));
+    Ok(())
+}
+
+/// An interface of one export whose action has so many signs before its address, which stands in line 3 with all that
+/// is behind it: 14 tokens up to the signs.
+fn with_signs(alloc: Global, signs: usize, end: &str) -> Result<Vec<u8>, Memory> {
+    let mut text = text_of(
+        alloc,
+        &["interface 1\nexport f : void (ptr p) pre(check(call, "],
+    )?;
+    put_times(&mut text, b"-", signs)?;
+    text.extend_from_slice(b"\n")?;
+    text.extend_from_slice(end.as_bytes())?;
+    Ok(text)
+}
+
+/// So many signs, what stands behind them, and the first fault: the number of its kind, and its words.
+struct Signs(usize, &'static str, u8, &'static [u8]);
+
+static SIGNS: [Signs; 4] = [
+    Signs(1008, "p))", 2, b")"),
+    Signs(1007, "p)) pre(check(call, p))", 2, b"pre"),
+    // an unknown name as the last token, and behind it
+    Signs(1009, "q))", 3, b"q"),
+    Signs(1010, "q))", 2, b"q"),
+];
+
+fn signs_fail(alloc: Global, row: &Signs) -> Result<bool, Memory> {
+    let text = with_signs(alloc, row.0, row.1)?;
+    Ok(fails(alloc, text.as_slice(), row.2, 3, row.3))
+}
+
+fn export_count(alloc: Global, text: &[u8]) -> usize {
+    match interface_in(alloc, text) {
+        Ok(interface) => interface.exports.len(),
+        Err(_) => 0,
+    }
+}
+
+#[test]
+fn a_statement_has_1024_tokens_at_most(rt: HostRuntime) -> Result<(), Fail> {
+    let alloc = rt.alloc();
+    let most = with_signs(alloc, 1007, "p)) export g : void ()")?;
+    assert_eq!(rt; export_count(alloc, most.as_slice()), 2);
+    Ok(())
+}
+
+#[test]
+fn a_statement_of_1025_tokens_has_a_fault(rt: HostRuntime) {
+    let alloc = rt.alloc();
+    assert_eq!(rt;
+        SIGNS
+            .iter()
+            .position(|row| !signs_fail(alloc, row).unwrap_or(false)),
+        None
+    );
+}
+
+/// An interface of one export whose address stands in so many brackets.
+fn with_brackets(alloc: Global, depth: usize) -> Result<Vec<u8>, Memory> {
+    let mut text = text_of(
+        alloc,
+        &["interface 1\nexport f : void (ptr p) pre(check(call, "],
+    )?;
+    put_times(&mut text, b"(", depth)?;
+    text.extend_from_slice(b"p")?;
+    put_times(&mut text, b")", depth)?;
+    text.extend_from_slice(b"))")?;
+    Ok(text)
+}
+
+#[test]
+fn brackets_nest_as_deeply_as_a_statement_is_long(rt: HostRuntime) -> Result<(), Fail> {
+    let alloc = rt.alloc();
+    let text = with_brackets(alloc, 503)?;
+    let said = export_text(alloc, text.as_slice())?;
+    assert!(rt; said.as_slice() == b"pre(check(call, $0))".as_slice());
+    Ok(())
+}
+
+#[test]
+fn spaces_and_comments_say_nothing(rt: HostRuntime) -> Result<(), Fail> {
+    let alloc = rt.alloc();
+    let one = export_text(
+        alloc,
+        b"interface 1 export f:ptr(i64 n)post(if(return!=0)copy(write,return,n))",
+    )?;
+    let other = export_text(
+        alloc,
+        b"interface#\n1\r\nexport\tf :\nptr ( i64 n ) # no\npost ( if ( return != 0 ) copy ( write , return , n ) )",
+    )?;
+    assert!(rt; one.as_slice() == other.as_slice());
+    Ok(())
+}

@@ -1,0 +1,120 @@
+-- Actions and items: what is read is in the grammar.
+use Rattle.std.proofs.Common.{◌≡◌, ℕ, zero, suc, Bool, true, false, cond, Some, None, List, [], ◌∷◌, ◌++◌, length, Ok, refl, sym, ap, ◌∙◌, subst, bytes_eq, codes}
+use Rattle.std.specs.Prelude.{if◌then◌else◌}
+use Rattle.lx_annot.specs.declared.action.CapSpec.{CapSpec}
+use Rattle.lx_annot.specs.declared.interface.Item.{Item}
+use Rattle.lx_annot.specs.Action.{Action, If}
+use Rattle.lx_annot_terms.specs.declared.actions.Deed.{Deed}
+use Rattle.lx_annot_terms.specs.declared.actions.Deed.TheVariants as deed
+use Rattle.lx_annot_expressions.specs.Tokens.{Tok}
+use Rattle.lx_annot_expressions.specs.Reading.{Read, ◌>>=◌, has, behind, next_at, pick_at, always_refused}
+use Rattle.lx_annot_expressions.specs.Exprs.{Scope, expr_at, bracketed_at}
+use Rattle.lx_annot_terms.specs.Lists.{Known, list_at, item_list_at}
+use Rattle.lx_annot_terms.specs.Actions.{deed_of, action_of, deed_at, condition_at, action_within, action_at}
+use Rattle.lx_annot_terms.specs.ItemReading.{guarded_item_at, plain_item_at, item_at}
+use Rattle.lx_annot_expressions.specs.Grammar.{Part, Picks, Is, ◌then◌, InBrackets}
+use Rattle.lx_annot_terms.specs.Grammar.{IsList, IsItemList, IsAction, IsItem}
+use Rattle.lx_annot_expressions.specs.Laws.{Finds}
+use Rattle.lx_annot_expressions.proofs.Parts.{pick_finds, next_finds, next_token, bind_finds, last_finds, Joint, Mapped}
+use Rattle.lx_annot_terms.proofs.ListFinds.{list_found, item_list_found, bracketed_finds}
+
+word_of : Deed → List ℕ
+word_of deed.Copy = codes "copy"
+word_of deed.Transfer = codes "transfer"
+word_of deed.Check = codes "check"
+
+deed_step : (bytes : List ℕ) (d : Deed) (a b c : Bool) → bytes_eq bytes (codes "copy") ≡ a → bytes_eq bytes (codes "transfer") ≡ b → bytes_eq bytes (codes "check") ≡ c → cond a (Some deed.Copy) (cond b (Some deed.Transfer) (cond c (Some deed.Check) None)) ≡ Some d → bytes_eq bytes (word_of d) ≡ true
+unfolding word_of
+deed_step bytes d true b c p q r h = let s : deed.Copy ≡ d = cc in subst (λ x. bytes_eq bytes (word_of x) ≡ true) s p
+deed_step bytes d false true c p q r h = let s : deed.Transfer ≡ d = cc in subst (λ x. bytes_eq bytes (word_of x) ≡ true) s q
+deed_step bytes d false false true p q r h = let s : deed.Check ≡ d = cc in subst (λ x. bytes_eq bytes (word_of x) ≡ true) s r
+deed_step bytes d false false false p q r h = cc
+
+deed_word : (bytes : List ℕ) (d : Deed) → deed_of bytes ≡ Some d → bytes_eq bytes (word_of d) ≡ true
+unfolding deed_of
+deed_word bytes d h = deed_step bytes d (bytes_eq bytes (codes "copy")) (bytes_eq bytes (codes "transfer")) (bytes_eq bytes (codes "check")) refl refl refl h
+
+module _ (scope : Scope) (known : Known) where
+  abbrev Inside : CapSpec → Part
+  Inside list = Is (codes "(") then IsList scope known list then Is (codes ")")
+
+  deed_part : (d : Deed) (list : CapSpec) (t : Tok) (ts : List Tok) → bytes_eq t.bytes (word_of d) ≡ true → Inside list ts → IsAction scope known (action_of d list) (t ∷ ts)
+  unfolding word_of
+  deed_part deed.Copy list t ts h p = (t ∷ [], ts, (t, h, refl), p, refl)
+  deed_part deed.Transfer list t ts h p = (t ∷ [], ts, (t, h, refl), p, refl)
+  deed_part deed.Check list t ts h p = (t ∷ [], ts, (t, h, refl), p, refl)
+
+  abbrev DeedParts : Action → Part
+  DeedParts = Joint (λ d. Picks (λ (t : Tok). deed_of t.bytes) d) (λ d. Joint (λ (o : Unit {0}). Is (codes "(")) (λ o. Joint (IsList scope known) (λ l. Mapped (λ (c : Unit {0}). action_of d l) (λ c. Is (codes ")")))))
+
+  deed_parts : (a : Action) (ts : List Tok) → DeedParts a ts → IsAction scope known a ts
+  deed_parts a ts (d, (f, b, (t, e, ft), (o, (g, h, po, (l, (i, j, pl, (c, pc, eq), e3)), e2)), e1)) =
+      subst (λ z. IsAction scope known z ts) eq
+      (subst (λ z. IsAction scope known (action_of d l) z) (sym (e1 ∙ ap (λ x. x ++ b) ft)) (deed_part d l t b (deed_word t.bytes d e) (g, h, po, (i, j, pl, pc, e3), e2)))
+
+  deed_found : Finds (deed_at scope known) (IsAction scope known)
+  unfolding deed_at
+  deed_found ts us y r =
+      let w = bind_finds (pick_at (λ t. deed_of t.bytes) always_refused) (λ d. next_at (codes "(") d.1 >>= λ o. list_at scope known o.1 >>= λ l. next_at (codes ")") l.1 >>= λ c. Ok (action_of d.0 l.0, c.1)) _ _ (pick_finds (λ t. deed_of t.bytes) always_refused)
+      (λ d. bind_finds (next_at (codes "(")) (λ o. list_at scope known o.1 >>= λ l. next_at (codes ")") l.1 >>= λ c. Ok (action_of d l.0, c.1)) _ _ (next_finds (codes "("))
+      (λ o. bind_finds (list_at scope known) (λ l. next_at (codes ")") l.1 >>= λ c. Ok (action_of d l.0, c.1)) _ _ (list_found scope known)
+      (λ l. last_finds (next_at (codes ")")) (λ c. action_of d l) (λ (c : Unit {0}). Is (codes ")")) (next_finds (codes ")"))))) ts us y r in
+      (w.0, deed_parts y w.0 w.1, w.2)
+
+  abbrev ConditionParts : Action → Part
+  ConditionParts = Joint (InBrackets scope) (λ e. Mapped (λ (a : Action). If e a) (IsAction scope known))
+
+  condition_part : (y : Action) (k : Tok) (ts : List Tok) → has (codes "if") (k ∷ []) ≡ true → ConditionParts y ts → IsAction scope known y (k ∷ ts)
+  condition_part y k ts h (e, (f, b, pe, (a, pa, eq), w)) = subst (λ z. IsAction scope known z (k ∷ ts)) eq (k ∷ [], ts, (k, h, refl), (f, b, pe, pa, w), refl)
+
+  condition_found : (inner : List Tok → Read Action) → Finds inner (IsAction scope known) → (ts us : List Tok) (y : Action) → has (codes "if") ts ≡ true → condition_at scope inner ts ≡ Ok (y, us) → (front : List Tok) × IsAction scope known y front × (ts ≡ front ++ us)
+  condition_found inner h ts us y o r =
+      let w = bind_finds (bracketed_at (expr_at scope)) (λ e. inner e.1 >>= λ a. Ok (If e.0 a.0, a.1)) _ _ (bracketed_finds scope known) (λ e. last_finds inner (λ a. If e a) _ h) (behind ts) us y r in
+      let n = next_token (codes "if") ts o in
+      (n.token ∷ w.0, condition_part y n.token w.0 n.is w.1, n.whole ∙ ap (λ x. n.token ∷ x) w.2)
+
+  abbrev action_by : (List Tok → Read Action) → Bool → List Tok → Read Action
+  action_by inner b ts = if b then condition_at scope inner ts else deed_at scope known ts
+
+  action_step : (inner : List Tok → Read Action) → Finds inner (IsAction scope known) → (b : Bool) (ts us : List Tok) (y : Action) → has (codes "if") ts ≡ b → action_by inner b ts ≡ Ok (y, us) → (front : List Tok) × IsAction scope known y front × (ts ≡ front ++ us)
+  action_step inner h true ts us y o r = condition_found inner h ts us y o r
+  action_step inner h false ts us y o r = deed_found ts us y r
+
+  action_within_found : (fuel : ℕ) → Finds (action_within scope known fuel) (IsAction scope known)
+  unfolding action_within
+  action_within_found zero ts us y r = cc
+  action_within_found (suc n) ts us y r = action_step (action_within scope known n) (action_within_found n) (has (codes "if") ts) ts us y refl r
+
+  -- what is read as an action is in the grammar
+  pub action_found : Finds (action_at scope known) (IsAction scope known)
+  unfolding action_at
+  action_found ts us y r = action_within_found (length ts) ts us y r
+
+  abbrev PlainParts : Item → Part
+  PlainParts = Mapped (λ (l : CapSpec). record { cond = None; cap = l }) (IsItemList scope known)
+
+  plain_part : (y : Item) (ts : List Tok) → PlainParts y ts → IsItem scope known y ts
+  plain_part y ts (l, p, eq) = subst (λ z. IsItem scope known z ts) eq p
+
+  abbrev GuardedParts : Item → Part
+  GuardedParts = Joint (InBrackets scope) (λ e. Mapped (λ (l : CapSpec). record { cond = Some e; cap = l }) (IsItemList scope known))
+
+  guarded_part : (y : Item) (k : Tok) (ts : List Tok) → has (codes "if") (k ∷ []) ≡ true → GuardedParts y ts → IsItem scope known y (k ∷ ts)
+  guarded_part y k ts h (e, (f, b, pe, (l, pl, eq), w)) = subst (λ z. IsItem scope known z (k ∷ ts)) eq (k ∷ [], ts, (k, h, refl), (f, b, pe, pl, w), refl)
+
+  abbrev item_by : Bool → List Tok → Read Item
+  item_by b ts = if b then guarded_item_at scope known ts else plain_item_at scope known ts
+
+  item_step : (b : Bool) (ts us : List Tok) (y : Item) → has (codes "if") ts ≡ b → item_by b ts ≡ Ok (y, us) → (front : List Tok) × IsItem scope known y front × (ts ≡ front ++ us)
+  item_step true ts us y o r =
+      let w = bind_finds (bracketed_at (expr_at scope)) (λ e. item_list_at scope known e.1 >>= λ l. Ok (record { cond = Some e.0; cap = l.0 }, l.1)) _ _ (bracketed_finds scope known) (λ e. last_finds (item_list_at scope known) (λ l. record { cond = Some e; cap = l }) _ (item_list_found scope known)) (behind ts) us y r in
+      let n = next_token (codes "if") ts o in
+      (n.token ∷ w.0, guarded_part y n.token w.0 n.is w.1, n.whole ∙ ap (λ x. n.token ∷ x) w.2)
+  item_step false ts us y o r =
+      let w = last_finds (item_list_at scope known) (λ l. record { cond = None; cap = l }) _ (item_list_found scope known) ts us y r in
+      (w.0, plain_part y w.0 w.1, w.2)
+
+  -- what is read as an item is in the grammar
+  pub item_found : Finds (item_at scope known) (IsItem scope known)
+  unfolding item_at
+  item_found ts us y r = item_step (has (codes "if") ts) ts us y refl r

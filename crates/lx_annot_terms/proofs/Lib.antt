@@ -1,0 +1,6 @@
+pub mod ActionFinds
+pub mod ActionReads
+pub mod ClauseSteps
+pub mod ListFinds
+pub mod ListReads
+pub mod Steps

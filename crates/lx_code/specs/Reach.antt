@@ -1,0 +1,66 @@
+-- Which programs a machine runs: those whose numbers fit their types, and whose types lie within the limits.
+use Rattle.std.specs.Prelude.{◌≡◌, ℕ, zero, suc, ◌≤◌, Bool, true, false, ◌&&◌, IsTrue, Option, Some, None, List, [], ◌∷◌, length, slice_get, nat_le}
+use Rattle.std.specs.List.{list_all}
+use Rattle.lx_ir.specs.declared.types.NamedType.{NamedType}
+use Rattle.lx_ir.specs.declared.module.Block.{Block}
+use Rattle.lx_ir.specs.declared.module.Function.{Function}
+use Rattle.lx_ir.specs.declared.module.Module.{Module}
+use Rattle.lx_ir.specs.declared.instr.Instr.{Instr}
+use Rattle.lx_ir.specs.declared.instr.Op.{Op}
+use Rattle.lx_ir.specs.declared.instr.Op.TheVariants.{Alloca, GetElementPtr}
+use Rattle.lx_ir.specs.IrType.{IrType}
+use Rattle.lx_ir.specs.Layout.{unnamed, fields_of, parts_of, is_scalar, is_lawful_type}
+use Rattle.lx_ir.specs.Lookup.{blocks_of}
+use Rattle.lx_model.specs.declared.program.Program.{Program}
+use Rattle.lx_model.specs.Thread.{routine}
+use Rattle.lx_model.specs.Next.{actions_of}
+use Rattle.lx_code.specs.declared.code.ActionCounts.{ActionCounts}
+
+-- a `u32` numbers the fields of every struct in a type
+abbrev pub has_few_fields : List NamedType → ℕ → IrType → Bool
+has_few_fields types zero t = is_scalar t
+has_few_fields types (suc n) t =
+    nat_le (length (fields_of (unnamed types t))) 4294967296 && list_all (has_few_fields types n) (parts_of types t)
+
+-- a type within the limits
+abbrev pub is_sized_type : List NamedType → IrType → Bool
+is_sized_type types t = is_lawful_type types t && has_few_fields types 64 t
+
+-- the type whose layout an instruction asks for is within the limits
+abbrev pub is_sized : List NamedType → Op → Bool
+is_sized types (Alloca to ty) = is_sized_type types ty
+is_sized types (GetElementPtr to ty base indices) = is_sized_type types ty
+is_sized types _ = true
+
+abbrev pub are_sized_instrs : List NamedType → List Instr → Bool
+are_sized_instrs types instrs = list_all (λ i. is_sized types i.op) instrs
+
+abbrev pub are_sized : List NamedType → List Block → Bool
+are_sized types blocks = list_all (λ b. are_sized_instrs types b.instrs) blocks
+
+abbrev pub is_sized_function : List NamedType → Function → Bool
+is_sized_function types f = are_sized types (blocks_of f)
+
+abbrev pub is_sized_module : Module → Bool
+is_sized_module m = list_all (is_sized_function m.types) m.functions
+
+-- a program whose functions and slots a `u32` numbers, and whose types are within the limits
+pub record IsWithinReach (p : Program) : Type 0 where
+  pub functions : length p.functions ≤ 4294967296
+  pub slots : length p.interface.slots ≤ 4294967296
+  pub kernel : IsTrue (is_sized_module p.kernel)
+  pub modules : IsTrue (list_all (λ m. is_sized_module m.«module») p.modules)
+
+-- how many actions a function has behind or before its body, by a table
+abbrev pub count_in : Bool → Option ActionCounts → ℕ
+count_in post None = 0
+count_in true (Some c) = c.post
+count_in false (Some c) = c.pre
+
+-- the table has the number of actions of each function; a function that it lacks has none
+abbrev pub CountsActions : Program → List ActionCounts → Type 0
+CountsActions p table = (n : ℕ) → (post : Bool) → count_in post (slice_get table n) ≡ length (actions_of p n post)
+
+-- no function has more registers beside its parameters
+abbrev pub HasLocals : Program → ℕ → Type 0
+HasLocals p most = (n : ℕ) → (routine p n).locals ≤ most

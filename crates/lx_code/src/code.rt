@@ -1,0 +1,253 @@
+//! The code that a machine runs: what the numbers of a program name.
+ghost use Rattle.std.specs.Prelude.{◌≡◌, ℕ, ◌+◌, ◌<◌, Bool, true, IsTrue, Option, Some, List, length, map, option_copied, option_and_then, slice_get, unwrap_or};
+ghost use Rattle.lx_ir.specs.Lookup.{blocks_of};
+ghost use Rattle.lx_model.specs.Program.{module_of, empty_module, function_of, function_of_entry, home_or_kernel, result_width};
+ghost use Rattle.lx_model.specs.Thread.{routine, routine_or_none, code_block_of};
+ghost use Rattle.lx_model.specs.Next.{actions_of, has_action};
+ghost use Rattle.lx_code.specs.Reach.{IsWithinReach, CountsActions, HasLocals, count_in};
+
+use crate::words::width_of;
+use lx_ir::module::{Block, Function, Module};
+use lx_model::program::{Program, ProgramFunction};
+use lx_words::{Items, Width};
+use std::alloc::Global;
+use std::marker::Model;
+
+/// How many actions the annotation of a function has, before its body and behind it.
+#[derive(Clone, Copy)]
+pub struct ActionCounts {
+    pub pre: u32,
+    pub post: u32,
+}
+
+/// The code of a program. Contracts see the program.
+#[derive(Drop)]
+pub struct Code {
+    pub(crate) program: Program,
+    empty: Module,
+    actions: Vec<ActionCounts>,
+    most_locals: usize,
+}
+
+impl Model for Code {
+    ghost use Rattle.lx_model.specs.declared.program.Program.{Program as Meaning};
+    ghost use Rattle.lx_code.specs.Runnable.{IsRunnable};
+    ghost use Rattle.lx_model.specs.contracts.program.Program as program_row;
+
+    ghost Value = { Meaning };
+
+    ghost coded = { program_row.the_row.coded };
+
+    ghost view = { λ c. c.program };
+
+    ghost invariant = { λ c. IsRunnable c.program c.empty c.actions.items c.most_locals };
+}
+
+// The function of a text with this number, and none for a native.
+fn function_in<'a>(text: &'a Module, number: u32) -> Option<&'a Function>
+    ensures { option_copied result ≡ slice_get text.now.functions number }
+{
+    text.functions.items.get(number as usize)
+}
+
+fn module_in(program: &Program, home: Option<u32>) -> Option<&Module>
+    ensures { unwrap_or (option_copied result) empty_module ≡ module_of program.now home }
+{
+    match home {
+        None => Some(&program.kernel),
+        Some(number) => match program.modules.items.get(number as usize) {
+            Some(found) => Some(&found.module),
+            None => None,
+        },
+    }
+}
+
+// The function that an entry of the program's list names, if a text defines it.
+fn function_named<'a>(program: &'a Program, entry: &ProgramFunction) -> Option<&'a Function>
+    ensures { option_copied result ≡ function_of_entry program.now (Some entry.now) }
+{
+    match entry {
+        ProgramFunction::Of { module, function } => match module_in(program, *module) {
+            Some(text) => function_in(text, *function),
+            None => None,
+        },
+        ProgramFunction::Native(_) => None,
+    }
+}
+
+// How many registers the instructions of an entry's function give.
+fn locals_of(program: &Program, entry: &ProgramFunction) -> usize
+    ensures { result ≡ (routine_or_none (function_of_entry program.now (Some entry.now))).locals }
+{
+    match function_named(program, entry) {
+        Some(function) => function.locals.items.len(),
+        None => 0,
+    }
+}
+
+// The greatest number of registers that a function's instructions give.
+fn most_locals(program: &Program) -> usize
+    ensures { HasLocals program.now result }
+{
+    let mut most = 0usize;
+    for entry in program.functions.as_slice() {
+        most = most.max(locals_of(program, entry));
+    }
+    most
+}
+
+// The blocks of a function; an import has none.
+fn blocks_of(function: &Function) -> &[Block]
+    ensures { result.now ≡ blocks_of function.now }
+{
+    match &function.blocks {
+        Some(blocks) => blocks.as_slice(),
+        None => &[],
+    }
+}
+
+// How many actions stand behind the body, or before it.
+fn count_of(counts: &ActionCounts, post: bool) -> u32
+    ensures { result ≡ count_in post (Some counts.now) }
+{
+    if post { counts.post } else { counts.pre }
+}
+
+// The width of a function's result.
+fn result_of(function: &Function) -> Option<Width>
+    ensures { result ≡ result_width function.now }
+{
+    match &function.ret {
+        Some(ty) => Some(width_of(ty)),
+        None => None,
+    }
+}
+
+impl Code {
+    /// The code of a program, whose functions have so many actions.
+    pub fn new(alloc: Global, program: Program, actions: Vec<ActionCounts>) -> Code
+        requires reach { IsWithinReach program }
+        requires actions { CountsActions program actions.items }
+        ensures { result ≡ program }
+    {
+        let most_locals = most_locals(&program);
+        Code {
+            program,
+            empty: Module {
+                types: Items::new(alloc),
+                globals: Items::new(alloc),
+                functions: Items::new(alloc),
+            },
+            actions,
+            most_locals,
+        }
+    }
+
+    /// The program that runs.
+    pub fn program(&self) -> &Program
+        ensures whole { result.now ≡ self.now }
+        ensures reach { IsWithinReach self.now }
+    {
+        &self.program
+    }
+
+    /// The text of a module, or of the kernel; an empty one, where there is none.
+    pub fn text(&self, home: Option<u32>) -> &Module
+        ensures { result.now ≡ module_of self.now home }
+    {
+        match home {
+            None => &self.program.kernel,
+            Some(number) => match self.program.modules.items.get(number as usize) {
+                Some(found) => &found.module,
+                None => &self.empty,
+            },
+        }
+    }
+
+    /// Whose text a function runs.
+    pub fn home(&self, number: u32) -> Option<u32>
+        ensures { result ≡ home_or_kernel self.now number }
+    {
+        match self.program.functions.items.get(number as usize) {
+            Some(ProgramFunction::Of { module, .. }) => *module,
+            Some(ProgramFunction::Native(_)) => None,
+            None => None,
+        }
+    }
+
+    /// The function with this number, if a text defines it.
+    pub fn function(&self, number: u32) -> Option<&Function>
+        ensures { option_copied result ≡ function_of self.now number }
+    {
+        match self.program.functions.items.get(number as usize) {
+            Some(ProgramFunction::Of { module, function }) => {
+                function_in(self.text(*module), *function)
+            }
+            Some(ProgramFunction::Native(_)) => None,
+            None => None,
+        }
+    }
+
+    /// How many registers the instructions of a function give.
+    pub fn locals(&self, number: u32) -> usize
+        ensures { result ≡ (routine self.now number).locals }
+    {
+        match self.function(number) {
+            Some(function) => function.locals.items.len(),
+            None => 0,
+        }
+    }
+
+    /// As many registers as the instructions of any function give, or more.
+    pub fn most_locals(&self) -> usize
+        ensures { HasLocals self.now result }
+    {
+        self.most_locals
+    }
+
+    // How many actions a function has behind its body, or before it.
+    fn count(&self, number: u32, post: bool) -> u32
+        ensures { result ≡ length (actions_of self.now number post) }
+    {
+        match self.actions.get(number as usize) {
+            Some(counts) => count_of(counts, post),
+            None => 0,
+        }
+    }
+
+    /// Whether a function has an action with this number behind its body, or before it.
+    pub fn has_action(&self, number: u32, post: bool, action: u32) -> bool
+        ensures has { result ≡ has_action self.now number post action }
+        ensures within { result ≡ true → action < 4294967295 }
+    {
+        action < self.count(number, post)
+    }
+
+    /// Whether a function has an action behind the one with this number.
+    pub fn has_next(&self, number: u32, post: bool, action: u32) -> bool
+        ensures has { result ≡ has_action self.now number post (action + 1) }
+        ensures within { result ≡ true → action < 4294967295 }
+    {
+        u64::from(action) + 1 < u64::from(self.count(number, post))
+    }
+
+    /// The width of a function's result, if there is a function and it has one.
+    pub fn result_width(&self, number: u32) -> Option<Width>
+        ensures { result ≡ option_and_then result_width (function_of self.now number) }
+    {
+        match self.function(number) {
+            Some(function) => result_of(function),
+            None => None,
+        }
+    }
+
+    /// The blocks of a function.
+    pub fn blocks(&self, number: u32) -> &[Block]
+        ensures { map code_block_of result.now ≡ (routine self.now number).blocks }
+    {
+        match self.function(number) {
+            Some(function) => blocks_of(function),
+            None => &[],
+        }
+    }
+}

@@ -1,0 +1,14 @@
+//! The code that a machine runs: what the numbers, the names and the constants of a program name.
+#![tactic(auto)]
+
+mod code;
+mod constants;
+mod targets;
+#[cfg(test)]
+mod tests;
+mod words;
+
+pub use code::{ActionCounts, Code};
+pub use constants::constant_of;
+pub use targets::Target;
+pub use words::{cut, width_of};

@@ -1,0 +1,4 @@
+pub mod Moduli
+pub mod Kept
+pub mod Steps
+pub mod Fits

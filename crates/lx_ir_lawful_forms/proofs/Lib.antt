@@ -1,0 +1,4 @@
+pub mod Ops
+pub mod Called
+pub mod Forms
+pub mod Named

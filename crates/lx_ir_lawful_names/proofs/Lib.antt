@@ -1,0 +1,5 @@
+pub mod Placed
+pub mod NamesOnce
+pub mod Things
+pub mod TokenNames
+pub mod Few

@@ -1,0 +1,4 @@
+pub mod Said
+pub mod Laws
+pub mod Rows
+pub mod Statements

@@ -1,0 +1,9 @@
+pub mod Kept
+pub mod Again
+pub mod Drafted
+pub mod Early
+pub mod Whole
+pub mod NamesOnce
+pub mod TypesAgain
+pub mod Assembled
+pub mod RoundTrip

@@ -1,0 +1,3 @@
+pub mod Lines
+pub mod Kernel
+pub mod Interface

@@ -1,0 +1,3 @@
+pub mod Aliases
+pub mod Instances
+pub mod Kept

@@ -1,0 +1,4 @@
+pub mod Targets
+pub mod Effects
+pub mod Steps
+pub mod Replies

@@ -1,0 +1,3 @@
+pub mod Servable
+pub mod OnStack
+pub mod Laws

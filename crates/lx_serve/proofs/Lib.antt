@@ -1,0 +1,6 @@
+pub mod Annotated
+pub mod Answered
+pub mod Entered
+pub mod Places
+pub mod Stacked
+pub mod Tried

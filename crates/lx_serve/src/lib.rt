@@ -1,0 +1,23 @@
+//! The monitor: it serves the requests of threads.
+#![tactic(auto)]
+
+mod attempt;
+mod bytes;
+mod enter;
+mod halt;
+mod heap;
+mod monitor;
+mod natives;
+mod perform;
+mod rights;
+mod servable;
+mod shared;
+mod source;
+mod space;
+mod terms;
+#[cfg(test)]
+mod tests;
+
+pub use lx_caps::Memory;
+pub use shared::SharedPart;
+pub use source::Source;

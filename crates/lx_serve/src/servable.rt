@@ -1,0 +1,67 @@
+//! Which requests may be served.
+ghost use Rattle.std.specs.Prelude.{◌≡◌, ◌<◌, true, None, nat_le};
+ghost use Rattle.lx_caps.specs.Regions.{stack_start};
+ghost use Rattle.lx_model.specs.Program.{is_in};
+ghost use Rattle.lx_requests.specs.Servable.{is_on_stack, is_servable, is_servable_way, is_servable_what};
+
+use crate::enter::home_of;
+use lx_model::program::Program;
+use lx_model::request::{Request, Way, What};
+
+/// Whether the range between two addresses lies in the thread's stack.
+fn is_on_stack(thread: u32, low: u64, high: u64) -> bool
+    requires { thread < 16 }
+    ensures { result ≡ is_on_stack thread low high }
+{
+    let start = 0x3000000 + 0x10000 * thread as u64;
+    start <= low && low <= high && high <= start + 0x10000
+}
+
+/// Whether the address lies at or above the start of the thread's stack.
+fn is_above_start(thread: u32, at: u64) -> bool
+    requires { thread < 16 }
+    ensures { result ≡ nat_le (stack_start thread) at }
+{
+    0x3000000 + 0x10000 * thread as u64 <= at
+}
+
+/// Whether the kernel's text defines the function.
+fn is_in_kernel(program: &Program, function: u32) -> bool
+    ensures { result ≡ is_in program.now None function }
+{
+    match home_of(program, function) {
+        Some(None) => true,
+        Some(Some(_)) => false,
+        None => false,
+    }
+}
+
+fn is_servable_way(program: &Program, way: &Way) -> bool
+    ensures { result ≡ is_servable_way program.now way.now }
+{
+    match way {
+        Way::Direct(function) => is_in_kernel(program, *function),
+        Way::Script(_) | Way::Indirect(_) | Way::Slot { .. } => true,
+    }
+}
+
+fn is_servable_what(program: &Program, thread: u32, what: &What) -> bool
+    requires { thread < 16 }
+    ensures { result ≡ is_servable_what program.now thread what.now }
+{
+    match what {
+        What::Alloca { at, .. } => is_above_start(thread, *at),
+        What::Return { low, high } => is_on_stack(thread, *low, *high),
+        What::Enter { way, .. } => is_servable_way(program, way),
+        _ => true,
+    }
+}
+
+/// Whether the request may be served: whatever a thread asks whose functions keep to its stack.
+pub(crate) fn is_servable(program: &Program, thread: u32, request: &Request) -> bool
+    ensures servable { result ≡ is_servable program.now thread request.now }
+    ensures thread { result ≡ true → thread < 16 }
+    ensures what { result ≡ true → is_servable_what program.now thread request.now.what ≡ true }
+{
+    thread < 16 && is_servable_what(program, thread, &request.what)
+}

@@ -1,0 +1,120 @@
+//! What all threads share.
+ghost use Rattle.std.specs.Prelude.{◌≡◌, ◌<◌, ◌++◌, ◌∷◌, [], true, IfOk, OnErr, OnOk};
+ghost use Rattle.lx_writers.specs.Recorded.{room_of};
+
+use crate::attempt::is_served;
+use crate::heap::no_blocks;
+use crate::monitor::Monitor;
+use crate::servable::is_servable;
+use crate::source::Source;
+use lx_caps::{CapStore, Memory};
+use lx_memory::Space;
+use lx_model::program::Program;
+use lx_model::request::{Outcome, Reply, Request, Trap};
+use lx_principals::Principals;
+use lx_writers::Recorded;
+use std::alloc::Global;
+
+/// What all threads share: memory, the heap, the names of instances, who owns what, the notes, and the threads of the
+/// events so far.
+#[derive(Drop)]
+pub struct SharedPart<C: CapStore + Drop> {
+    monitor: Monitor<C>,
+    journal: Vec<u32>,
+}
+
+/// Makes room for one more thread.
+fn make_room(journal: &mut Vec<u32>) -> Result<(), Memory>
+    ensures room { OnOk result (0 < room_of journal.new) }
+    ensures stays { journal.new.items ≡ journal.old.items }
+{
+    journal.reserve(1)?;
+    Ok(())
+}
+
+fn push(journal: &mut Vec<u32>, thread: u32)
+    requires { 0 < room_of journal.old }
+    ensures { journal.new.items ≡ journal.old.items ++ thread ∷ [] }
+{
+    journal.push(thread).unwrap();
+}
+
+impl<C: CapStore + Drop> SharedPart<C> {
+    ghost use Rattle.lx_caps.specs.History.{History};
+    ghost use Rattle.lx_actions.specs.Shown.{IsShownBy};
+    ghost use Rattle.lx_model.specs.declared.request.Outcome.{Outcome};
+    ghost use Rattle.lx_model.specs.declared.request.What.TheVariants as what;
+    ghost use Rattle.lx_requests.specs.Servable.{is_servable};
+    ghost use Rattle.lx_model.specs.Opening.{opening_history, opening_state, with_globals};
+    ghost use Rattle.lx_model.specs.Serve.{serve};
+    ghost use Rattle.lx_model.specs.State.{State};
+    ghost use Rattle.lx_serve.specs.Served.{is_ended, is_served};
+    ghost use Rattle.lx_serve.specs.Sources.{IsLinked, Knows};
+    ghost use Rattle.lx_serve.specs.Stands.{Serves, StandsForState};
+    ghost use Rattle.lx_writers.specs.Stands.{StandsRecorded};
+
+    /// The part before the first call of a program: the globals are written in `space`, `caps` has what each module owns,
+    /// and `sources` tells where the annotation of each function stands.
+    ///
+    /// # Errors
+    /// Want of memory.
+    pub fn open(
+        alloc: Global,
+        program: &Program,
+        space: Space,
+        caps: Recorded<C>,
+        sources: Vec<Option<Source>>,
+    ) -> Result<Self, Memory>
+        requires written { IsShownBy space (with_globals program.now program.now.globals []) }
+        requires owned { StandsRecorded C.stands caps (opening_history program.now) }
+        requires known { Knows program.now sources.items }
+        ensures { IfOk result (λ part. StandsForState C.stands program.now part (opening_state program.now)) }
+    {
+        let Ok(modules) = u32::try_from(program.modules.items.len()) else {
+            return Err(Memory);
+        };
+        let heap = no_blocks(alloc)?;
+        let names = Principals::new(alloc, modules)?;
+        Ok(SharedPart {
+            monitor: Monitor {
+                alloc,
+                space,
+                heap,
+                names,
+                caps,
+                notes: Vec::new(alloc),
+                sources,
+            },
+            journal: Vec::new(alloc),
+        })
+    }
+
+    /// Serves a request: answers as the monitor does, and stands for the state that it leaves. A request that no thread
+    /// makes ends its call, and so does a call by an address or a slot, which is not served yet.
+    ///
+    /// # Errors
+    /// Want of memory, which leaves what the part stands for.
+    pub fn serve(
+        &mut self,
+        program: &Program,
+        thread: u32,
+        request: &Request,
+    ) -> Result<Reply, Memory>
+        requires linked { IsLinked program.now }
+        ensures served { IfOk result (λ reply. (s : State) → StandsForState C.stands program.now self.old s → is_served request.now.what ≡ true
+            → is_servable program.now thread request.now ≡ true → Serves C.stands program.now self.new reply (serve program.now s thread request.now)) }
+        ensures ends { IfOk result (λ reply. (o : Outcome) → request.now.what ≡ what.Finish o → is_ended reply ≡ true) }
+        ensures memory { OnErr result ((s : State) → StandsForState C.stands program.now self.old s → StandsForState C.stands program.now self.new s) }
+    {
+        if !is_served(&request.what) {
+            return Ok(Reply::Ended(Outcome::Trapped(Trap::Unreachable)));
+        }
+        if !is_servable(program, thread, request) {
+            return Ok(Reply::Ended(Outcome::Trapped(Trap::Unreachable)));
+        }
+        make_room(&mut self.journal)?;
+        let reply = self.monitor.answer(program, thread, request)?;
+        push(&mut self.journal, thread);
+        Ok(reply)
+    }
+}

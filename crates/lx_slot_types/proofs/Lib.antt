@@ -1,0 +1,10 @@
+pub mod Agree
+pub mod Below
+pub mod FieldLists
+pub mod Globals
+pub mod Items
+pub mod PartTypes
+pub mod Passes
+pub mod RowProofs
+pub mod Walks
+pub mod Within

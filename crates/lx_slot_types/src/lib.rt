@@ -1,0 +1,20 @@
+//! Slot types of functions: which functions of a module stand in the fields that an interface types.
+#![tactic(auto)]
+
+mod constants;
+mod decide;
+mod fault;
+mod fields;
+mod marks;
+mod module;
+mod parts;
+mod rows;
+mod sites;
+
+pub use decide::is_same_annotation;
+pub use fault::PropagateFault;
+pub use module::propagate;
+pub use rows::worked_slots;
+
+#[cfg(test)]
+mod tests;

@@ -1,0 +1,64 @@
+//! Which functions of a module get which slot types.
+
+ghost use Rattle.std.specs.Prelude.{◌≡◌, IfOk};
+ghost use Rattle.lx_ir.specs.Lawful.{IsLawful};
+ghost use Rattle.lx_slot_types.specs.Answers.{Gives, Propagates};
+ghost use Rattle.lx_slot_types.specs.Marks.{marks_of};
+ghost use Rattle.lx_slot_types.specs.Slots.{annotated_of, conflict_of};
+
+use crate::decide::{check_functions, marked_in};
+use crate::fault::PropagateFault;
+use crate::marks::marks_of;
+use lx_annot::interface::Interface;
+use lx_ir::module::Module;
+use lx_propagate::{Annotated, Marked};
+use lx_words::Memory;
+use std::alloc::Global;
+
+/// Finds the first function of a module with a conflict.
+fn check_module(
+    alloc: Global,
+    i: &Interface,
+    m: &Module,
+    marks: &[Marked],
+) -> Result<(), PropagateFault>
+    requires { marks.now ≡ marks_of i.now m.now }
+    ensures { Gives (conflict_of i.now m.now) result }
+{
+    check_functions(alloc, i, m.functions.as_slice(), marks)
+}
+
+/// The functions of a module with their slot types.
+fn annotated_of(
+    alloc: Global,
+    i: &Interface,
+    m: &Module,
+    marks: &[Marked],
+) -> Result<Annotated, Memory>
+    requires lawful { IsLawful m.now }
+    requires marks { marks.now ≡ marks_of i.now m.now }
+    ensures { IfOk result (λ list. list ≡ annotated_of i.now m.now) }
+{
+    let list = marked_in(alloc, i, m.functions.as_slice(), marks)?;
+    Ok(Annotated::from_vec(list))
+}
+
+/// The functions that a module defines and that get a slot type, in order, each with the first slot type in
+/// interface order that it gets. A function gets a slot type where it stands as the value of a field that the
+/// interface types: in an initialiser, or as the value of a store to the field.
+///
+/// `PropagateFault::Conflict` comes exactly where some function gets two slot types whose annotations have not the
+/// same canonical text; it names the first such function.
+pub fn propagate(alloc: Global, i: &Interface, m: &Module) -> Result<Annotated, PropagateFault>
+    requires { IsLawful m.now }
+    ensures { Propagates i.now m.now result }
+{
+    let marks = marks_of(alloc, i, m)?;
+    match check_module(alloc, i, m, &marks) {
+        Ok(()) => {
+            let list = annotated_of(alloc, i, m, &marks)?;
+            Ok(list)
+        }
+        Err(fault) => Err(fault),
+    }
+}

@@ -1,0 +1,6 @@
+pub mod Lines
+pub mod Faults
+pub mod Turns
+pub mod Names
+pub mod Inputs
+pub mod Laws

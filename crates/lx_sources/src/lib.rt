@@ -1,0 +1,21 @@
+//! The files of a command, read in their order.
+//!
+//! [`read_sources`] asks a shelf for the case, the kernel, the interface, the modules in the order of the case, and the
+//! schedule where there is one, and reads each as it comes. The first file that is not read, or the first fault, ends it:
+//! for a module `cut.ll` that ends too early, the fault that [`fault_text`] prints as `cut.ll:3: ir 2 end`.
+#![tactic(auto)]
+
+mod file;
+mod line;
+mod reading;
+mod sources;
+mod stop;
+mod turns;
+
+pub use line::{FaultKind, FaultLine, fault_text};
+pub use sources::{Sources, one_input, read_sources};
+pub use stop::InputStop;
+pub use turns::Modules;
+
+#[cfg(test)]
+mod tests;

@@ -1,0 +1,54 @@
+-- The activation that a running function in code stands for.
+use Rattle.std.specs.Prelude.{ℕ, suc, Bool, true, false, Option, Some, None, List, [], ◌∷◌, drop, reverse, slice_get}
+use Rattle.lx_ir.specs.declared.instr.Op.{Op}
+use Rattle.lx_model.specs.declared.program.Program.{Program}
+use Rattle.lx_model.specs.Thread.{CodeBlock, Activation, routine}
+use Rattle.lx_model.specs.Effect.{is_phi, without_phis}
+use Rattle.lx_steps.specs.declared.activation.Activation.{Activation as Running}
+
+-- the block with a number; one without a label and instructions, where there is none
+abbrev pub block_or_none : Option CodeBlock → CodeBlock
+block_or_none None = record { label = []; code = [] }
+block_or_none (Some b) = b
+
+abbrev pub block_at : List CodeBlock → ℕ → CodeBlock
+block_at blocks k = block_or_none (slice_get blocks k)
+
+-- what is left of a block's instructions from a place on, without its phis where it was reached by a jump
+abbrev pub rest_from : Bool → ℕ → List Op → List Op
+rest_from true place code = without_phis (drop place code)
+rest_from false place code = drop place code
+
+abbrev pub run_of : Program → Running → Activation
+run_of p a =
+    record {
+      function = a.function;
+      blocks = (routine p a.function).blocks;
+      label = (block_at (routine p a.function).blocks a.block).label;
+      code = rest_from a.arrived a.place (block_at (routine p a.function).blocks a.block).code;
+      registers = a.registers.items;
+      low = a.low;
+      high = a.high;
+      allocas = reverse a.allocas.items;
+    }
+
+-- the next instruction
+abbrev pub head_of : List Op → Option Op
+head_of [] = None
+head_of (o ∷ os) = Some o
+
+-- what is left from an instruction on that is no phi
+abbrev pub behind_found : Bool → ℕ → List Op → Option Op → List Op
+behind_found arrived place code None = []
+behind_found arrived place code (Some o) = o ∷ rest_from arrived (suc place) code
+
+abbrev pub front_at : Bool → ℕ → List Op → List Op
+front_at arrived place code = behind_found arrived place code (slice_get code place)
+
+-- a phi stands at the place
+abbrev pub is_phi_in : Option Op → Bool
+is_phi_in None = false
+is_phi_in (Some o) = is_phi o
+
+abbrev pub phi_at : List Op → ℕ → Bool
+phi_at code place = is_phi_in (slice_get code place)

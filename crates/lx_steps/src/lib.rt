@@ -1,0 +1,18 @@
+//! What one instruction of a running function does: its value, where control goes, or what it asks.
+#![tactic(auto)]
+
+mod activation;
+mod calls;
+mod effect;
+mod elements;
+mod jumps;
+mod memory;
+mod operand;
+mod steps;
+#[cfg(test)]
+mod tests;
+mod values;
+
+pub use activation::{Activation, Range};
+pub use effect::{Effect, instruction_effect};
+pub use steps::{call_result, instruction, registers_of, returned};

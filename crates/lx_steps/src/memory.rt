@@ -1,0 +1,88 @@
+//! Instructions that ask for memory.
+ghost use Rattle.std.specs.Prelude.{◌≡◌, IsTrue};
+ghost use Rattle.lx_model.specs.Effect.{effect, types_of};
+ghost use Rattle.lx_ir.specs.declared.instr.Op.TheVariants as op;
+ghost use Rattle.lx_steps.specs.Effects.{effect_of};
+ghost use Rattle.lx_code.specs.Reach.{is_sized_type};
+ghost use Rattle.lx_steps.specs.Standing.{run_of};
+ghost use Rattle.std.specs.Prelude.{ℕ, Bool};
+
+use crate::activation::Activation;
+use crate::effect::Effect;
+use crate::operand::operand;
+use lx_code::{Code, cut, width_of};
+use lx_ir::instr::Argument;
+use lx_ir::module::Value;
+use lx_ir::types::{IrType, Scalar};
+use lx_ir::{align_of, size_of};
+use lx_model::request::What;
+use lx_words::Width;
+
+/// Bytes of the stack for a value of a type.
+pub(crate) fn alloca(code: &Code, run: &Activation, ty: &IrType) -> Effect
+    requires { IsTrue (is_sized_type (types_of code.now (run_of code.now run.now)) ty.now) }
+    ensures { (to : ℕ) → effect_of code.now (run_of code.now run.now) result ≡ effect code.now (run_of code.now run.now) (op.Alloca to ty.now) }
+{
+    let text = code.text(code.home(run.function));
+    let align = align_of(text, ty);
+    Effect::Wants(What::Alloca {
+        at: run.high.next_multiple_of(align),
+        size: size_of(text, ty),
+    })
+}
+
+/// A word of memory.
+pub(crate) fn load(code: &Code, run: &Activation, ty: &Scalar, at: &Value) -> Effect
+    ensures { (to : ℕ) → effect_of code.now (run_of code.now run.now) result ≡ effect code.now (run_of code.now run.now) (op.Load to ty.now at.now) }
+{
+    Effect::Wants(What::Load {
+        at: operand(code, run, at).bits,
+        width: width_of(ty),
+    })
+}
+
+/// A word into memory.
+pub(crate) fn store(code: &Code, run: &Activation, ty: &Scalar, value: &Value, at: &Value) -> Effect
+    ensures { effect_of code.now (run_of code.now run.now) result ≡ effect code.now (run_of code.now run.now) (op.Store ty.now value.now at.now) }
+{
+    let value = operand(code, run, value);
+    Effect::Wants(What::Store {
+        at: operand(code, run, at).bits,
+        value: cut(width_of(ty), value.bits),
+    })
+}
+
+/// Bytes of memory to another place.
+pub(crate) fn copy(
+    code: &Code,
+    run: &Activation,
+    dest: &Value,
+    source: &Value,
+    len: &Argument,
+) -> Effect
+    ensures { (moves : Bool) → effect_of code.now (run_of code.now run.now) result ≡ effect code.now (run_of code.now run.now) (op.CopyBlock moves dest.now source.now len.now) }
+{
+    Effect::Wants(What::Copy {
+        to: operand(code, run, dest).bits,
+        from: operand(code, run, source).bits,
+        len: operand(code, run, &len.value).bits,
+    })
+}
+
+/// A byte into bytes of memory.
+pub(crate) fn fill(
+    code: &Code,
+    run: &Activation,
+    dest: &Value,
+    byte: &Value,
+    len: &Argument,
+) -> Effect
+    ensures { effect_of code.now (run_of code.now run.now) result ≡ effect code.now (run_of code.now run.now) (op.FillBlock dest.now byte.now len.now) }
+{
+    let byte = operand(code, run, byte).bits % 0x100;
+    Effect::Wants(What::Fill {
+        to: operand(code, run, dest).bits,
+        byte: byte as u8,
+        len: operand(code, run, &len.value).bits,
+    })
+}

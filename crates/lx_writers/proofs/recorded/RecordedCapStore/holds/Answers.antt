@@ -1,0 +1,8 @@
+-- Zeros change nothing that is held.
+use Rattle.std.proofs.Common.{◌∙◌}
+use Rattle.lx_writers.specs.Recorded.{without_zeros}
+use Rattle.lx_writers.proofs.Recording.{held_same}
+use Rattle.lx_writers.proofs.recorded.RecordedCapStore.holds.Goals as goal
+
+pub returns : goal.returns
+returns g c = λ h is. c.holds.ensures (without_zeros h) is.owned ∙ held_same h c.args.who c.args.cap
