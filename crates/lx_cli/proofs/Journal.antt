@@ -20,7 +20,7 @@ use Rattle.lx_model.specs.State.{State}
 use Rattle.lx_model.specs.Thread.{Thread, has_work}
 use Rattle.lx_model.specs.Next.{next}
 use Rattle.lx_model.specs.World.{World, event, event_of, event_if, works, can_act, run, is_whole}
-use Rattle.lx_cli.proofs.Ascii.{and_true}
+use Rattle.lx_cli.proofs.Booleans.{and_true}
 
 entered_keeps : (p : Program) (s : State) (caller : Principal) (way : Way) (n : ℕ) (r : Found Running) → (entering_as p s caller way n r).state.journal ≡ s.journal
 entered_keeps p s caller way n (Err at) = refl

@@ -1,6 +1,10 @@
-pub mod Ascii
-pub mod BehindCase
+pub mod Booleans
+pub mod Formed
 pub mod Journal
+pub mod Replays
 pub mod Reported
+pub mod Statuses
+pub mod Telling
 pub mod Threads
+pub mod Turns
 pub mod Written

@@ -1,5 +1,5 @@
 -- A report tells of a whole run.
-use Rattle.std.proofs.Common.{◌≡◌, ◌∙◌, sym, ap, subst, refl, ℕ, Bool, true, List, [], ◌∷◌, ◌++◌, append_assoc, length, map, Result, IfOk, Ok, Err}
+use Rattle.std.proofs.Common.{◌≡◌, ◌∙◌, sym, ap, subst, refl, ℕ, Bool, true, List, [], ◌∷◌, ◌++◌, append_assoc, length, map, Option, Result, IfOk, Ok, Err}
 use Rattle.std.specs.Prelude.{flat_map}
 use Rattle.std.specs.List.{enumerate_from}
 use Rattle.lx_model.specs.declared.program.Program.{Program}
@@ -9,7 +9,10 @@ use Rattle.lx_model.specs.Account.{account, schedule_of}
 use Rattle.lx_model.specs.World.{World, run, is_whole, opening}
 use Rattle.lx_report.specs.Report.{report_text, schedule_line, call_line, note_line, image_line, owner_line}
 use Rattle.lx_report.specs.Laws.{ReportLaws, IsSchedule}
-use Rattle.lx_cli.specs.Answer.{IsAccountOf, IsReport, all_returned}
+use Rattle.lx_cli.specs.Answer.{IsAccountOf, IsAsked, IsReport, all_returned}
+use Rattle.lx_cli.specs.Told.{TellsRun}
+use Rattle.lx_cli.specs.declared.answer.Answer.{Answer}
+use Rattle.lx_cli.specs.declared.answer.Answer.TheVariants as answer
 use Rattle.lx_cli.proofs.Journal.{schedule_ran}
 
 -- what stands behind the first line
@@ -42,18 +45,29 @@ account_is laws p w q a schedule text returned q_is a_is s_is lawful text_is ret
       status = sym (returned_is ∙ ap (λ (b : Account). all_returned b.outcomes) a_is);
     }
 
-pub report_is : (p : Program) (script : List (List ScriptCall)) (s : List ℕ) (returned : Bool) (text : List ℕ)
-    → is_whole p s (opening p script) ≡ true → IsAccountOf p (run p s (opening p script)) returned text → IsReport p script returned text
-report_is p script s returned text whole tells =
-    let same : schedule_of (run p s (opening p script)) ≡ s = schedule_ran p s (opening p script) refl whole in
-    record {
-      schedule = s;
-      whole = whole;
-      reported = tells.reported;
-      line = (tells.line.0, tells.line.1 ∙ ap (λ (l : List ℕ). schedule_line l ++ tells.line.0) same);
-      only = λ other rest is_other is. tells.only other rest is_other is ∙ same;
-      status = tells.status;
-    }
+pub report_is : (p : Program) (script : List (List ScriptCall)) (s : List ℕ) (asked : Option (List ℕ)) (returned : Bool) (text : List ℕ)
+    → is_whole p s (opening p script) ≡ true → IsAsked asked s → IsAccountOf p (run p s (opening p script)) returned text
+    → (r : IsReport p script returned text) × IsAsked asked r.schedule
+report_is p script s asked returned text whole is_asked tells =
+    let same : schedule_of (run p s (opening p script)) ≡ s = schedule_ran p s (opening p script) refl whole in (
+      record {
+        schedule = s;
+        whole = whole;
+        reported = tells.reported;
+        line = (tells.line.0, tells.line.1 ∙ ap (λ (l : List ℕ). schedule_line l ++ tells.line.0) same);
+        only = λ other rest is_other is. tells.only other rest is_other is ∙ same;
+        status = tells.status;
+      },
+      is_asked,
+    )
+
+-- the answer tells of the run of a schedule
+pub told_of : (p : Program) (script : List (List ScriptCall)) (s : List ℕ) (asked : Option (List ℕ)) (a : Answer)
+    → is_whole p s (opening p script) ≡ true → IsAsked asked s
+    → (text : List ℕ) × (returned : Bool) × (a ≡ answer.Report text returned) × IsAccountOf p (run p s (opening p script)) returned text
+    → TellsRun p script asked a
+told_of p script s asked a whole is_asked (text, returned, is, tells) =
+    subst (TellsRun p script asked) (sym is) (report_is p script s asked returned text whole is_asked tells)
 
 pub if_ok : {A E : Type 0} {P Q : A → Type 0} (r : Result A E) → ((a : A) → P a → Q a) → IfOk r P → IfOk r Q
 if_ok (Ok a) f is = f a is

@@ -9,7 +9,7 @@ use Rattle.lx_model.specs.Next.{next, absorb}
 use Rattle.lx_model.specs.Serve.{serve}
 use Rattle.lx_model.specs.World.{World, event, event_of, event_if, works, can_act, is_done, run, is_whole}
 use Rattle.lx_cli.specs.Runs.{is_lawful}
-use Rattle.lx_cli.proofs.Ascii.{and_true}
+use Rattle.lx_cli.proofs.Booleans.{and_true}
 
 -- a thread without work gets none
 
@@ -107,7 +107,7 @@ one_thread_more p w t s more to lawful idle = record {
 
 -- an event more
 
-not_false : (b : Bool) → (b ≡ false → ⊥) → b ≡ true
+pub not_false : (b : Bool) → (b ≡ false → ⊥) → b ≡ true
 not_false true _ = refl
 not_false false never = absurd (never refl)
 

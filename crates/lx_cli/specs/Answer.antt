@@ -1,17 +1,17 @@
 -- What the program writes for each status.
-use Rattle.std.specs.Prelude.{◌≡◌, ◌⊎◌, ℕ, zero, suc, ◌<◌, Bool, true, false, List, [], ◌∷◌, ◌++◌, length, take, codes, Option, Some, None}
-use Rattle.std.specs.List.{list_all, Contains}
+use Rattle.std.specs.Prelude.{◌≡◌, ℕ, suc, Bool, true, false, List, [], ◌∷◌, ◌++◌, codes, Option, Some, None, option_map, if◌then◌else◌}
+use Rattle.std.specs.List.{list_all}
+use Rattle.lx_words.specs.Text.{decimal_text}
 use Rattle.lx_model.specs.declared.program.Program.{Program}
 use Rattle.lx_model.specs.declared.program.ScriptCall.{ScriptCall}
 use Rattle.lx_model.specs.declared.account.CallOutcome.{CallOutcome}
 use Rattle.lx_model.specs.declared.request.Outcome.{Outcome}
 use Rattle.lx_model.specs.declared.request.Outcome.TheVariants.{Returned}
-use Rattle.lx_model.specs.World.{World, opening, run, is_whole}
+use Rattle.lx_model.specs.World.{World, opening, run, event, can_act, is_done, is_whole}
 use Rattle.lx_model.specs.Account.{account, schedule_of}
 use Rattle.lx_report.specs.Report.{report_text, schedule_line}
 use Rattle.lx_report.specs.Laws.{IsSchedule}
-use Rattle.lx_outside.specs.declared.file_text.FileText.{FileText}
-use Rattle.lx_cli.specs.Input.{command_of, input_of, turns_of, Later, Ready}
+use Rattle.lx_input.specs.declared.input.Input.{Input}
 
 abbrev pub is_returned : Outcome → Bool
 is_returned (Returned v) = true
@@ -38,13 +38,32 @@ pub record IsReport (p : Program) (script : List (List ScriptCall)) (returned : 
   pub only : (other : List ℕ) (rest : List ℕ) → IsSchedule other → text ≡ schedule_line other ++ rest → other ≡ schedule
   pub status : all_returned (account p (run p schedule (opening p script))).outcomes ≡ returned
 
+-- the schedule is the one that is replayed, where one is
+abbrev pub IsAsked : Option (List ℕ) → List ℕ → Type 0
+IsAsked None schedule = Unit {0}
+IsAsked (Some asked) schedule = schedule ≡ asked
+
+-- the report of an input: under a schedule of the program's choice, or under the one that is replayed
+pub record IsReportOf (i : Input) (returned : Bool) (text : List ℕ) : Type 0 where
+  pub report : IsReport i.program i.script returned text
+  pub asked : IsAsked i.schedule report.schedule
+
+-- the first entry of a schedule, counted from 0, that names a thread without work, or the number of entries where work remains behind the last
+abbrev pub broken_at : Program → List ℕ → World → Option ℕ
+broken_at p [] w = if is_done w then None else Some 0
+broken_at p (t ∷ ts) w = if can_act w t then option_map suc (broken_at p ts (event p t w)) else Some 0
+
+-- the schedule that is replayed is broken at this entry
+abbrev pub IsBroken : Input → ℕ → Type 0
+IsBroken i entry = (asked : List ℕ) × (i.schedule ≡ Some asked) × (broken_at i.program asked (opening i.program i.script) ≡ Some entry)
+
 -- the lines of the other statuses
 
 abbrev pub usage_line : List ℕ
 usage_line = codes "usage: lxfi_run run CASE | replay CASE SCHEDULE | instrument CASE MODULE | check CASE MODULE IMAGE | generate N\n"
 
-abbrev pub later_line : List ℕ → List ℕ
-later_line file = file ++ codes ":1: form 1 later\n"
-
 abbrev pub unread_line : List ℕ → List ℕ
 unread_line file = codes "lxfi: cannot read " ++ file ++ codes "\n"
+
+unfoldable pub broken_line : ℕ → List ℕ
+broken_line entry = codes "lxfi: schedule not whole at entry " ++ decimal_text entry ++ codes "\n"

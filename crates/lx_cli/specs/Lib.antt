@@ -1,5 +1,5 @@
 pub mod Answer
-pub mod Input
+pub mod Command
 pub mod Rows
 pub mod Runs
-pub mod Turns
+pub mod Told

@@ -1,31 +1,36 @@
 -- What was written, for each status.
-use Rattle.std.specs.Prelude.{◌≡◌, ◌≢◌, ◌⊎◌, ℕ, zero, suc, ◌<◌, Bool, true, false, List, [], ◌∷◌, ◌++◌, length, take, Option, Some, None, if◌then◌else◌}
+use Rattle.std.specs.Prelude.{◌≡◌, ℕ, zero, suc, ◌<◌, Bool, true, false, List, [], ◌∷◌, ◌++◌, length, take, Option, Some, None, Ok, Err, if◌then◌else◌}
 use Rattle.std.specs.List.{Contains}
-use Rattle.lx_model.specs.declared.program.Program.{Program}
-use Rattle.lx_model.specs.declared.program.ScriptCall.{ScriptCall}
 use Rattle.lx_outside.specs.declared.file_text.FileText.{FileText}
-use Rattle.lx_cli.specs.Answer.{IsReport, usage_line, later_line, unread_line}
-use Rattle.lx_cli.specs.Input.{command_of, input_of, turns_of, Later, Ready}
+use Rattle.lx_sources.specs.declared.line.FaultLine.{FaultLine}
+use Rattle.lx_sources.specs.declared.stop.InputStop.TheVariants as stops
+use Rattle.lx_sources.specs.Lines.{fault_text}
+use Rattle.lx_input.specs.declared.input.Input.{Input}
+use Rattle.lx_cli.specs.Answer.{IsReportOf, IsBroken, usage_line, unread_line, broken_line}
+use Rattle.lx_cli.specs.Command.{command_of, ComesTo}
 use Rattle.lx_cli.specs.declared.answer.Answer.{Answer}
 use Rattle.lx_cli.specs.declared.answer.Answer.TheVariants as answer
 
 -- the text is a report of the input, where every call returned or not
 abbrev pub Reported : List (List ℕ) → List FileText → Bool → List ℕ → Type 0
-Reported words files returned text =
-    (p : Program) × (script : List (List ScriptCall)) × (input_of words files ≡ Ready p script) × IsReport p script returned text
+Reported words files returned text = (i : Input) × ComesTo words files (Ok i) × IsReportOf i returned text
 
 -- the words are no command
 abbrev pub NoCommandText : List (List ℕ) → List ℕ → Type 0
 NoCommandText words text = (command_of words ≡ None) × (text ≡ usage_line)
 
--- the file has the input's first fault
+-- the line is about the input's first fault
 abbrev pub FaultText : List (List ℕ) → List FileText → List ℕ → Type 0
-FaultText words files text = (file : List ℕ) × (input_of words files ≡ Later file) × (text ≡ later_line file)
+FaultText words files text = (f : FaultLine) × ComesTo words files (Err (stops.Fault f)) × (text ≡ fault_text f)
 
 -- the shelf's newest fault is at a file of a turn that the input reaches
 abbrev pub UnreadText : List (List ℕ) → List FileText → List (List ℕ) → List (List ℕ) → List ℕ → Type 0
 UnreadText words files before now text =
-    (file : List ℕ) × Contains (turns_of words files) file × (now ≡ before ++ file ∷ []) × (text ≡ unread_line file)
+    (file : List ℕ) × ComesTo words files (Err (stops.Unread file)) × (now ≡ before ++ file ∷ []) × (text ≡ unread_line file)
+
+-- the schedule that is replayed is not whole
+abbrev pub BrokenText : List (List ℕ) → List FileText → List ℕ → Type 0
+BrokenText words files text = (i : Input) × (entry : ℕ) × ComesTo words files (Ok i) × IsBroken i entry × (text ≡ broken_line entry)
 
 -- the whole text of a status, where the shelf's faults were `before` and are `now`. The statuses 5 and 6 have none
 abbrev pub RowText : List (List ℕ) → List FileText → List (List ℕ) → List (List ℕ) → ℕ → List ℕ → Type 0
@@ -34,7 +39,10 @@ RowText words files before now (suc zero) text = Reported words files false text
 RowText words files before now (suc (suc zero)) text = NoCommandText words text
 RowText words files before now (suc (suc (suc zero))) text = FaultText words files text
 RowText words files before now (suc (suc (suc (suc zero)))) text = UnreadText words files before now text
-RowText words files before now (suc (suc (suc (suc (suc n))))) text = ⊥
+RowText words files before now (suc (suc (suc (suc (suc zero))))) text = ⊥
+RowText words files before now (suc (suc (suc (suc (suc (suc zero)))))) text = ⊥
+RowText words files before now (suc (suc (suc (suc (suc (suc (suc zero))))))) text = BrokenText words files text
+RowText words files before now (suc (suc (suc (suc (suc (suc (suc (suc n)))))))) text = ⊥
 
 -- the sink gained the whole text of the status
 pub record Wrote (words : List (List ℕ)) (files : List FileText) (before now : List (List ℕ)) (told : List ℕ) (new : Option (List ℕ)) (status : ℕ) : Type 0 where
@@ -49,31 +57,33 @@ pub record FellShort (words : List (List ℕ)) (files : List FileText) (before n
   pub row : RowText words files before now status text
   pub part : (n : ℕ) × (n < length text) × (new ≡ Some (told ++ take n text))
 
--- The case and the module were read, and the sink gained the report of the monitor's run of the program as it is
--- written, under the schedule that the report itself prints. The status says whether every call returned
+-- The words are a command and its files were read, and the sink gained the report of the monitor's run of the program as
+-- it is written, under the schedule that the report itself prints. The status says whether every call returned
 pub record Headline (words : List (List ℕ)) (files : List FileText) (told : List ℕ) (new : Option (List ℕ)) (status : ℕ) : Type 0 where
-  pub program : Program
-  pub script : List (List ScriptCall)
-  pub ready : input_of words files ≡ Ready program script
+  pub input : Input
+  pub read : ComesTo words files (Ok input)
   pub text : List ℕ
   pub returned : Bool
-  pub report : IsReport program script returned text
+  pub report : IsReportOf input returned text
   pub is_status : status ≡ (if returned then 0 else 1)
   pub gained : new ≡ Some (told ++ text)
 
--- no name that is new among the faults is one of these
-abbrev pub NoNewFault : List (List ℕ) → List (List ℕ) → List (List ℕ) → Type 0
-NoNewFault before now names = (more : List (List ℕ)) (name : List ℕ) → now ≡ before ++ more → Contains more name → Contains names name → ⊥
+-- no name that is new among the faults is a file of a turn that the input reaches
+abbrev pub NoNewFault : List (List ℕ) → List (List ℕ) → List (List ℕ) → List FileText → Type 0
+NoNewFault before now words files =
+    (more : List (List ℕ)) (name : List ℕ) → now ≡ before ++ more → Contains more name → ComesTo words files (Err (stops.Unread name)) → ⊥
 
 -- the answers of the program, before they are written
 
 abbrev pub answer_text : Answer → List ℕ
-answer_text (answer.Later file) = later_line file
+answer_text (answer.Fault f) = fault_text f
 answer_text (answer.Unread file) = unread_line file
+answer_text (answer.Broken entry) = broken_line entry
 answer_text (answer.Report text returned) = text
 
 abbrev pub status_of : Answer → ℕ
-status_of (answer.Later file) = 3
+status_of (answer.Fault f) = 3
 status_of (answer.Unread file) = 4
+status_of (answer.Broken entry) = 7
 status_of (answer.Report text true) = 0
 status_of (answer.Report text false) = 1

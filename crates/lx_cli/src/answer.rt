@@ -1,17 +1,22 @@
 //! What the program answers to a command, before it is written.
 ghost use Rattle.std.specs.Prelude.{◌≡◌, ◌++◌, IfOk};
+ghost use Rattle.lx_cli.specs.Answer.{broken_line, unread_line};
 ghost use Rattle.lx_cli.specs.Rows.{answer_text, status_of};
 
-use lx_words::{Memory, Name};
+use lx_sources::{FaultLine, fault_text};
+use lx_words::{Memory, Name, put_decimal};
 use std::alloc::Global;
 
 /// An answer to a command.
 #[derive(Drop)]
 pub enum Answer {
-    /// The file is not of the form that is read so far.
-    Later(Name),
+    /// The first fault of the input.
+    Fault(FaultLine),
     /// The file was not read.
     Unread(Name),
+    /// The schedule that is replayed is not whole: the first entry, counted from 0, that names a thread without work, or
+    /// the number of entries where work remains.
+    Broken(u64),
     /// The report, and whether every call returned.
     Report(Name, bool),
 }
@@ -23,19 +28,32 @@ pub(crate) fn status_of(answer: &Answer) -> u8
     match answer {
         Answer::Report(_, true) => 0,
         Answer::Report(_, false) => 1,
-        Answer::Later(_) => 3,
+        Answer::Fault(_) => 3,
         Answer::Unread(_) => 4,
+        Answer::Broken(_) => 7,
     }
 }
 
-/// A line about a file.
-fn file_line(alloc: Global, front: &str, file: &[u8], back: &str) -> Result<Name, Memory>
-    ensures { IfOk result (λ line. line ≡ front.now ++ file.now ++ back.now) }
+/// The line about a file that was not read.
+fn unread_line(alloc: Global, file: &[u8]) -> Result<Name, Memory>
+    ensures { IfOk result (λ line. line ≡ unread_line file.now) }
 {
     let mut line = Vec::new(alloc);
-    line.extend_from_slice(front.as_bytes())?;
+    line.extend_from_slice(b"lxfi: cannot read ")?;
     line.extend_from_slice(file)?;
-    line.extend_from_slice(back.as_bytes())?;
+    line.extend_from_slice(b"\n")?;
+    Ok(Name::from_vec(line))
+}
+
+/// The line about a schedule that is not whole.
+#[tactic(auto, unfolding(crate::specs::Answer::broken_line))]
+fn broken_line(alloc: Global, entry: u64) -> Result<Name, Memory>
+    ensures { IfOk result (λ line. line ≡ broken_line entry) }
+{
+    let mut line = Vec::new(alloc);
+    line.extend_from_slice(b"lxfi: schedule not whole at entry ")?;
+    put_decimal(&mut line, i128::from(entry))?;
+    line.extend_from_slice(b"\n")?;
     Ok(Name::from_vec(line))
 }
 
@@ -44,8 +62,9 @@ pub(crate) fn answer_text(alloc: Global, answer: Answer) -> Result<Name, Memory>
     ensures { IfOk result (λ text. text ≡ answer_text answer) }
 {
     match answer {
-        Answer::Later(file) => file_line(alloc, "", file.as_slice(), ":1: form 1 later\n"),
-        Answer::Unread(file) => file_line(alloc, "lxfi: cannot read ", file.as_slice(), "\n"),
+        Answer::Fault(fault) => fault_text(alloc, &fault),
+        Answer::Unread(file) => unread_line(alloc, file.as_slice()),
+        Answer::Broken(entry) => broken_line(alloc, entry),
         Answer::Report(text, _) => Ok(text),
     }
 }

@@ -2,7 +2,7 @@
 #![tactic(auto)]
 
 mod answer;
-mod input;
+mod command;
 mod run;
 #[cfg(test)]
 mod tests;

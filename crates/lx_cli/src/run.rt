@@ -1,23 +1,26 @@
-//! A run of a program, and its report.
-ghost use Rattle.std.specs.Prelude.{◌≡◌, ◌<◌, ◌≤◌, ℕ, List, [], Bool, true, false, IfOk, OnOk, length};
+//! Runs of a program, and their report.
+ghost use Rattle.std.specs.Prelude.{◌≡◌, ◌<◌, ◌≤◌, ℕ, List, [], Bool, Some, None, true, false, IfOk, OnOk, length, option_copied};
 ghost use Rattle.lx_model.specs.declared.program.Program.{Program};
-ghost use Rattle.lx_model.specs.World.{World as Meaning, run, is_whole, can_act};
-ghost use Rattle.lx_interp.specs.Straight.{is_straight};
-ghost use Rattle.lx_core.specs.Limits.{IsWithinLimits};
-ghost use Rattle.lx_core.specs.Worlds.{StandsForWorld, are_straight};
+ghost use Rattle.lx_model.specs.declared.program.ScriptCall.{ScriptCall};
+ghost use Rattle.lx_model.specs.World.{World as Meaning, opening, run, is_whole, can_act};
+ghost use Rattle.lx_link_texts.specs.WellFormed.{IsWellFormed};
+ghost use Rattle.lx_input.specs.Laws.{IsReady};
+ghost use Rattle.lx_world.specs.Worlds.{StandsForWorld};
 ghost use Rattle.lx_report.specs.Laws.{IsSchedule};
-ghost use Rattle.lx_cli.specs.Answer.{IsReport, IsAccountOf, is_returned, all_returned};
-ghost use Rattle.lx_cli.specs.Runs.{is_lawful};
+ghost use Rattle.lx_cli.specs.Answer.{IsAccountOf, is_returned, all_returned, broken_at};
+ghost use Rattle.lx_cli.specs.Runs.{images_of, is_lawful};
+ghost use Rattle.lx_cli.specs.Told.{TellsRun};
 
 use crate::answer::Answer;
 use lx_caps::{CapStore, PlainCaps};
-use lx_core::{EventFault, World};
-use lx_interp::straight_code;
-use lx_model::account::CallOutcome;
-use lx_model::program::{Calls, Program};
+use lx_input::Input;
+use lx_model::account::{CallOutcome, ImageCount};
 use lx_model::request::Outcome;
+use lx_opening::open_world;
 use lx_report::{report, report_laws};
-use lx_words::{Memory, Name};
+use lx_tables::image_counts;
+use lx_words::{Items, Memory, Name};
+use lx_world::{EventFault, World};
 use std::alloc::Global;
 
 /// Runs a thread until it has no call left.
@@ -45,6 +48,27 @@ fn run_threads<C: CapStore + Drop>(world: &mut World<C>, count: u32) -> Result<(
     Ok(())
 }
 
+/// Runs the threads in the order of a schedule. Where it is not whole, the answer is its first entry, counted from 0,
+/// that names a thread without work, or its length where work remains behind it.
+fn replay<C: CapStore + Drop>(world: &mut World<C>, schedule: &[u32]) -> Result<Option<u64>, Memory>
+    ensures broken { IfOk result (λ broken. (p : Program) (w : Meaning) → StandsForWorld C.stands p world.old w → broken ≡ broken_at p schedule.now w) }
+    ensures whole { IfOk result (λ broken. (p : Program) (w : Meaning) → StandsForWorld C.stands p world.old w → broken ≡ None
+        → StandsForWorld C.stands p world.new (run p schedule.now w)) }
+{
+    for (entry, thread) in schedule.iter().enumerate() {
+        match world.event(*thread) {
+            Ok(()) => {}
+            Err(EventFault::NoWork { .. }) => return Ok(Some(entry as u64)),
+            Err(EventFault::Memory) => return Err(Memory),
+        }
+    }
+    if world.done() {
+        Ok(None)
+    } else {
+        Ok(Some(schedule.len() as u64))
+    }
+}
+
 /// Whether every call returned.
 fn all_returned(calls: &[CallOutcome]) -> bool
     ensures { result ≡ all_returned calls.now }
@@ -65,50 +89,84 @@ fn see_schedule(schedule: &[u32])
     let _ = schedule.len();
 }
 
-/// What the world did, and whether every call returned.
-fn report_of<C: CapStore + Drop>(alloc: Global, world: &World<C>) -> Result<Answer, Memory>
-    requires { (p : Program) × (w : Meaning) × StandsForWorld C.stands p world.now w }
+/// What the world did, and whether every call returned. `images` is what the images of its modules have.
+fn report_of<C: CapStore + Drop>(
+    alloc: Global,
+    world: &World<C>,
+    images: Items<ImageCount>,
+) -> Result<Answer, Memory>
+    requires { (p : Program) × (w : Meaning) × StandsForWorld C.stands p world.now w × IsWellFormed p × (images ≡ images_of p) }
     ensures { IfOk result (λ a. (text : List ℕ) × (returned : Bool) × (a ≡ Answer.Report text returned)
         × ((p : Program) (w : Meaning) → StandsForWorld C.stands p world.now w → IsAccountOf p w returned text)) }
 {
     report_laws();
     see_schedule(world.schedule());
-    let account = world.account(alloc)?;
+    let account = world.account(alloc, images)?;
     let text = report(alloc, &account, world.program())?;
     let returned = all_returned(account.outcomes.as_slice());
     Ok(Answer::Report(Name::from_vec(text), returned))
 }
 
+/// Runs the threads one after the other, and reports.
 fn run_world<C: CapStore + Drop>(
     alloc: Global,
-    program: Program,
-    script: Vec<Calls>,
-    caps: C,
+    mut world: World<C>,
+    threads: u32,
+    images: Items<ImageCount>,
 ) -> Result<Answer, Memory>
-    requires straight { is_straight program ≡ true }
-    requires limits { IsWithinLimits program }
-    requires threads { length script.items ≤ 16 }
-    requires calls { are_straight program script.items ≡ true }
-    requires new { C.stands caps [] }
-    ensures { IfOk result (λ a. (text : List ℕ) × (returned : Bool) × (a ≡ Answer.Report text returned) × IsReport program script.items returned text) }
+    requires { (p : Program) × (script : List (List ScriptCall)) × StandsForWorld C.stands p world (opening p script)
+        × IsWellFormed p × (images ≡ images_of p) × (length script ≡ threads) }
+    ensures { IfOk result (λ a. (p : Program) (script : List (List ScriptCall)) → StandsForWorld C.stands p world (opening p script)
+        → length script ≡ threads → TellsRun p script None a) }
 {
-    let threads = script.len() as u32;
-    let mut world = World::open(alloc, straight_code(alloc, program), script, caps)?;
     run_threads(&mut world, threads)?;
-    report_of(alloc, &world)
+    report_of(alloc, &world, images)
 }
 
-/// Runs the threads one after the other, and reports.
-pub(crate) fn run_program(
+/// Runs the threads in the order of a schedule, and reports where it is whole.
+fn replay_world<C: CapStore + Drop>(
     alloc: Global,
-    program: Program,
-    script: Vec<Calls>,
+    mut world: World<C>,
+    schedule: &[u32],
+    images: Items<ImageCount>,
 ) -> Result<Answer, Memory>
-    requires straight { is_straight program ≡ true }
-    requires limits { IsWithinLimits program }
-    requires threads { length script.items ≤ 16 }
-    requires calls { are_straight program script.items ≡ true }
-    ensures { IfOk result (λ a. (text : List ℕ) × (returned : Bool) × (a ≡ Answer.Report text returned) × IsReport program script.items returned text) }
+    requires { (p : Program) × (script : List (List ScriptCall)) × StandsForWorld C.stands p world (opening p script)
+        × IsWellFormed p × (images ≡ images_of p) }
+    ensures { IfOk result (λ a. (p : Program) (script : List (List ScriptCall)) → StandsForWorld C.stands p world (opening p script)
+        → TellsRun p script (Some schedule.now) a) }
 {
-    run_world(alloc, program, script, PlainCaps::new(alloc))
+    match replay(&mut world, schedule)? {
+        Some(entry) => Ok(Answer::Broken(entry)),
+        None => report_of(alloc, &world, images),
+    }
+}
+
+/// Runs an input over a store of capabilities, and reports.
+fn run_over<C: CapStore + Drop>(alloc: Global, input: Input, caps: C) -> Result<Answer, Memory>
+    requires ready { IsReady input }
+    requires new { C.stands caps [] }
+    ensures { IfOk result (TellsRun input.program input.script input.schedule) }
+{
+    let Input {
+        program,
+        script,
+        annotated,
+        schedule,
+    } = input;
+    let threads = script.len() as u32;
+    let annotated = annotated.as_slice();
+    let images = image_counts(alloc, &program, annotated)?;
+    let world = open_world(alloc, program, script.into_vec(), annotated, caps)?;
+    match schedule {
+        None => run_world(alloc, world, threads, images),
+        Some(schedule) => replay_world(alloc, world, schedule.as_slice(), images),
+    }
+}
+
+/// Runs an input, under the schedule that is replayed where there is one, and reports.
+pub(crate) fn run_input(alloc: Global, input: Input) -> Result<Answer, Memory>
+    requires { IsReady input }
+    ensures { IfOk result (TellsRun input.program input.script input.schedule) }
+{
+    run_over(alloc, input, PlainCaps::new(alloc))
 }

@@ -1,16 +1,24 @@
 //! The whole program.
-ghost use Rattle.std.specs.Prelude.{◌≡◌, ◌≢◌, ◌⊎◌, ◌++◌, ◌∷◌, ◌<◌, [], List, ℕ, Some, None, length, take};
-ghost use Rattle.std.specs.List.{Contains};
-ghost use Rattle.lx_model.specs.declared.program.Program.{Program};
-ghost use Rattle.lx_model.specs.declared.program.ScriptCall.{ScriptCall};
+ghost use Rattle.std.specs.Prelude.{◌≡◌, ◌≢◌, ◌⊎◌, ◌++◌, ◌∷◌, ◌<◌, [], List, ℕ, Some, None, Ok, Err, IfOk, length, option_copied, take};
 ghost use Rattle.lx_outside.specs.declared.file_text.FileText.{FileText};
 ghost use Rattle.lx_outside.specs.Counts.{HasRisen};
-ghost use Rattle.lx_cli.specs.Input.{Missing, Later, Ready, command_of, input_of, turns_of, texts};
+ghost use Rattle.lx_outside.specs.Files.{file_at};
+ghost use Rattle.lx_sources.specs.declared.line.FaultLine.{FaultLine};
+ghost use Rattle.lx_sources.specs.declared.stop.InputStop.TheVariants as stops;
+ghost use Rattle.lx_input.specs.declared.input.Input.{Input};
+ghost use Rattle.lx_input.specs.Inputs.{InputTurn};
+ghost use Rattle.lx_cli.specs.Answer.{IsBroken};
+ghost use Rattle.lx_cli.specs.Command.{ComesTo, IsRun, command_of, texts};
 ghost use Rattle.lx_cli.specs.Rows.{Wrote, FellShort, Headline, NoNewFault};
+ghost use Rattle.lx_cli.specs.Told.{TellsInput};
 
-use crate::answer::{answer_text, status_of};
-use crate::input::{case_turn, command_of};
+use crate::answer::{Answer, answer_text, status_of};
+use crate::command::{Command, command_of};
+use crate::run::run_input;
+use lx_input::{one_input, read_input};
 use lx_outside::{Gate, Shelf, Sink, put_all};
+use lx_sources::InputStop;
+use lx_words::Memory;
 use std::alloc::Global;
 use std::sync::Wait;
 use std::thread::Threads;
@@ -27,7 +35,7 @@ const WANT_OF_MEMORY: u8 = 6;
 
 /// Writes the whole text of a status, and gives that status, or the one of a sink that did not take all.
 fn put<K: Sink>(sink: &mut K, text: &[u8], status: u8) -> u8
-    requires { status < 5 }
+    requires { status ≢ 5 }
     ensures status { result ≢ 5 → result ≡ status }
     ensures all { result ≢ 5 → (told : List ℕ) → K.bytes sink.old ≡ Some told → K.bytes sink.new ≡ Some (told ++ text.now) }
     ensures prefix { result ≡ 5 → (told : List ℕ) → K.bytes sink.old ≡ Some told
@@ -37,6 +45,32 @@ fn put<K: Sink>(sink: &mut K, text: &[u8], status: u8) -> u8
     match put_all(sink, text) {
         Ok(()) => status,
         Err(_) => NOT_TAKEN,
+    }
+}
+
+/// The answer where the input ends before it is run.
+fn stopped(stop: InputStop) -> Result<Answer, Memory>
+    ensures { IfOk result (λ a. TellsInput (λ came. came ≡ Err stop) a) }
+{
+    match stop {
+        InputStop::Fault(fault) => Ok(Answer::Fault(fault)),
+        InputStop::Unread(file) => Ok(Answer::Unread(file)),
+        InputStop::Memory => Err(Memory),
+    }
+}
+
+/// The answer to a command: what the first fault of its files is, which file was not read, or what its run was.
+fn answer_to<S: Shelf>(
+    alloc: Global,
+    shelf: &mut S,
+    command: &Command<'_>,
+) -> Result<Answer, Memory>
+    ensures answer { IfOk result (λ a. (files : List FileText) → S.files shelf.old ≡ Some files → TellsInput (InputTurn files command.now.case command.now.schedule) a) }
+    ensures unread { (file : List ℕ) → result ≡ Ok (Answer.Unread file) → S.faults shelf.new ≡ S.faults shelf.old ++ file ∷ [] }
+{
+    match read_input(alloc, shelf, command.case, command.schedule) {
+        Ok(input) => run_input(alloc, input),
+        Err(stop) => stopped(stop),
     }
 }
 
@@ -63,27 +97,35 @@ pub fn lxfi<R: Threads + Wait + Sync, S: Shelf, K: Sink, G: Gate + Sync>(
     // When each status comes. No command takes no memory.
     ensures usage { command_of (texts words.now) ≡ None → (result ≡ 2) ⊎ (result ≡ 5) }
     ensures usage_only { result ≡ 2 → command_of (texts words.now) ≡ None }
-    ensures fault { (files : List FileText) (file : List ℕ) → S.files shelf.old ≡ Some files → input_of (texts words.now) files ≡ Later file
+    ensures fault { (files : List FileText) (f : FaultLine) → S.files shelf.old ≡ Some files → ComesTo (texts words.now) files (Err (stops.Fault f))
         → (result ≡ 3) ⊎ (result ≡ 4) ⊎ (result ≡ 5) ⊎ (result ≡ 6) }
     ensures fault_only { result ≡ 3 → (files : List FileText) → S.files shelf.old ≡ Some files
-        → (file : List ℕ) × (input_of (texts words.now) files ≡ Later file) }
-    ensures missing { (files : List FileText) (file : List ℕ) → S.files shelf.old ≡ Some files → input_of (texts words.now) files ≡ Missing file
-        → (result ≡ 4) ⊎ (result ≡ 5) ⊎ (result ≡ 6) }
+        → (f : FaultLine) × ComesTo (texts words.now) files (Err (stops.Fault f)) }
+    ensures missing { (files : List FileText) (file : List ℕ) → S.files shelf.old ≡ Some files → ComesTo (texts words.now) files (Err (stops.Unread file))
+        → file_at files file ≡ None → (result ≡ 4) ⊎ (result ≡ 5) ⊎ (result ≡ 6) }
     ensures unread_only { result ≡ 4 → (file : List ℕ) × (S.faults shelf.new ≡ S.faults shelf.old ++ file ∷ [])
-        × ((files : List FileText) → S.files shelf.old ≡ Some files → Contains (turns_of (texts words.now) files) file) }
+        × ((files : List FileText) → S.files shelf.old ≡ Some files → ComesTo (texts words.now) files (Err (stops.Unread file))) }
     ensures not_taken_only { result ≡ 5 → HasRisen (K.faults sink.old) (K.faults sink.new) }
 
+    // A schedule that is replayed and is not whole; a run makes its own, which is.
+    ensures broken { (files : List FileText) (i : Input) (entry : ℕ) → S.files shelf.old ≡ Some files → ComesTo (texts words.now) files (Ok i)
+        → IsBroken i entry → (result ≡ 7) ⊎ (result ≡ 4) ⊎ (result ≡ 5) ⊎ (result ≡ 6) }
+    ensures broken_only { result ≡ 7 → (files : List FileText) → S.files shelf.old ≡ Some files
+        → (i : Input) × (entry : ℕ) × ComesTo (texts words.now) files (Ok i) × IsBroken i entry }
+    ensures run_whole { IsRun (texts words.now) → (files : List FileText) → S.files shelf.old ≡ Some files → result ≢ 7 }
+
     // A command and its input without a fault or a missing file, no new fault of the shelf at a file of the input, and
-    // no new fault of the sink: the report, or want of memory.
-    ensures complete { (files : List FileText) (p : Program) (script : List (List ScriptCall)) → S.files shelf.old ≡ Some files
-        → input_of (texts words.now) files ≡ Ready p script
-        → NoNewFault (S.faults shelf.old) (S.faults shelf.new) (turns_of (texts words.now) files)
-        → (HasRisen (K.faults sink.old) (K.faults sink.new) → ⊥) → (result ≡ 0) ⊎ (result ≡ 1) ⊎ (result ≡ 6) }
+    // no new fault of the sink: the report, a schedule that is not whole, or want of memory.
+    ensures complete { (files : List FileText) (i : Input) → S.files shelf.old ≡ Some files → ComesTo (texts words.now) files (Ok i)
+        → NoNewFault (S.faults shelf.old) (S.faults shelf.new) (texts words.now) files
+        → (HasRisen (K.faults sink.old) (K.faults sink.new) → ⊥)
+        → (result ≡ 0) ⊎ (result ≡ 1) ⊎ (result ≡ 6) ⊎ ((result ≡ 7) × (entry : ℕ) × IsBroken i entry) }
 {
-    let Some(case) = command_of(words) else {
+    one_input();
+    let Some(command) = command_of(words) else {
         return put(sink, USAGE.as_bytes(), 2);
     };
-    let Ok(answer) = case_turn(alloc, shelf, case) else {
+    let Ok(answer) = answer_to(alloc, shelf, &command) else {
         return WANT_OF_MEMORY;
     };
     let status = status_of(&answer);

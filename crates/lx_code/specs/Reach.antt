@@ -1,5 +1,5 @@
 -- Which programs a machine runs: those whose numbers fit their types, and whose types lie within the limits.
-use Rattle.std.specs.Prelude.{◌≡◌, ℕ, zero, suc, ◌≤◌, Bool, true, false, ◌&&◌, IsTrue, Option, Some, None, List, [], ◌∷◌, length, slice_get, nat_le}
+use Rattle.std.specs.Prelude.{◌≡◌, ℕ, ◌≤◌, Bool, true, false, IsTrue, Option, Some, None, List, length, slice_get}
 use Rattle.std.specs.List.{list_all}
 use Rattle.lx_ir.specs.declared.types.NamedType.{NamedType}
 use Rattle.lx_ir.specs.declared.module.Block.{Block}
@@ -8,28 +8,17 @@ use Rattle.lx_ir.specs.declared.module.Module.{Module}
 use Rattle.lx_ir.specs.declared.instr.Instr.{Instr}
 use Rattle.lx_ir.specs.declared.instr.Op.{Op}
 use Rattle.lx_ir.specs.declared.instr.Op.TheVariants.{Alloca, GetElementPtr}
-use Rattle.lx_ir.specs.IrType.{IrType}
-use Rattle.lx_ir.specs.Layout.{unnamed, fields_of, parts_of, is_scalar, is_lawful_type}
+use Rattle.lx_ir.specs.Layout.{is_lawful_type}
 use Rattle.lx_ir.specs.Lookup.{blocks_of}
 use Rattle.lx_model.specs.declared.program.Program.{Program}
 use Rattle.lx_model.specs.Thread.{routine}
 use Rattle.lx_model.specs.Next.{actions_of}
 use Rattle.lx_code.specs.declared.code.ActionCounts.{ActionCounts}
 
--- a `u32` numbers the fields of every struct in a type
-abbrev pub has_few_fields : List NamedType → ℕ → IrType → Bool
-has_few_fields types zero t = is_scalar t
-has_few_fields types (suc n) t =
-    nat_le (length (fields_of (unnamed types t))) 4294967296 && list_all (has_few_fields types n) (parts_of types t)
-
--- a type within the limits
-abbrev pub is_sized_type : List NamedType → IrType → Bool
-is_sized_type types t = is_lawful_type types t && has_few_fields types 64 t
-
 -- the type whose layout an instruction asks for is within the limits
 abbrev pub is_sized : List NamedType → Op → Bool
-is_sized types (Alloca to ty) = is_sized_type types ty
-is_sized types (GetElementPtr to ty base indices) = is_sized_type types ty
+is_sized types (Alloca to ty) = is_lawful_type types ty
+is_sized types (GetElementPtr to ty base indices) = is_lawful_type types ty
 is_sized types _ = true
 
 abbrev pub are_sized_instrs : List NamedType → List Instr → Bool

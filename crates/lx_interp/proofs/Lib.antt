@@ -5,5 +5,3 @@ pub mod Takings
 pub mod Replies
 pub mod Registers
 pub mod Tested
-pub mod StraightCode
-pub mod StraightSteps

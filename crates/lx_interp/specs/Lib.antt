@@ -1,2 +1,1 @@
 pub mod Runner
-pub mod Straight

@@ -95,16 +95,25 @@ pub fn align_of(m: &Module, t: &IrType) -> u64
     layout_within(m, t, DEPTH).align
 }
 
+/// Where a field of a type within the limits begins; none exactly where there is no such field. Fields are counted as a
+/// list counts them.
+pub fn offset_at(m: &Module, t: &IrType, field: usize) -> Option<u64>
+    requires { IsTrue (is_lawful_type m.now.types t.now) }
+    ensures { option_map pos result ≡ offset_of m.now.types t.now field }
+{
+    match &unnamed(m, t).node {
+        TypeNode::Struct(fields) => field_offset(m, fields, false, field),
+        TypeNode::Packed(fields) => field_offset(m, fields, true, field),
+        _ => None,
+    }
+}
+
 /// Where a field of a type within the limits begins; none exactly where there is no such field.
 pub fn offset_of(m: &Module, t: &IrType, field: u32) -> Option<u64>
     requires { IsTrue (is_lawful_type m.now.types t.now) }
     ensures { option_map pos result ≡ offset_of m.now.types t.now field }
 {
-    match &unnamed(m, t).node {
-        TypeNode::Struct(fields) => field_offset(m, fields, false, field as usize),
-        TypeNode::Packed(fields) => field_offset(m, fields, true, field as usize),
-        _ => None,
-    }
+    offset_at(m, t, field as usize)
 }
 
 /// The type that a name names.

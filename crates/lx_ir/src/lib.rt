@@ -10,7 +10,7 @@ pub mod module;
 mod text;
 pub mod types;
 
-pub use layout::{align_of, offset_of, size_of, unnamed};
+pub use layout::{align_of, offset_at, offset_of, size_of, unnamed};
 pub use text::print;
 
 /// Worked rows of layout.

@@ -105,6 +105,14 @@ impl Principals {
         self.counts.len()
     }
 
+    /// How many instances a module has.
+    pub fn count(&self, home: u32) -> u64
+        requires { home < self.now.modules }
+        ensures { result ≡ instance_count self.now.names home }
+    {
+        self.counts[home as usize]
+    }
+
     /// The instance of a module that the value names, if it names one.
     fn find(&self, home: u32, value: u64) -> Option<u32>
         ensures named { result ≡ named self.now.names home value }

@@ -2,3 +2,5 @@ mod Numbered
 mod Runs
 mod Maximal
 mod FirstLine
+mod Slots
+mod Tested

@@ -3,3 +3,4 @@ pub mod Begun
 pub mod Report
 pub mod Laws
 pub mod Rows
+pub mod Lawful

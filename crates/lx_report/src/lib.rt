@@ -2,6 +2,7 @@
 #![tactic(auto)]
 
 ghost use Rattle.std.specs.Prelude.{◌≡◌, IfOk};
+ghost use Rattle.lx_report.specs.Lawful.{HasLawfulModules};
 ghost use Rattle.lx_report.specs.Report.{report_text};
 ghost use Rattle.lx_report.specs.Laws.{ReportLaws};
 ghost use Rattle.lx_report.specs.Rows.{WorkedReports};
@@ -21,8 +22,9 @@ use lx_words::{Memory, number_texts};
 use std::alloc::Global;
 
 /// The text of an account: the schedule, the calls, the notes, the images, and what each principal owns. A name
-/// that the program lacks is empty.
+/// that the program lacks is empty. Want of memory is the only error.
 pub fn report(alloc: Global, a: &Account, p: &Program) -> Result<Vec<u8>, Memory>
+    requires { HasLawfulModules p.now }
     ensures { IfOk result (λ text. text.items ≡ report_text p.now a.now) }
 {
     let mut out = Vec::new(alloc);

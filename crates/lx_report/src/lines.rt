@@ -2,6 +2,7 @@
 
 ghost use Rattle.std.specs.Prelude.{◌≡◌, ◌++◌, ◌≤◌, OnOk, count_by, flat_map, length, nat_eq};
 ghost use Rattle.std.specs.List.{enumerate_from};
+ghost use Rattle.lx_report.specs.Lawful.{HasLawfulModules};
 ghost use Rattle.lx_report.specs.Report.{call_line, call_number_text, called_text, counts_text, image_line, note_line, owner_line};
 
 use crate::names::{module_name, put_called, put_principal};
@@ -45,7 +46,8 @@ fn put_call(
     k: usize,
     call: &CallOutcome,
 ) -> Result<(), Memory>
-    requires { k ≤ length a.now.outcomes }
+    requires there { k ≤ length a.now.outcomes }
+    requires lawful { HasLawfulModules p.now }
     ensures { OnOk result (out.new.items ≡ out.old.items ++ call_line p.now a.now (k, call.now)) }
 {
     put_call_number(out, a.outcomes.as_slice(), k, call.thread)?;
@@ -69,6 +71,7 @@ pub(crate) fn put_calls(
     p: &Program,
     a: &Account,
 ) -> Result<(), Memory>
+    requires { HasLawfulModules p.now }
     ensures { OnOk result (out.new.items ≡ out.old.items ++ flat_map (call_line p.now a.now) (enumerate_from 0 a.now.outcomes)) }
 {
     for (k, call) in a.outcomes.as_slice().iter().enumerate() {

@@ -2,6 +2,7 @@
 
 ghost use Rattle.std.specs.Prelude.{◌≡◌, ◌++◌, OnOk, codes};
 ghost use Rattle.lx_annot.specs.Canonical.{Text};
+ghost use Rattle.lx_report.specs.Lawful.{HasLawfulModules};
 ghost use Rattle.lx_report.specs.Report.{address_text, number_text, alias_text, call_text, cap_text, other_text, outcome_text, ref_text, refusal_text, refused, returned_text, slot_text, trap_text, value_text, write_text};
 
 use crate::annotations::{put_function_annotation, put_slot_annotation};
@@ -122,6 +123,7 @@ fn put_other(
     slot: u32,
     function: u32,
 ) -> Result<(), Memory>
+    requires { HasLawfulModules p.now }
     ensures { OnOk result (out.new.items ≡ out.old.items ++ other_text p.now at slot function) }
 {
     put_call(out, at)?;
@@ -155,6 +157,7 @@ fn put_refusal(
     names: &[InstanceName],
     refusal: Refusal,
 ) -> Result<(), Memory>
+    requires { HasLawfulModules p.now }
     ensures { OnOk result (out.new.items ≡ out.old.items ++ refusal_text p.now names.now refusal) }
 {
     match refusal {
@@ -219,6 +222,7 @@ pub(crate) fn put_outcome(
     function: u32,
     outcome: Outcome,
 ) -> Result<(), Memory>
+    requires { HasLawfulModules p.now }
     ensures { OnOk result (out.new.items ≡ out.old.items ++ outcome_text p.now names.now function outcome) }
 {
     match outcome {

@@ -1,4 +1,7 @@
 //! A whole report, with ample memory.
+ghost use Rattle.std.specs.Prelude.{◌≡◌, IfOk};
+ghost use Rattle.lx_model.specs.Program.{empty_module};
+ghost use Rattle.lx_report.specs.Lawful.{HasLawfulModules};
 
 use crate::report;
 use lx_annot::interface::Interface;
@@ -14,9 +17,9 @@ use std::test::Fail;
 
 /// Two threads race for a packet: one sends it, and the other one pokes it too late.
 const RACED: &str = "schedule 0*2 1*1 0*1\n\
-call 0.0 m:make returned\n\
+call 0.0 kernel:make returned\n\
 call 0.1 kernel:send returned -1\n\
-call 1.0 m:poke refused 1 m.shared write 0x2000040+1\n\
+call 1.0 kernel:poke refused 1 m.shared write 0x2000040+1\n\
 note 0 8\n\
 image m guards 3 checks 0 wrappers 2\n\
 owns m.shared write 0x10000e0+8\n\
@@ -38,12 +41,37 @@ fn function(alloc: Global, text: &str, ret: Option<Scalar>) -> Result<Function, 
     })
 }
 
-fn module(alloc: Global, functions: Vec<Function>) -> Module {
-    Module {
+fn kernel(alloc: Global) -> Result<Module, AllocError> {
+    let functions = vec![in alloc;
+        function(alloc, "send", Some(Scalar::Int(Width::W32)))?,
+        function(alloc, "make", None)?,
+        function(alloc, "poke", None)?,
+    ]?;
+    Ok(Module {
         types: Items::new(alloc),
         globals: Items::new(alloc),
         functions: Items::from_vec(functions),
+    })
+}
+
+/// A module without anything in it.
+fn empty(alloc: Global) -> Module
+    ensures { result ≡ empty_module }
+{
+    Module {
+        types: Items::new(alloc),
+        globals: Items::new(alloc),
+        functions: Items::new(alloc),
     }
+}
+
+fn module(alloc: Global) -> Result<ProgramModule, AllocError>
+    ensures { IfOk result (λ m. m.«module» ≡ empty_module) }
+{
+    Ok(ProgramModule {
+        name: name(alloc, "m")?,
+        module: empty(alloc),
+    })
 }
 
 fn interface(alloc: Global) -> Result<Interface, AllocError> {
@@ -56,17 +84,10 @@ fn interface(alloc: Global) -> Result<Interface, AllocError> {
     })
 }
 
-fn program(alloc: Global) -> Result<Program, AllocError> {
-    let int = Some(Scalar::Int(Width::W32));
-    let send = vec![in alloc; function(alloc, "send", int)?]?;
-    let own = vec![in alloc;
-        function(alloc, "make", None)?,
-        function(alloc, "poke", None)?,
-    ]?;
-    let m = ProgramModule {
-        name: name(alloc, "m")?,
-        module: module(alloc, own),
-    };
+#[tactic(auto, using(crate::proofs::Tested::one_lawful))]
+fn program(alloc: Global) -> Result<Program, AllocError>
+    ensures { IfOk result HasLawfulModules }
+{
     let functions = [
         ProgramFunction::Native(0),
         ProgramFunction::Of {
@@ -74,16 +95,18 @@ fn program(alloc: Global) -> Result<Program, AllocError> {
             function: 0,
         },
         ProgramFunction::Of {
-            module: Some(0),
-            function: 0,
-        },
-        ProgramFunction::Of {
-            module: Some(0),
+            module: None,
             function: 1,
         },
+        ProgramFunction::Of {
+            module: None,
+            function: 2,
+        },
     ];
+    let kernel = kernel(alloc)?;
+    let m = module(alloc)?;
     Ok(Program {
-        kernel: module(alloc, send),
+        kernel,
         modules: Items::from_vec(vec![in alloc; m]?),
         functions: Items::from_slice(alloc, &functions)?,
         globals: Items::new(alloc),

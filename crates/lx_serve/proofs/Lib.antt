@@ -3,4 +3,5 @@ pub mod Answered
 pub mod Entered
 pub mod Places
 pub mod Stacked
+pub mod Targeted
 pub mod Tried

@@ -1,16 +1,23 @@
 -- As whom a function is entered.
-use Rattle.std.specs.Prelude.{◌≡◌, ℕ, Result, Ok, Err}
+use Rattle.std.specs.Prelude.{◌≡◌, ℕ, List, Result, Ok, Err, if◌then◌else◌}
+use Rattle.lx_words.specs.Word.{Word}
 use Rattle.lx_caps.specs.History.{History}
 use Rattle.lx_caps.specs.declared.Principal.{Principal}
 use Rattle.lx_annot.specs.Value.{Found}
 use Rattle.lx_model.specs.declared.program.Program.{Program}
 use Rattle.lx_model.specs.Act.{unmapped}
-use Rattle.lx_model.specs.Enter.{Running}
+use Rattle.lx_model.specs.Enter.{Running, runs_in, text_of_principal}
+use Rattle.lx_model.specs.Program.{home_of, is_in}
 use Rattle.lx_model.specs.State.{State}
 use Rattle.lx_serve.specs.Stands.{Keeps}
 use Rattle.lx_serve.specs.declared.halt.Halt.{Halt}
 use Rattle.lx_serve.specs.declared.halt.Halt.TheVariants.{Ended, Memory}
 use Rattle.lx_serve.specs.declared.monitor.Monitor.{Monitor}
+
+-- as whom a function runs that is called by an address: inside its own text a principal stays
+abbrev pub runs_called : Program → State → Principal → ℕ → List Word → Found Running
+runs_called p s who n args =
+    if is_in p (text_of_principal who) n then Ok (record { principal = who; names = s.names }) else runs_in p s n args (home_of p n)
 
 -- the value is what was found, or the outcome that of looking at what is not mapped
 abbrev pub IsValue : Found ℕ → Result ℕ Halt → Type 0

@@ -6,3 +6,4 @@ pub mod NativeCalls
 pub mod Performed
 pub mod Entering
 pub mod Served
+pub mod Targets

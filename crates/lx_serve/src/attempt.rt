@@ -6,7 +6,7 @@ ghost use Rattle.lx_model.specs.State.{State};
 ghost use Rattle.lx_model.specs.declared.request.Outcome.{Outcome};
 ghost use Rattle.lx_model.specs.declared.request.What.TheVariants as what;
 ghost use Rattle.lx_requests.specs.Servable.{is_servable_what};
-ghost use Rattle.lx_serve.specs.Served.{is_ended, is_served};
+ghost use Rattle.lx_serve.specs.Served.{is_ended};
 ghost use Rattle.lx_serve.specs.Sources.{IsLinked};
 ghost use Rattle.lx_serve.specs.Stands.{Gives, Keeps, Tries};
 ghost use Rattle.lx_writers.specs.Stands.{spare_of};
@@ -16,16 +16,6 @@ use crate::monitor::Monitor;
 use lx_caps::{CapStore, Memory};
 use lx_model::program::Program;
 use lx_model::request::{Reply, Request, Way, What};
-
-/// Whether such requests are served.
-pub(crate) fn is_served(what: &What) -> bool
-    ensures { result ≡ is_served what.now }
-{
-    match what {
-        What::Enter { way, .. } => matches!(way, Way::Script(_) | Way::Direct(_)),
-        _ => true,
-    }
-}
 
 impl<C: CapStore + Drop> Monitor<C> {
     ghost use Rattle.std.specs.Prelude.{◌≡◌, ◌<◌, ◌≤◌, true};
@@ -37,7 +27,6 @@ impl<C: CapStore + Drop> Monitor<C> {
         requires linked { IsLinked program.now }
         requires thread { thread < 16 }
         requires servable { is_servable_what program.now thread request.now.what ≡ true }
-        requires served { is_served request.now.what ≡ true }
         ensures tries { (s : State) → Keeps C.stands program.now self.old s
             → Tries C.stands program.now self.new s thread request.now.who request.now.what result }
         ensures ends { IfOk result (λ reply. (o : Outcome) → request.now.what ≡ what.Finish o → is_ended reply ≡ true) }
@@ -56,7 +45,8 @@ impl<C: CapStore + Drop> Monitor<C> {
             What::Enter { way, args } => match way {
                 Way::Script(function) => self.enter_script(program, *function, args),
                 Way::Direct(function) => self.enter_kernel(*function),
-                Way::Indirect(_) | Way::Slot { .. } => unreachable!(),
+                Way::Indirect(at) => self.enter_address(program, who, *at, args),
+                Way::Slot { slot, ty } => self.enter_slot(program, who, *slot, *ty, args),
             },
             What::Perform {
                 function,
@@ -79,7 +69,6 @@ impl<C: CapStore + Drop> Monitor<C> {
         requires linked { IsLinked program.now }
         requires thread { thread < 16 }
         requires servable { is_servable_what program.now thread request.now.what ≡ true }
-        requires served { is_served request.now.what ≡ true }
         ensures gives { IfOk result (λ reply. (s : State) → Keeps C.stands program.now self.old s
             → Gives C.stands program.now self.new reply (serve_by (decide program.now s thread request.now) program.now s thread request.now)) }
         ensures ends { IfOk result (λ reply. (o : Outcome) → request.now.what ≡ what.Finish o → is_ended reply ≡ true) }

@@ -9,7 +9,7 @@ ghost use Rattle.lx_model.specs.declared.program.Program.{Program};
 ghost use Rattle.lx_model.specs.declared.request.What.TheVariants as what;
 ghost use Rattle.lx_model.specs.declared.request.Way.TheVariants as way;
 ghost use Rattle.lx_model.specs.Enter.{instance_named, runs_by, runs_in};
-ghost use Rattle.lx_model.specs.Program.{home_of, is_in, is_module_function, is_of_module, no_annotation};
+ghost use Rattle.lx_model.specs.Program.{home_of, is_in, no_annotation};
 ghost use Rattle.lx_model.specs.State.{State};
 ghost use Rattle.lx_serve.specs.Entering.{IsInstance, IsValue, RunsAs};
 ghost use Rattle.lx_serve.specs.Stands.{Keeps, Tries};
@@ -25,29 +25,11 @@ use lx_annot::expr::{Env, Expr};
 use lx_annot::value::value;
 use lx_caps::{CapStore, Memory, Principal};
 use lx_memory::Space;
-use lx_model::program::{Program, ProgramFunction};
+use lx_model::program::Program;
 use lx_model::request::Reply;
+use lx_targets::{home_of, is_module_function};
 use lx_words::{Items, Words};
 use std::alloc::Global;
-
-/// Whose text defines the function, if it is one of a text.
-pub(crate) fn home_of(program: &Program, function: u32) -> Option<Option<u32>>
-    ensures { result ≡ home_of program.now function }
-{
-    match program.functions.items.get(function as usize) {
-        Some(ProgramFunction::Of { module, .. }) => Some(*module),
-        _ => None,
-    }
-}
-
-fn is_module_function(program: &Program, function: u32) -> bool
-    ensures { result ≡ is_module_function program.now function }
-{
-    match home_of(program, function) {
-        Some(Some(_)) => true,
-        _ => false,
-    }
-}
 
 fn principal_of(annotation: Option<&Annotation>) -> Option<&Who>
     ensures { option_copied result ≡ (unwrap_or (option_copied annotation.entry) no_annotation).principal }
@@ -126,7 +108,12 @@ impl<C: CapStore + Drop> Monitor<C> {
     }
 
     /// As whom a function runs that is called across texts.
-    fn run_in(&mut self, program: &Program, function: u32, args: &Words) -> Result<Principal, Halt>
+    pub(crate) fn run_in(
+        &mut self,
+        program: &Program,
+        function: u32,
+        args: &Words,
+    ) -> Result<Principal, Halt>
         ensures runs { (s : State) → Keeps C.stands program.now self.old s
             → RunsAs C.stands program.now self.new s (runs_in program.now s function args.now (home_of program.now function)) result }
         ensures spare { spare_of C.spare self.new.caps ≡ spare_of C.spare self.old.caps }

@@ -6,14 +6,17 @@ mod bytes;
 mod enter;
 mod halt;
 mod heap;
+mod indirect;
 mod monitor;
 mod natives;
 mod perform;
 mod rights;
 mod servable;
 mod shared;
+mod slots;
 mod source;
 mod space;
+mod targets;
 mod terms;
 #[cfg(test)]
 mod tests;

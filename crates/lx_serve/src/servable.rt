@@ -1,12 +1,11 @@
 //! Which requests may be served.
-ghost use Rattle.std.specs.Prelude.{◌≡◌, ◌<◌, true, None, nat_le};
+ghost use Rattle.std.specs.Prelude.{◌≡◌, ◌<◌, true, nat_le};
 ghost use Rattle.lx_caps.specs.Regions.{stack_start};
-ghost use Rattle.lx_model.specs.Program.{is_in};
 ghost use Rattle.lx_requests.specs.Servable.{is_on_stack, is_servable, is_servable_way, is_servable_what};
 
-use crate::enter::home_of;
 use lx_model::program::Program;
 use lx_model::request::{Request, Way, What};
+use lx_targets::is_in;
 
 /// Whether the range between two addresses lies in the thread's stack.
 fn is_on_stack(thread: u32, low: u64, high: u64) -> bool
@@ -25,22 +24,11 @@ fn is_above_start(thread: u32, at: u64) -> bool
     0x3000000 + 0x10000 * thread as u64 <= at
 }
 
-/// Whether the kernel's text defines the function.
-fn is_in_kernel(program: &Program, function: u32) -> bool
-    ensures { result ≡ is_in program.now None function }
-{
-    match home_of(program, function) {
-        Some(None) => true,
-        Some(Some(_)) => false,
-        None => false,
-    }
-}
-
 fn is_servable_way(program: &Program, way: &Way) -> bool
     ensures { result ≡ is_servable_way program.now way.now }
 {
     match way {
-        Way::Direct(function) => is_in_kernel(program, *function),
+        Way::Direct(function) => is_in(program, None, *function),
         Way::Script(_) | Way::Indirect(_) | Way::Slot { .. } => true,
     }
 }

@@ -2,13 +2,13 @@
 ghost use Rattle.std.specs.Prelude.{◌≡◌, ◌<◌, ◌++◌, ◌∷◌, [], true, IfOk, OnErr, OnOk};
 ghost use Rattle.lx_writers.specs.Recorded.{room_of};
 
-use crate::attempt::is_served;
 use crate::heap::no_blocks;
 use crate::monitor::Monitor;
 use crate::servable::is_servable;
 use crate::source::Source;
 use lx_caps::{CapStore, Memory};
 use lx_memory::Space;
+use lx_model::account::Note;
 use lx_model::program::Program;
 use lx_model::request::{Outcome, Reply, Request, Trap};
 use lx_principals::Principals;
@@ -40,6 +40,8 @@ fn push(journal: &mut Vec<u32>, thread: u32)
 }
 
 impl<C: CapStore + Drop> SharedPart<C> {
+    ghost use Rattle.std.specs.Prelude.{map};
+    ghost use Rattle.lx_model.specs.declared.program.Program.{Program};
     ghost use Rattle.lx_caps.specs.History.{History};
     ghost use Rattle.lx_actions.specs.Shown.{IsShownBy};
     ghost use Rattle.lx_model.specs.declared.request.Outcome.{Outcome};
@@ -48,9 +50,9 @@ impl<C: CapStore + Drop> SharedPart<C> {
     ghost use Rattle.lx_model.specs.Opening.{opening_history, opening_state, with_globals};
     ghost use Rattle.lx_model.specs.Serve.{serve};
     ghost use Rattle.lx_model.specs.State.{State};
-    ghost use Rattle.lx_serve.specs.Served.{is_ended, is_served};
+    ghost use Rattle.lx_serve.specs.Served.{is_ended};
     ghost use Rattle.lx_serve.specs.Sources.{IsLinked, Knows};
-    ghost use Rattle.lx_serve.specs.Stands.{Serves, StandsForState};
+    ghost use Rattle.lx_serve.specs.Stands.{Serves, StandsForState, instances};
     ghost use Rattle.lx_writers.specs.Stands.{StandsRecorded};
 
     /// The part before the first call of a program: the globals are written in `space`, `caps` has what each module owns,
@@ -90,7 +92,7 @@ impl<C: CapStore + Drop> SharedPart<C> {
     }
 
     /// Serves a request: answers as the monitor does, and stands for the state that it leaves. A request that no thread
-    /// makes ends its call, and so does a call by an address or a slot, which is not served yet.
+    /// makes ends its call.
     ///
     /// # Errors
     /// Want of memory, which leaves what the part stands for.
@@ -101,14 +103,11 @@ impl<C: CapStore + Drop> SharedPart<C> {
         request: &Request,
     ) -> Result<Reply, Memory>
         requires linked { IsLinked program.now }
-        ensures served { IfOk result (λ reply. (s : State) → StandsForState C.stands program.now self.old s → is_served request.now.what ≡ true
+        ensures served { IfOk result (λ reply. (s : State) → StandsForState C.stands program.now self.old s
             → is_servable program.now thread request.now ≡ true → Serves C.stands program.now self.new reply (serve program.now s thread request.now)) }
         ensures ends { IfOk result (λ reply. (o : Outcome) → request.now.what ≡ what.Finish o → is_ended reply ≡ true) }
         ensures memory { OnErr result ((s : State) → StandsForState C.stands program.now self.old s → StandsForState C.stands program.now self.new s) }
     {
-        if !is_served(&request.what) {
-            return Ok(Reply::Ended(Outcome::Trapped(Trap::Unreachable)));
-        }
         if !is_servable(program, thread, request) {
             return Ok(Reply::Ended(Outcome::Trapped(Trap::Unreachable)));
         }
@@ -116,5 +115,33 @@ impl<C: CapStore + Drop> SharedPart<C> {
         let reply = self.monitor.answer(program, thread, request)?;
         push(&mut self.journal, thread);
         Ok(reply)
+    }
+
+    /// The threads of the requests so far.
+    pub fn threads(&self) -> &[u32]
+        ensures { (p : Program) (s : State) → StandsForState C.stands p self.now s → result.now ≡ map (λ e. e.thread) s.journal }
+    {
+        self.journal.as_slice()
+    }
+
+    /// The values that were noted.
+    pub fn notes(&self) -> &[Note]
+        ensures { (p : Program) (s : State) → StandsForState C.stands p self.now s → result.now ≡ s.notes }
+    {
+        self.monitor.notes.as_slice()
+    }
+
+    /// The names of instances.
+    pub fn names(&self) -> &Principals
+        ensures { (p : Program) (s : State) → StandsForState C.stands p self.now s → result.now ≡ instances p s }
+    {
+        &self.monitor.names
+    }
+
+    /// Who owns what.
+    pub fn caps(&self) -> &Recorded<C>
+        ensures { (p : Program) (s : State) → StandsForState C.stands p self.now s → StandsRecorded C.stands result.now s.history }
+    {
+        &self.monitor.caps
     }
 }

@@ -1,12 +1,16 @@
 //! Where annotations stand, and what they say.
-ghost use Rattle.std.specs.Prelude.{◌≡◌, option_copied, option_and_then, slice_get};
+ghost use Rattle.std.specs.Prelude.{◌≡◌, option_copied, option_and_then, slice_get, IfOk};
+ghost use Rattle.lx_model.specs.Enter.{same_annotation};
 ghost use Rattle.lx_model.specs.Next.{actions_of};
-ghost use Rattle.lx_model.specs.Program.{annotation_of, annotation_or_none, slot_annotation};
+ghost use Rattle.lx_model.specs.Program.{annotation_of, is_annotated, slot_annotation};
 ghost use Rattle.lx_serve.specs.Sources.{annotation_at, export_at, Knows, source_of};
 
 use lx_annot::action::{Action, Annotation};
 use lx_annot::interface::Interface;
+use lx_caps::Memory;
 use lx_model::program::Program;
+use lx_targets::same_annotation;
+use std::alloc::Global;
 
 /// Where the annotation of a function stands in the interface.
 #[derive(Clone, Copy, Debug, PartialEq, Eq)]
@@ -63,6 +67,33 @@ pub(crate) fn annotation_of<'a>(
     ensures { Knows program.now sources.now → option_copied result ≡ annotation_of program.now function }
 {
     annotation_at(&program.interface, source_of(sources, function))
+}
+
+/// Whether a function is annotated.
+pub(crate) fn is_annotated(program: &Program, sources: &[Option<Source>], function: u32) -> bool
+    ensures { Knows program.now sources.now → result ≡ is_annotated program.now function }
+{
+    match annotation_of(program, sources, function) {
+        Some(_) => true,
+        None => false,
+    }
+}
+
+/// Whether a function has the annotation of a slot type, by their canonical texts.
+pub(crate) fn has_annotation(
+    alloc: Global,
+    program: &Program,
+    sources: &[Option<Source>],
+    ty: u32,
+    function: u32,
+) -> Result<bool, Memory>
+    ensures { IfOk result (λ same. Knows program.now sources.now → same ≡ same_annotation program.now ty function) }
+{
+    let i = &program.interface;
+    let wanted = slot_annotation(i, ty);
+    let annotation = annotation_of(program, sources, function);
+    let same = same_annotation(alloc, i, wanted, annotation)?;
+    Ok(same)
 }
 
 fn nth(actions: &[Action], index: u32) -> Option<&Action>

@@ -69,7 +69,8 @@ got_by i m n = slots_in n (marks_of i m)
 gets_is : (i : Interface) (m : Module) (f s : ℕ) → gets i m f s ≡ has_slot (got_by i m f) s
 gets_is i m f s = sym (slots_any f s (marks_of i m) ∙ marks_any i m f s)
 
-slot_is : (i : Interface) (m : Module) (n : ℕ) → slot_of i m n ≡ first_in i (got_by i m n)
+-- the slot type of a function, among those of the marks
+pub slot_is : (i : Interface) (m : Module) (n : ℕ) → slot_of i m n ≡ first_in i (got_by i m n)
 slot_is i m n = λ j. find (λ s. gets_is i m n s j) (below (length i.slots))
 
 other_is : (i : Interface) (m : Module) (n s : ℕ) → other_slot i m n s ≡ other_in i (got_by i m n) s

@@ -13,7 +13,7 @@ mod sites;
 
 pub use decide::is_same_annotation;
 pub use fault::PropagateFault;
-pub use module::propagate;
+pub use module::{propagate, slot_of};
 pub use rows::worked_slots;
 
 #[cfg(test)]

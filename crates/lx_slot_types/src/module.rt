@@ -4,11 +4,12 @@ ghost use Rattle.std.specs.Prelude.{◌≡◌, IfOk};
 ghost use Rattle.lx_ir.specs.Lawful.{IsLawful};
 ghost use Rattle.lx_slot_types.specs.Answers.{Gives, Propagates};
 ghost use Rattle.lx_slot_types.specs.Marks.{marks_of};
+ghost use Rattle.lx_propagate.specs.Gets.{slot_of};
 ghost use Rattle.lx_slot_types.specs.Slots.{annotated_of, conflict_of};
 
-use crate::decide::{check_functions, marked_in};
+use crate::decide::{check_functions, first_in, marked_in};
 use crate::fault::PropagateFault;
-use crate::marks::marks_of;
+use crate::marks::{marks_of, slots_in};
 use lx_annot::interface::Interface;
 use lx_ir::module::Module;
 use lx_propagate::{Annotated, Marked};
@@ -61,4 +62,20 @@ pub fn propagate(alloc: Global, i: &Interface, m: &Module) -> Result<Annotated, 
         }
         Err(fault) => Err(fault),
     }
+}
+
+/// The first slot type in interface order that a function of a module gets, if it gets one. Want of memory is the only error.
+#[tactic(auto, using(crate::proofs::Agree::slot_is))]
+pub fn slot_of(
+    alloc: Global,
+    i: &Interface,
+    m: &Module,
+    function: usize,
+) -> Result<Option<u32>, Memory>
+    requires { IsLawful m.now }
+    ensures { IfOk result (λ slot. slot ≡ slot_of i.now m.now function) }
+{
+    let marks = marks_of(alloc, i, m)?;
+    let got = slots_in(alloc, function, &marks)?;
+    Ok(first_in(i, &got))
 }

@@ -1,4 +1,5 @@
 pub mod Told
+pub mod Sound
 pub mod Taken
 pub mod Ascii
 pub mod CaseNames

@@ -1,7 +1,9 @@
 -- Modules that are read one after the other.
 use Rattle.std.proofs.Common.{◌≡◌, ◌∙◌, sym, ap, subst, refl, ℕ, suc, ◌+◌, ◌<◌, ◌≤◌, List, [], ◌∷◌, ◌++◌, length, get_or, drop, append_assoc, Option, Some, Result, Ok, Err, arith}
+use Rattle.std.specs.Prelude.{All}
 use Rattle.std.specs.Str.{IsAscii}
 use Rattle.std.proofs.lemmas.List.{drop_all}
+use Rattle.std.proofs.lemmas.List.Elements.{All-nil}
 use Rattle.std.proofs.Math.Seq.{drop-cons}
 use Rattle.lx_outside.specs.declared.file_text.FileText.{FileText}
 use Rattle.lx_script.specs.declared.case.CaseModule.{CaseModule}
@@ -9,9 +11,11 @@ use Rattle.lx_ir.specs.declared.module.Module.{Module}
 use Rattle.lx_sources.specs.declared.stop.InputStop.{InputStop}
 use Rattle.lx_sources.specs.declared.stop.InputStop.TheVariants as stops
 use Rattle.lx_sources.specs.Names.{AreNamed}
+use Rattle.lx_sources.specs.Sound.{IsSoundModule}
 use Rattle.lx_sources.specs.Turns.{HasNoted, Took}
 use Rattle.lx_sources.specs.Inputs.{ModuleTurn, ModulesTurn}
 use Rattle.lx_sources.proofs.Taken.{noted_err}
+use Rattle.lx_sources.proofs.Sound.{more_sound, one_longer}
 
 -- modules that were read, and what the rest comes to
 abbrev pub behind : List Module → Result (List Module) InputStop → Result (List Module) InputStop
@@ -23,6 +27,8 @@ pub record HasRead (files files_now : Option (List FileText)) (faults faults_now
   pub files_stay : files_now ≡ files
   pub faults_stay : faults_now ≡ faults
   pub named : AreNamed rest
+  pub sound : All IsSoundModule read
+  pub count : length read + length rest ≡ length all
   pub goes : (told : List FileText) → files ≡ Some told → (answer : Result (List Module) InputStop) → ModulesTurn told rest answer → ModulesTurn told all (behind read answer)
 
 -- a module before an answer
@@ -51,6 +57,8 @@ starts files faults all named = record {
   files_stay = refl;
   faults_stay = refl;
   named = named;
+  sound = All-nil IsSoundModule;
+  count = omega arith;
   goes = λ told is answer h. subst (ModulesTurn told all) (sym (behind_none answer)) h;
 }
 
@@ -70,11 +78,13 @@ module _ (files files_mid : Option (List FileText)) (faults faults_mid : List (L
 
   module _ {files_now : Option (List FileText)} {faults_now : List (List ℕ)} where
     -- one more is read
-    pub goes_on : (x : Module) → Took files_mid files_now faults_mid faults_now (λ fs. ModuleTurn fs name) (Ok x) → HasRead files files_now faults faults_now all (drop (i + 1) all) (read ++ x ∷ [])
-    goes_on x t = record {
+    pub goes_on : (x : Module) → IsSoundModule x → Took files_mid files_now faults_mid faults_now (λ fs. ModuleTurn fs name) (Ok x) → HasRead files files_now faults faults_now all (drop (i + 1) all) (read ++ x ∷ [])
+    goes_on x sound t = record {
       files_stay = t.files_stay ∙ here.files_stay;
       faults_stay = t.noted ∙ here.faults_stay;
       named = here.named.1;
+      sound = more_sound read x here.sound sound;
+      count = omega (arith, here.count, one_longer read x);
       goes = λ told is_told answer h.
           subst (ModulesTurn told all) (behind_front read x answer)
           (here.goes told is_told (front x answer)
@@ -102,3 +112,10 @@ ends files files_now faults faults_now all i read past so_far =
       files_stay = h.files_stay;
       noted = h.faults_stay;
     }
+
+-- as many are read as there are
+pub ends_as_many : (files files_now : Option (List FileText)) (faults faults_now : List (List ℕ)) (all : List CaseModule) (i : ℕ) (read : List Module) → length all ≤ i → HasRead files files_now faults faults_now all (drop i all) read
+    → length read ≡ length all
+ends_as_many files files_now faults faults_now all i read past so_far =
+    let h : HasRead files files_now faults faults_now all [] read = subst (λ (rest : List CaseModule). HasRead files files_now faults faults_now all rest read) (drop_all i all past) so_far in
+    omega (arith, h.count)

@@ -3,4 +3,5 @@ pub mod Faults
 pub mod Turns
 pub mod Names
 pub mod Inputs
+pub mod Sound
 pub mod Laws

@@ -14,7 +14,7 @@ mod turns;
 
 pub use line::{FaultKind, FaultLine, fault_text};
 pub use sources::{Sources, one_input, read_sources};
-pub use stop::InputStop;
+pub use stop::{InputStop, fault_at};
 pub use turns::Modules;
 
 #[cfg(test)]

@@ -3,14 +3,18 @@
 ghost use Rattle.std.specs.Prelude.{◌≡◌, ◌≤◌, length, IfOk};
 ghost use Rattle.lx_sources.specs.Names.{NamesAreText};
 ghost use Rattle.lx_sources.specs.Inputs.{ReadsCase, ReadsInterface, ReadsModule, ReadsSchedule};
+ghost use Rattle.lx_sources.specs.Sound.{IsSoundModule};
 ghost use Rattle.lx_sources.specs.Turns.{most_bytes};
+ghost use Rattle.lx_annot_lawful.specs.Lawful.{IsLawfulInterface};
 
 use crate::line::FaultKind;
 use crate::stop::{InputStop, interface_stop, module_stop, script_stop};
 use lx_annot::interface::Interface;
+use lx_annot_laws::lawful_laws;
 use lx_annot_read::read_interface;
 use lx_ir::module::Module;
 use lx_ir_read::{TextForm, read_module};
+use lx_ir_whole::whole_laws;
 use lx_script::{Case, read_case, read_schedule};
 use lx_words::Schedule;
 use std::alloc::Global;
@@ -32,8 +36,10 @@ pub fn case_of_text(alloc: Global, file: &[u8], text: &[u8]) -> Result<Case, Inp
 #[tactic(auto, using(crate::proofs::Told::module_told))]
 pub fn module_of_text(alloc: Global, file: &[u8], text: &[u8]) -> Result<Module, InputStop>
     requires { length text.now ≤ most_bytes }
-    ensures { ReadsModule file.now text.now result }
+    ensures reads { ReadsModule file.now text.now result }
+    ensures sound { IfOk result IsSoundModule }
 {
+    whole_laws();
     match read_module(alloc, TextForm::Program, text) {
         Ok(module) => Ok(module),
         Err(fault) => Err(module_stop(alloc, file, fault)),
@@ -44,8 +50,10 @@ pub fn module_of_text(alloc: Global, file: &[u8], text: &[u8]) -> Result<Module,
 #[tactic(auto, using(crate::proofs::Told::interface_told))]
 pub fn interface_of_text(alloc: Global, file: &[u8], text: &[u8]) -> Result<Interface, InputStop>
     requires { length text.now ≤ most_bytes }
-    ensures { ReadsInterface file.now text.now result }
+    ensures reads { ReadsInterface file.now text.now result }
+    ensures lawful { IfOk result IsLawfulInterface }
 {
+    lawful_laws();
     match read_interface(alloc, text) {
         Ok(interface) => Ok(interface),
         Err(fault) => Err(interface_stop(alloc, file, fault)),

@@ -1,9 +1,10 @@
 //! All files of a command.
 
-ghost use Rattle.std.specs.Prelude.{◌≡◌, List, Some, option_copied};
+ghost use Rattle.std.specs.Prelude.{◌≡◌, IfOk, List, Some, option_copied};
 ghost use Rattle.lx_outside.specs.declared.file_text.FileText.{FileText};
 ghost use Rattle.lx_sources.specs.Inputs.{SourcesTurn};
 ghost use Rattle.lx_sources.specs.Laws.{MissingFilesEnd, OneInput};
+ghost use Rattle.lx_sources.specs.Sound.{AreSound};
 ghost use Rattle.lx_sources.specs.Turns.{HasNoted};
 
 use crate::stop::InputStop;
@@ -42,6 +43,7 @@ pub fn read_sources<S: Shelf>(
     ensures told { (files : List FileText) → S.files shelf.old ≡ Some files → SourcesTurn files case.now (option_copied schedule.entry) result }
     ensures files { S.files shelf.new ≡ S.files shelf.old }
     ensures noted { HasNoted (S.faults shelf.old) (S.faults shelf.new) result }
+    ensures sound { IfOk result AreSound }
 {
     let case = case_turn(alloc, shelf, case)?;
     let kernel = kernel_turn(alloc, shelf, &case.kernel)?;

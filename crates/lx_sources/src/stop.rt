@@ -51,7 +51,7 @@ impl<T: Drop> From<AllocFailed<T>> for InputStop {
 }
 
 /// The end of the input by a fault in a line of a file.
-fn fault_at(
+pub fn fault_at(
     alloc: Global,
     file: &[u8],
     kind: FaultKind,

@@ -1,10 +1,12 @@
 //! The turns of the files.
 
-ghost use Rattle.std.specs.Prelude.{◌≡◌, ◌++◌, ◌∷◌, [], IfOk, option_copied};
+ghost use Rattle.std.specs.Prelude.{◌≡◌, ◌++◌, ◌∷◌, [], All, IfOk, length, option_copied};
 ghost use Rattle.std.specs.Str.{IsAscii};
-ghost use Rattle.lx_sources.specs.Inputs.{CaseTurn, InterfaceFileTurn, InterfaceTurn, KernelTurn, ModuleTurn, ModulesTurn, ScheduleFileTurn, ScheduleTurn};
+ghost use Rattle.lx_sources.specs.Inputs.{CaseTurn, InterfaceFileTurn, InterfaceTurn, KernelTurn, ModuleTurn, ModulesTurn, ScheduleFileTurn, ScheduleTurn, no_interface};
 ghost use Rattle.lx_sources.specs.Names.{AreNamed, IsNamed, NamesAreText};
+ghost use Rattle.lx_sources.specs.Sound.{IsSoundModule};
 ghost use Rattle.lx_sources.specs.Turns.{Took};
+ghost use Rattle.lx_annot_lawful.specs.Lawful.{IsLawfulInterface};
 
 use crate::file::{file_text, name_text};
 use crate::reading::{case_of_text, interface_of_text, module_of_text, schedule_of_text};
@@ -36,7 +38,8 @@ pub fn case_turn<S: Shelf>(alloc: Global, shelf: &mut S, name: &str) -> Result<C
 /// The turn of a module's file.
 fn module_turn<S: Shelf>(alloc: Global, shelf: &mut S, name: &[u8]) -> Result<Module, InputStop>
     requires { IsAscii name.now }
-    ensures { Took (S.files shelf.old) (S.files shelf.new) (S.faults shelf.old) (S.faults shelf.new) (λ files. ModuleTurn files name.now) result }
+    ensures turn { Took (S.files shelf.old) (S.files shelf.new) (S.faults shelf.old) (S.faults shelf.new) (λ files. ModuleTurn files name.now) result }
+    ensures sound { IfOk result IsSoundModule }
 {
     let file = name_text(alloc, name)?;
     let text = file_text(alloc, shelf, file.as_str())?;
@@ -51,7 +54,8 @@ fn interface_file_turn<S: Shelf>(
     name: &[u8],
 ) -> Result<Interface, InputStop>
     requires { IsAscii name.now }
-    ensures { Took (S.files shelf.old) (S.files shelf.new) (S.faults shelf.old) (S.faults shelf.new) (λ files. InterfaceFileTurn files name.now) result }
+    ensures turn { Took (S.files shelf.old) (S.files shelf.new) (S.faults shelf.old) (S.faults shelf.new) (λ files. InterfaceFileTurn files name.now) result }
+    ensures lawful { IfOk result IsLawfulInterface }
 {
     let file = name_text(alloc, name)?;
     let text = file_text(alloc, shelf, file.as_str())?;
@@ -79,7 +83,8 @@ pub fn kernel_turn<S: Shelf>(
     origin: &Origin,
 ) -> Result<Module, InputStop>
     requires { IsNamed origin.now }
-    ensures { Took (S.files shelf.old) (S.files shelf.new) (S.faults shelf.old) (S.faults shelf.new) (λ files. KernelTurn files origin.now) result }
+    ensures turn { Took (S.files shelf.old) (S.files shelf.new) (S.faults shelf.old) (S.faults shelf.new) (λ files. KernelTurn files origin.now) result }
+    ensures sound { IfOk result IsSoundModule }
 {
     match origin {
         Origin::None => Ok(Module {
@@ -92,6 +97,19 @@ pub fn kernel_turn<S: Shelf>(
     }
 }
 
+/// The interface that stands for none.
+fn no_interface(alloc: Global) -> Interface
+    ensures { result ≡ no_interface }
+{
+    Interface {
+        reftypes: Items::new(alloc),
+        iterators: Items::new(alloc),
+        slots: Items::new(alloc),
+        fields: Items::new(alloc),
+        exports: Items::new(alloc),
+    }
+}
+
 /// The turn of the interface.
 pub fn interface_turn<S: Shelf>(
     alloc: Global,
@@ -99,16 +117,11 @@ pub fn interface_turn<S: Shelf>(
     origin: &Origin,
 ) -> Result<Interface, InputStop>
     requires { IsNamed origin.now }
-    ensures { Took (S.files shelf.old) (S.files shelf.new) (S.faults shelf.old) (S.faults shelf.new) (λ files. InterfaceTurn files origin.now) result }
+    ensures turn { Took (S.files shelf.old) (S.files shelf.new) (S.faults shelf.old) (S.faults shelf.new) (λ files. InterfaceTurn files origin.now) result }
+    ensures lawful { IfOk result IsLawfulInterface }
 {
     match origin {
-        Origin::None => Ok(Interface {
-            reftypes: Items::new(alloc),
-            iterators: Items::new(alloc),
-            slots: Items::new(alloc),
-            fields: Items::new(alloc),
-            exports: Items::new(alloc),
-        }),
+        Origin::None => Ok(no_interface(alloc)),
         Origin::Builtin => interface_of_text(alloc, BUILTIN, interface_text().as_bytes()),
         Origin::File(name) => interface_file_turn(alloc, shelf, name.as_slice()),
     }
@@ -121,7 +134,9 @@ pub fn modules_turn<S: Shelf>(
     modules: &[CaseModule],
 ) -> Result<Modules, InputStop>
     requires { AreNamed modules.now }
-    ensures { Took (S.files shelf.old) (S.files shelf.new) (S.faults shelf.old) (S.faults shelf.new) (λ files. ModulesTurn files modules.now) result }
+    ensures turn { Took (S.files shelf.old) (S.files shelf.new) (S.faults shelf.old) (S.faults shelf.new) (λ files. ModulesTurn files modules.now) result }
+    ensures sound { IfOk result (All IsSoundModule) }
+    ensures as_many { IfOk result (λ read. length read ≡ length modules.now) }
 {
     let mut read = Modules::new(alloc);
     for entry in modules {

@@ -11,10 +11,9 @@ use Rattle.lx_ir.specs.declared.types.Scalar.{Scalar}
 use Rattle.lx_ir.specs.declared.types.Scalar.TheVariants.{Int, Ptr}
 use Rattle.lx_ir.specs.declared.types.NamedType.{NamedType}
 use Rattle.lx_ir.specs.IrType.{IrType, One, Array, Struct, Packed, Named, IrTypes, none, also}
-use Rattle.lx_ir.specs.Layout.{Layout, layout, beside, layout_of, size_of, align_of, unnamed, fields_of, list_of_types, parts_of, is_struct, names_struct, is_scalar, is_type_within, Part, field_after, field_of, offset_of, part_or, part_of, part_at}
+use Rattle.lx_ir.specs.Layout.{Layout, layout, beside, layout_of, size_of, align_of, unnamed, fields_of, list_of_types, parts_of, is_struct, names_struct, is_lawful_type, is_type_within, Part, field_after, field_of, offset_of, part_or, part_of, part_at}
 use Rattle.lx_ir.specs.TypeNodes.{types_of_list}
 use Rattle.lx_steps.specs.Parts.{IsPart, IsPartModulo, IsOnTheWay, element_in}
-use Rattle.lx_code.specs.Reach.{has_few_fields, is_sized_type}
 use Rattle.lx_steps.proofs.Moduli.{modulo_sum, modulo_product}
 
 pub listed : (ts : List IrType) → list_of_types (types_of_list ts) ≡ ts
@@ -48,49 +47,22 @@ within_more types (suc n) t h =
     and_from (names_struct types t && nat_le (size_of types t) 4294967296) (list_all (is_type_within types (suc n)) (parts_of types t)) a.0
     (all_more (is_type_within types n) (is_type_within types (suc n)) (λ u k. within_more types n u k) (parts_of types t) a.1)
 
-pub few_more : (types : List NamedType) (n : ℕ) (t : IrType) → has_few_fields types n t ≡ true → has_few_fields types (suc n) t ≡ true
-few_more types zero (One s) h = refl
-few_more types zero (Array n t) h = absurd (cc)
-few_more types zero (Struct ts) h = absurd (cc)
-few_more types zero (Packed ts) h = absurd (cc)
-few_more types zero (Named k) h = absurd (cc)
-few_more types (suc n) t h =
-    let a = and_parts (nat_le (length (fields_of (unnamed types t))) 4294967296) (list_all (has_few_fields types n) (parts_of types t)) h in
-    and_from (nat_le (length (fields_of (unnamed types t))) 4294967296) (list_all (has_few_fields types (suc n)) (parts_of types t)) a.0
-    (all_more (has_few_fields types n) (has_few_fields types (suc n)) (λ u k. few_more types n u k) (parts_of types t) a.1)
-
 -- what the limits say of a type
 
 pub record Limits (types : List NamedType) (t : IrType) : Type 0 where
   pub names : names_struct types t ≡ true
-  pub few : length (fields_of (unnamed types t)) ≤ 4294967296
-  pub parts : list_all (is_sized_type types) (parts_of types t) ≡ true
+  pub parts : list_all (is_lawful_type types) (parts_of types t) ≡ true
 
-at_most : (m n : ℕ) → nat_le m n ≡ true → m ≤ n
-at_most m n h = grind (arith, nat_tests, h)
-
-both_all : (f g h : IrType → Bool) → ((t : IrType) → f t ≡ true → g t ≡ true → h t ≡ true) → (ts : List IrType) → list_all f ts ≡ true → list_all g ts ≡ true → list_all h ts ≡ true
-both_all f g h k [] a b = refl
-both_all f g h k (t ∷ ts) a b =
-    let c = and_parts (f t) (list_all f ts) a in
-    let d = and_parts (g t) (list_all g ts) b in
-    and_from (h t) (list_all h ts) (k t c.0 d.0) (both_all f g h k ts c.1 d.1)
-
-limits_at : (types : List NamedType) (n : ℕ) (t : IrType) → ((u : IrType) → is_type_within types n u ≡ true → has_few_fields types n u ≡ true → is_sized_type types u ≡ true) →
-    is_type_within types (suc n) t ≡ true → has_few_fields types (suc n) t ≡ true → Limits types t
-limits_at types n t more w f =
+limits_at : (types : List NamedType) (n : ℕ) (t : IrType) → ((u : IrType) → is_type_within types n u ≡ true → is_lawful_type types u ≡ true) → is_type_within types (suc n) t ≡ true → Limits types t
+limits_at types n t more w =
     let a = and_parts (names_struct types t && nat_le (size_of types t) 4294967296) (list_all (is_type_within types n) (parts_of types t)) w in
-    let b = and_parts (nat_le (length (fields_of (unnamed types t))) 4294967296) (list_all (has_few_fields types n) (parts_of types t)) f in
     record {
       names = (and_parts (names_struct types t) (nat_le (size_of types t) 4294967296) a.0).0;
-      few = at_most _ _ b.0;
-      parts = both_all (is_type_within types n) (has_few_fields types n) (is_sized_type types) more (parts_of types t) a.1 b.1;
+      parts = all_more (is_type_within types n) (is_lawful_type types) more (parts_of types t) a.1;
     }
 
-pub limits_of : (types : List NamedType) (t : IrType) → IsTrue (is_sized_type types t) → Limits types t
-limits_of types t h =
-    let a = and_parts (is_type_within types 64 t) (has_few_fields types 64 t) h in
-    limits_at types 63 t (λ u w f. and_from (is_type_within types 64 u) (has_few_fields types 64 u) (within_more types 63 u w) (few_more types 63 u f)) a.0 a.1
+pub limits_of : (types : List NamedType) (t : IrType) → IsTrue (is_lawful_type types t) → Limits types t
+limits_of types t h = limits_at types 63 t (λ u w. within_more types 63 u w) h
 
 -- fields
 
@@ -125,7 +97,7 @@ unnamed_once types (Packed ts) h = refl
 unnamed_once types (Named k) h = struct_stays types (unnamed types (Named k)) h
 
 -- there is no such field: the type stays
-none_for : (types : List NamedType) (t : IrType) (o : Option Part) → IsTrue (is_sized_type types t) → o ≡ None → IsPart types 0 t (part_or o (unnamed types t))
+none_for : (types : List NamedType) (t : IrType) (o : Option Part) → IsTrue (is_lawful_type types t) → o ≡ None → IsPart types 0 t (part_or o (unnamed types t))
 none_for types t o h e =
     subst (λ (x : Option Part). IsPart types 0 t (part_or x (unnamed types t))) (sym e)
     (record { offset = refl; ty = sym (unnamed_once types t (limits_of types t h).names) })
@@ -134,18 +106,9 @@ no_part : (o : Option Part) → option_map (λ (x : Part). x.offset) o ≡ None 
 no_part None e = refl
 no_part (Some part) e = absurd (cc)
 
-pub no_field : (types : List NamedType) (t : IrType) (k : ℕ) → IsTrue (is_sized_type types t) → None ≡ offset_of types t k →
+pub no_field : (types : List NamedType) (t : IrType) (k : ℕ) → IsTrue (is_lawful_type types t) → None ≡ offset_of types t k →
     IsPart types 0 t (part_or (field_of types (unnamed types t) k) (unnamed types t))
 no_field types t k h e = none_for types t (field_of types (unnamed types t) k) h (no_part _ (sym e))
-
-past : (types : List NamedType) (t : IrType) (k : ℕ) (o : Option Part) → field_of types t k ≡ o → length (fields_of t) ≤ k → o ≡ None
-past types t k None e h = refl
-past types t k (Some part) e h = absurd (omega (arith, h, slice_get_within (fields_of t) k part.ty (field_is types t k part e)))
-
-pub past_fields : (types : List NamedType) (t : IrType) (k : ℕ) → IsTrue (is_sized_type types t) → 4294967295 < k →
-    IsPart types 0 t (part_or (field_of types (unnamed types t) k) (unnamed types t))
-past_fields types t k h far =
-    none_for types t (field_of types (unnamed types t) k) h (past types (unnamed types t) k _ refl (omega (arith, far, (limits_of types t h).few)))
 
 some_part : (types : List NamedType) (t whole : IrType) (k n : ℕ) (u : IrType) (o : Option Part) → field_of types whole k ≡ o → Some (pos n) ≡ option_map (λ (x : Part). x.offset) o →
     Some u ≡ slice_get (fields_of whole) k → IsPart types n u (part_or o whole)
@@ -170,15 +133,15 @@ nothing_there types whole k n (Some part) is e f =
 pub lost_field : (types : List NamedType) (t : IrType) (k n : ℕ) → Some (pos n) ≡ offset_of types t k → None ≡ slice_get (fields_of (unnamed types t)) k → ⊥
 lost_field types t k n e f = nothing_there types (unnamed types t) k n (field_of types (unnamed types t) k) refl e f
 
-all_sized : (types : List NamedType) (ts : List IrType) (k : ℕ) (u : IrType) → list_all (is_sized_type types) ts ≡ true → slice_get ts k ≡ Some u → is_sized_type types u ≡ true
+all_sized : (types : List NamedType) (ts : List IrType) (k : ℕ) (u : IrType) → list_all (is_lawful_type types) ts ≡ true → slice_get ts k ≡ Some u → is_lawful_type types u ≡ true
 all_sized types [] k u h e = absurd (cc)
 all_sized types (t ∷ ts) zero u h e =
     let s : t ≡ u = cc in
-    subst (λ x. is_sized_type types x ≡ true) s ((and_parts (is_sized_type types t) (list_all (is_sized_type types) ts) h).0)
-all_sized types (t ∷ ts) (suc k) u h e = all_sized types ts k u ((and_parts (is_sized_type types t) (list_all (is_sized_type types) ts) h).1) e
+    subst (λ x. is_lawful_type types x ≡ true) s ((and_parts (is_lawful_type types t) (list_all (is_lawful_type types) ts) h).0)
+all_sized types (t ∷ ts) (suc k) u h e = all_sized types ts k u ((and_parts (is_lawful_type types t) (list_all (is_lawful_type types) ts) h).1) e
 
 -- a field of a type within the limits is within them
-pub sized_field : (types : List NamedType) (t : IrType) (k : ℕ) (u : IrType) → IsTrue (is_sized_type types t) → Some u ≡ slice_get (fields_of (unnamed types t)) k → IsTrue (is_sized_type types u)
+pub sized_field : (types : List NamedType) (t : IrType) (k : ℕ) (u : IrType) → IsTrue (is_lawful_type types t) → Some u ≡ slice_get (fields_of (unnamed types t)) k → IsTrue (is_lawful_type types u)
 sized_field types (Array n t) k u h e = absurd (cc)
 sized_field types (One s) k u h e = absurd (cc)
 sized_field types (Struct ts) k u h e = all_sized types (fields_of (Struct ts)) k u ((limits_of types (Struct ts) h).parts) (sym e)
@@ -206,11 +169,11 @@ element_parts types (Struct ts) u h e = absurd (cc)
 element_parts types (Packed ts) u h e = absurd (cc)
 element_parts types (Named k) u h e = absurd (no_element (unnamed types (Named k)) u h e)
 
-pub sized_element : (types : List NamedType) (t u : IrType) → IsTrue (is_sized_type types t) → Some u ≡ element_in (unnamed types t) → IsTrue (is_sized_type types u)
+pub sized_element : (types : List NamedType) (t u : IrType) → IsTrue (is_lawful_type types t) → Some u ≡ element_in (unnamed types t) → IsTrue (is_lawful_type types u)
 sized_element types t u h e =
     let l = limits_of types t h in
-    let a = subst (λ xs. list_all (is_sized_type types) xs ≡ true) (element_parts types t u l.names e) l.parts in
-    (and_parts (is_sized_type types u) true a).0
+    let a = subst (λ xs. list_all (is_lawful_type types) xs ≡ true) (element_parts types t u l.names e) l.parts in
+    (and_parts (is_lawful_type types u) true a).0
 
 -- the part that an index names
 
@@ -278,11 +241,11 @@ part_further types t u i is before n h =
     ∙ ap (λ x. ((before + n) % 2 ^ 64 + modulo x (2 ^ 64)) % 2 ^ 64) (sym (same_inside types u part.ty is h.ty))
 
 pub on_further : (types : List NamedType) (start inner u : IrType) (all is : List ℤ) (i : ℤ) (before n : ℕ) → IsOnTheWay types start all before inner (i ∷ is) →
-    IsPartModulo types n u (part_of types (unnamed types inner) i) → IsTrue (is_sized_type types u) → IsOnTheWay types start all ((before + n) % 2 ^ 64) u is
+    IsPartModulo types n u (part_of types (unnamed types inner) i) → IsTrue (is_lawful_type types u) → IsOnTheWay types start all ((before + n) % 2 ^ 64) u is
 on_further types start inner u all is i before n way part sized =
     record { sized = sized; offset_is = sym (part_further types inner u i is before n part) ∙ way.offset_is }
 
-pub begins : (types : List NamedType) (start : IrType) (all : List ℤ) → IsTrue (is_sized_type types start) → IsOnTheWay types start all 0 start all
+pub begins : (types : List NamedType) (start : IrType) (all : List ℤ) → IsTrue (is_lawful_type types start) → IsOnTheWay types start all 0 start all
 begins types start all sized = record { sized = sized; offset_is = modulo_again (part_at types start all).offset }
 
 pub ends : (types : List NamedType) (start inner : IrType) (all : List ℤ) (n : ℕ) → n < 2 ^ 64 → IsOnTheWay types start all n inner [] → n ≡ modulo (part_at types start all).offset (2 ^ 64)

@@ -7,8 +7,7 @@ use Rattle.lx_ir.specs.declared.types.Scalar.{Scalar}
 use Rattle.lx_ir.specs.declared.types.Scalar.TheVariants.{Int, Ptr}
 use Rattle.lx_ir.specs.declared.types.NamedType.{NamedType}
 use Rattle.lx_ir.specs.IrType.{IrType, One, Array, Struct, Packed, Named, IrTypes, none, also}
-use Rattle.lx_ir.specs.Layout.{Layout, layout, beside, layout_in, fields_in, named_layouts, layout_of, layout_of_entry, align_of, scalar_size, is_lawful_type}
-use Rattle.lx_code.specs.Reach.{is_sized_type}
+use Rattle.lx_ir.specs.Layout.{Layout, layout, beside, layout_in, fields_in, named_layouts, layout_of, layout_of_entry, align_of, scalar_size}
 
 -- above 0, and at most 8
 pub record IsAlignment (n : ℕ) : Type 0 where
@@ -56,6 +55,3 @@ alignment_above types t = (type_aligned (named_layouts types 64) (λ k. named_al
 
 pub alignment_small : (types : List NamedType) (t : IrType) → align_of types t ≤ 8
 alignment_small types t = (type_aligned (named_layouts types 64) (λ k. named_aligned types 64 k) t).small
-
-pub lawful_type : (types : List NamedType) (t : IrType) → IsTrue (is_sized_type types t) → IsTrue (is_lawful_type types t)
-lawful_type types t h = (and_parts _ _ h).0

@@ -3,8 +3,7 @@ use Rattle.std.specs.Prelude.{◌≡◌, ℕ, ◌+◌, ◌%◌, ◌^◌, IsTrue,
 use Rattle.lx_words.specs.Word.{modulo}
 use Rattle.lx_ir.specs.declared.types.NamedType.{NamedType}
 use Rattle.lx_ir.specs.IrType.{IrType, Array}
-use Rattle.lx_ir.specs.Layout.{Part, part_at, unnamed}
-use Rattle.lx_code.specs.Reach.{is_sized_type}
+use Rattle.lx_ir.specs.Layout.{Part, is_lawful_type, part_at, unnamed}
 
 -- a part, by the type that its name stands for
 pub record IsPart (types : List NamedType) (n : ℕ) (t : IrType) (part : Part) : Type 0 where
@@ -23,5 +22,5 @@ element_in t = None
 
 -- how far indices go from a type on, where those before have led to an offset and another type
 pub record IsOnTheWay (types : List NamedType) (start : IrType) (all : List ℤ) (offset : ℕ) (inner : IrType) (rest : List ℤ) : Type 0 where
-  pub sized : IsTrue (is_sized_type types inner)
+  pub sized : IsTrue (is_lawful_type types inner)
   pub offset_is : (offset + modulo (part_at types inner rest).offset (2 ^ 64)) % 2 ^ 64 ≡ modulo (part_at types start all).offset (2 ^ 64)

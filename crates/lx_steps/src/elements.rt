@@ -2,12 +2,11 @@
 ghost use Rattle.std.specs.Prelude.{◌≡◌, ℕ, ◌+◌, ◌%◌, ◌^◌, IsTrue, map, nat_abs, negsuc, option_copied, slice_get, true};
 ghost use Rattle.lx_words.specs.Word.{signed, modulo, is_negative};
 ghost use Rattle.lx_model.specs.Program.{module_of};
-ghost use Rattle.lx_ir.specs.Layout.{element_offset, fields_of, field_of, part_at, part_of, part_or, unnamed};
+ghost use Rattle.lx_ir.specs.Layout.{element_offset, fields_of, field_of, is_lawful_type, part_at, part_of, part_or, unnamed};
 ghost use Rattle.lx_steps.specs.Parts.{IsPart, IsPartModulo, element_in};
 ghost use Rattle.lx_ir.specs.declared.instr.Op.TheVariants as op;
 ghost use Rattle.lx_model.specs.Effect.{effect, types_of, indices_of};
 ghost use Rattle.lx_steps.specs.Effects.{effect_of};
-ghost use Rattle.lx_code.specs.Reach.{is_sized_type};
 ghost use Rattle.lx_steps.specs.Standing.{run_of};
 
 use crate::activation::Activation;
@@ -17,7 +16,7 @@ use lx_code::Code;
 use lx_ir::instr::Argument;
 use lx_ir::module::{Module, Value};
 use lx_ir::types::{IrType, TypeNode};
-use lx_ir::{offset_of, size_of, unnamed};
+use lx_ir::{offset_at, size_of, unnamed};
 use lx_words::{Width, Word, resize};
 
 /// A part of a type: how far it lies behind the start, modulo 2^64, and its type.
@@ -88,16 +87,14 @@ fn element_of(ty: &IrType) -> Option<&IrType>
 
 // The field with a number; where there is none, the type itself.
 fn field_of<'a>(text: &'a Module, ty: &'a IrType, number: u64) -> Part<'a>
-    requires { IsTrue (is_sized_type text.now.types ty.now) }
+    requires { IsTrue (is_lawful_type text.now.types ty.now) }
     ensures part { IsPart text.now.types result.offset result.ty.now (part_or (field_of text.now.types (unnamed text.now.types ty.now) number) (unnamed text.now.types ty.now)) }
-    ensures sized { IsTrue (is_sized_type text.now.types result.ty.now) }
+    ensures sized { IsTrue (is_lawful_type text.now.types result.ty.now) }
 {
-    if number > 0xffff_ffff {
-        return Part { offset: 0, ty };
-    }
+    let number = number as usize;
     let fields = fields_of(unnamed(text, ty));
-    match offset_of(text, ty, number as u32) {
-        Some(offset) => match field_at(fields, number as usize) {
+    match offset_at(text, ty, number) {
+        Some(offset) => match field_at(fields, number) {
             Some(field) => Part { offset, ty: field },
             None => unreachable!(),
         },
@@ -107,9 +104,9 @@ fn field_of<'a>(text: &'a Module, ty: &'a IrType, number: u64) -> Part<'a>
 
 // The part that an index names: an element of an array, or a field of a struct.
 fn part_of<'a>(text: &'a Module, ty: &'a IrType, index: Word) -> Part<'a>
-    requires { IsTrue (is_sized_type text.now.types ty.now) }
+    requires { IsTrue (is_lawful_type text.now.types ty.now) }
     ensures part { IsPartModulo text.now.types result.offset result.ty.now (part_of text.now.types (unnamed text.now.types ty.now) (signed index)) }
-    ensures sized { IsTrue (is_sized_type text.now.types result.ty.now) }
+    ensures sized { IsTrue (is_lawful_type text.now.types result.ty.now) }
 {
     match element_of(unnamed(text, ty)) {
         Some(element) => Part {
@@ -128,7 +125,7 @@ fn inner_offset(
     ty: &IrType,
     indices: &[Argument],
 ) -> u64
-    requires { IsTrue (is_sized_type text.now.types ty.now) }
+    requires { IsTrue (is_lawful_type text.now.types ty.now) }
     ensures { result ≡ modulo (part_at text.now.types ty.now (indices_of code.now (run_of code.now run.now) indices.now)).offset (2 ^ 64) }
 {
     let mut offset = 0u64;
@@ -143,7 +140,7 @@ fn inner_offset(
 
 // How far indices go, modulo 2^64: the first counts whole values.
 fn offset(code: &Code, run: &Activation, text: &Module, ty: &IrType, indices: &[Argument]) -> u64
-    requires { IsTrue (is_sized_type text.now.types ty.now) }
+    requires { IsTrue (is_lawful_type text.now.types ty.now) }
     ensures { result ≡ modulo (element_offset text.now.types ty.now (indices_of code.now (run_of code.now run.now) indices.now)) (2 ^ 64) }
 {
     match indices.split_first() {
@@ -164,7 +161,7 @@ pub(crate) fn element(
     base: &Value,
     indices: &[Argument],
 ) -> Effect
-    requires { IsTrue (is_sized_type (types_of code.now (run_of code.now run.now)) ty.now) }
+    requires { IsTrue (is_lawful_type (types_of code.now (run_of code.now run.now)) ty.now) }
     ensures { (to : ℕ) → effect_of code.now (run_of code.now run.now) result ≡ effect code.now (run_of code.now run.now) (op.GetElementPtr to ty.now base.now indices.now) }
 {
     let text = code.text(code.home(run.function));

@@ -3,7 +3,7 @@ ghost use Rattle.std.specs.Prelude.{◌≡◌, IsTrue};
 ghost use Rattle.lx_model.specs.Effect.{effect, types_of};
 ghost use Rattle.lx_ir.specs.declared.instr.Op.TheVariants as op;
 ghost use Rattle.lx_steps.specs.Effects.{effect_of};
-ghost use Rattle.lx_code.specs.Reach.{is_sized_type};
+ghost use Rattle.lx_ir.specs.Layout.{is_lawful_type};
 ghost use Rattle.lx_steps.specs.Standing.{run_of};
 ghost use Rattle.std.specs.Prelude.{ℕ, Bool};
 
@@ -20,7 +20,7 @@ use lx_words::Width;
 
 /// Bytes of the stack for a value of a type.
 pub(crate) fn alloca(code: &Code, run: &Activation, ty: &IrType) -> Effect
-    requires { IsTrue (is_sized_type (types_of code.now (run_of code.now run.now)) ty.now) }
+    requires { IsTrue (is_lawful_type (types_of code.now (run_of code.now run.now)) ty.now) }
     ensures { (to : ℕ) → effect_of code.now (run_of code.now run.now) result ≡ effect code.now (run_of code.now run.now) (op.Alloca to ty.now) }
 {
     let text = code.text(code.home(run.function));

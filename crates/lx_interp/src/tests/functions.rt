@@ -1,6 +1,7 @@
 //! Functions of one purpose each.
 ghost use Rattle.std.specs.Prelude.{◌≡◌, true, IsTrue, IfOk, []};
-ghost use Rattle.lx_code.specs.Reach.{are_sized, are_sized_instrs, is_sized, is_sized_function, is_sized_type};
+ghost use Rattle.lx_code.specs.Reach.{are_sized, are_sized_instrs, is_sized, is_sized_function};
+ghost use Rattle.lx_ir.specs.Layout.{is_lawful_type};
 
 use lx_ir::instr::{Argument, Callee, Conversion, Instr, Op};
 use lx_ir::module::{Block, Constant, Function, Symbol, Value};
@@ -139,7 +140,7 @@ pub(super) fn deep(alloc: Global) -> Result<Function, Memory>
 }
 
 fn scalar(ty: Scalar) -> IrType
-    ensures { is_sized_type [] result ≡ true }
+    ensures { is_lawful_type [] result ≡ true }
 {
     IrType {
         node: TypeNode::Scalar(ty),

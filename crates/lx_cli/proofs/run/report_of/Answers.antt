@@ -1,6 +1,20 @@
-use Rattle.std.proofs.Common.{◌∙◌, refl, sym, ap}
+use Rattle.std.proofs.Common.{◌≡◌, ◌∙◌, refl, subst, sym, ap}
+use Rattle.lx_report.specs.Lawful.{HasLawfulModules}
+use Rattle.lx_cli.specs.Runs.{images_of}
+use Rattle.lx_cli.proofs.Formed.{lawful_modules}
 use Rattle.lx_cli.proofs.Reported.{account_is}
 use Rattle.lx_cli.proofs.run.report_of.Goals as goal
+
+pub account-requires-clause-stands : goal.account-requires-clause-stands
+account-requires-clause-stands g c = let given = c.requires in (given.0, given.1, given.2)
+
+pub account-requires-clause-images : goal.account-requires-clause-images
+account-requires-clause-images g c = let given = c.requires in given.4 ∙ ap images_of (sym given.2.program)
+
+pub report-requires : goal.report-requires
+report-requires g c =
+    let given = c.requires in
+    subst HasLawfulModules (sym (c.program.ensures ∙ given.2.program)) (lawful_modules given.0 given.3)
 
 pub returns : goal.returns
 returns g c = (

@@ -1,6 +1,6 @@
 use Rattle.std.proofs.Common.{◌≡◌, sym, subst, ◌++◌, ◌∷◌, []}
 use Rattle.lx_model.specs.World.{World as Meaning, run}
-use Rattle.lx_core.specs.Worlds.{StandsForWorld}
+use Rattle.lx_world.specs.Worlds.{StandsForWorld}
 use Rattle.lx_cli.proofs.Threads.{event_more}
 use Rattle.lx_cli.proofs.run.run_thread.Goals as goal
 

@@ -1,7 +1,7 @@
 use Rattle.std.proofs.Common.{◌≡◌, ℕ, List, true}
 use Rattle.lx_model.specs.declared.program.Program.{Program}
 use Rattle.lx_model.specs.World.{World as Meaning, run}
-use Rattle.lx_core.specs.Worlds.{StandsForWorld, events_in}
+use Rattle.lx_world.specs.Worlds.{StandsForWorld, events_in}
 use Rattle.lx_cli.specs.Runs.{is_lawful}
 use Rattle.lx_cli.proofs.run.run_thread.Given as goal
 

@@ -1,6 +1,6 @@
 use Rattle.std.proofs.Common.{◌≡◌, sym, subst, ◌++◌}
 use Rattle.lx_model.specs.World.{World as Meaning, run}
-use Rattle.lx_core.specs.Worlds.{StandsForWorld}
+use Rattle.lx_world.specs.Worlds.{StandsForWorld}
 use Rattle.lx_cli.proofs.Threads.{one_thread_more, run_append, ran_whole}
 use Rattle.lx_cli.proofs.run.run_threads.Goals as goal
 

@@ -1,7 +1,7 @@
 use Rattle.std.proofs.Common.{ℕ, List}
 use Rattle.lx_model.specs.declared.program.Program.{Program}
 use Rattle.lx_model.specs.World.{World as Meaning, run}
-use Rattle.lx_core.specs.Worlds.{StandsForWorld}
+use Rattle.lx_world.specs.Worlds.{StandsForWorld}
 use Rattle.lx_cli.proofs.Threads.{RanTo}
 use Rattle.lx_cli.proofs.run.run_threads.Given as goal
 

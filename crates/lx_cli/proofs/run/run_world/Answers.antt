@@ -1,30 +1,22 @@
-use Rattle.std.proofs.Common.{◌≡◌, subst, length, map, arith}
+use Rattle.std.proofs.Common.{◌≡◌, length, map, arith, None}
 use Rattle.std.proofs.lemmas.List.{length-map}
-use Rattle.lx_model.specs.declared.program.Program.{Program}
 use Rattle.lx_model.specs.Thread.{fresh_thread}
 use Rattle.lx_model.specs.World.{opening, run}
-use Rattle.lx_cli.specs.Answer.{IsReport}
-use Rattle.lx_cli.proofs.Reported.{report_is, if_ok}
+use Rattle.lx_cli.proofs.Reported.{if_ok, told_of}
 use Rattle.lx_cli.proofs.run.run_world.Goals as goal
 
 -- the world that is reported stands for the run's
 pub report_of-requires : goal.report_of-requires
 report_of-requires g c =
-    let p = c.straight_code.result in
-    let start = opening p c.args.script.items in
-    let many : length (map fresh_thread c.args.script.items) ≡ c.len-threads.result = simp length-map (omega arith) in
-    let ran = c.in_ok-run_threads.ensures p start c.in_ok-world.ensures.opens many in (p, run p ran.0 start, ran.2)
+    let given = c.requires in
+    let start = opening given.0 given.1 in
+    let many : length (map fresh_thread given.1) ≡ c.args.threads = simp length-map given.5 in
+    let ran = c.in_ok-run_threads.ensures given.0 start given.2 many in (given.0, run given.0 ran.0 start, ran.2, given.3, given.4)
 
 pub returns : goal.returns
 returns g c =
-    let p = c.straight_code.result in
-    let start = opening p c.args.script.items in
-    let many : length (map fresh_thread c.args.script.items) ≡ c.len-threads.result = simp length-map (omega arith) in
-    let ran = c.in_ok-run_threads.ensures p start c.in_ok-world.ensures.opens many in
-    if_ok c.report_of.result (λ a said. (
-      said.0,
-      said.1,
-      said.2,
-      subst (λ (q : Program). IsReport q c.args.script.items said.1 said.0) c.straight_code.ensures
-          (report_is p c.args.script.items ran.0 said.1 said.0 ran.1 (said.3 p (run p ran.0 start) ran.2)),
-    )) c.report_of.ensures
+    if_ok c.report_of.result (λ a said. λ p script stands threads.
+    let start = opening p script in
+    let many : length (map fresh_thread script) ≡ c.args.threads = simp length-map threads in
+    let ran = c.in_ok-run_threads.ensures p start stands many in
+    told_of p script ran.0 None a ran.1 tt (said.0, said.1, said.2, said.3 p (run p ran.0 start) ran.2)) c.report_of.ensures

@@ -1,7 +1,12 @@
-use Rattle.std.proofs.Common.{◌≡◌, ◌∙◌, sym, [], None}
-use Rattle.lx_cli.specs.Input.{texts}
-use Rattle.lx_cli.proofs.Written.{usage_wrote, usage_short, answer_wrote, answer_short, answer_whole}
+use Rattle.std.proofs.Common.{◌≡◌, ◌∙◌, sym, [], None, Ok, Err}
+use Rattle.lx_sources.specs.declared.stop.InputStop.TheVariants as stops
+use Rattle.lx_cli.specs.Command.{texts}
+use Rattle.lx_cli.specs.Rows.{status_of}
+use Rattle.lx_cli.proofs.Written.{by_words, usage_wrote, usage_short, answer_wrote, answer_short}
+use Rattle.lx_cli.proofs.Statuses.{none_comes, fault_comes, missing_comes, broken_comes, all_comes, fault_told, broken_told, unread_of, run_is_whole, status_is, unread_told}
 use Rattle.lx_cli.proofs.top.lxfi.Goals as goal
+
+-- no command
 
 pub returns-in_default-clause-wrote : goal.returns-in_default-clause-wrote
 returns-in_default-clause-wrote g c = λ not_5 not_6 files told files_told sink_told.
@@ -13,21 +18,89 @@ returns-in_default-clause-short g c = λ is_5 files told files_told sink_told.
     usage_short (texts c.args.words.now) files (g.S.Shelf.faults c.args.shelf.now) told (g.K.Sink.bytes c.put.new.sink) (sym c.in_default.ensures)
     (rw c.as_bytes.ensures.value at (c.put.ensures.prefix is_5 told sink_told))
 
+pub returns-in_default-clause-fault : goal.returns-in_default-clause-fault
+returns-in_default-clause-fault g c = λ files f files_told is. absurd (none_comes (texts c.args.words.now) files (Err (stops.Fault f)) (sym c.in_default.ensures) is)
+
+pub returns-in_default-clause-missing : goal.returns-in_default-clause-missing
+returns-in_default-clause-missing g c = λ files file files_told is gone.
+    absurd (none_comes (texts c.args.words.now) files (Err (stops.Unread file)) (sym c.in_default.ensures) is)
+
+pub returns-in_default-clause-broken : goal.returns-in_default-clause-broken
+returns-in_default-clause-broken g c = λ files i entry files_told is at. absurd (none_comes (texts c.args.words.now) files (Ok i) (sym c.in_default.ensures) is)
+
+pub returns-in_default-clause-complete : goal.returns-in_default-clause-complete
+returns-in_default-clause-complete g c = λ files i files_told is no_fault no_rise.
+    absurd (none_comes (texts c.args.words.now) files (Ok i) (sym c.in_default.ensures) is)
+
+-- a command
+
 pub returns-clause-wrote : goal.returns-clause-wrote
 returns-clause-wrote g c = λ not_5 not_6 files told files_told sink_told.
-    answer_wrote (texts c.args.words.now) files (g.S.Shelf.faults c.args.shelf.now) told (g.K.Sink.bytes c.put-2.new.sink) (g.S.Shelf.faults c.case_turn.new.shelf)
-    c.in-Some.case.now (sym c.in-Some.ensures) c.in-Ok.answer (c.in-Ok.ensures.answer files files_told) (λ file is. c.in-Ok.ensures.unread file (cc))
+    answer_wrote (texts c.args.words.now) files (g.S.Shelf.faults c.args.shelf.now) told (g.K.Sink.bytes c.put-2.new.sink) (g.S.Shelf.faults c.answer_to.new.shelf)
+    c.in-Ok.answer (by_words (texts c.args.words.now) files _ c.in-Ok.answer (sym c.in-Some.ensures) (c.in-Ok.ensures.answer files files_told))
+    (λ file is. c.in-Ok.ensures.unread file (cc))
     c.put-2.result c.as_slice.result.now (c.put-2.ensures.status not_5 ∙ c.status_of-status.ensures) (c.as_slice.ensures ∙ c.in-Ok-answer_text.ensures)
     (c.put-2.ensures.all not_5 told sink_told)
 
 pub returns-clause-short : goal.returns-clause-short
 returns-clause-short g c = λ is_5 files told files_told sink_told.
-    answer_short (texts c.args.words.now) files (g.S.Shelf.faults c.args.shelf.now) told (g.K.Sink.bytes c.put-2.new.sink) (g.S.Shelf.faults c.case_turn.new.shelf)
-    c.in-Some.case.now (sym c.in-Some.ensures) c.in-Ok.answer (c.in-Ok.ensures.answer files files_told) (λ file is. c.in-Ok.ensures.unread file (cc))
+    answer_short (texts c.args.words.now) files (g.S.Shelf.faults c.args.shelf.now) told (g.K.Sink.bytes c.put-2.new.sink) (g.S.Shelf.faults c.answer_to.new.shelf)
+    c.in-Ok.answer (by_words (texts c.args.words.now) files _ c.in-Ok.answer (sym c.in-Some.ensures) (c.in-Ok.ensures.answer files files_told))
+    (λ file is. c.in-Ok.ensures.unread file (cc))
     c.as_slice.result.now (c.as_slice.ensures ∙ c.in-Ok-answer_text.ensures) (c.put-2.ensures.prefix is_5 told sink_told)
 
+pub returns-clause-fault : goal.returns-clause-fault
+returns-clause-fault g c = λ files f files_told is.
+    fault_comes c.one_input.ensures.one c.one_input.ensures.missing (texts c.args.words.now) files c.in-Ok.answer
+    (by_words (texts c.args.words.now) files _ c.in-Ok.answer (sym c.in-Some.ensures) (c.in-Ok.ensures.answer files files_told))
+    c.put-2.result (λ not_5. c.put-2.ensures.status not_5 ∙ c.status_of-status.ensures) f is
+
+pub returns-clause-fault_only : goal.returns-clause-fault_only
+returns-clause-fault_only g c = λ is_3 files files_told.
+    fault_told (texts c.args.words.now) files c.in-Ok.answer
+    (by_words (texts c.args.words.now) files _ c.in-Ok.answer (sym c.in-Some.ensures) (c.in-Ok.ensures.answer files files_told))
+    (status_is c.put-2.result 3 (status_of c.in-Ok.answer) (λ not_5. c.put-2.ensures.status not_5 ∙ c.status_of-status.ensures) is_3 (λ e. cc))
+
+pub returns-clause-missing : goal.returns-clause-missing
+returns-clause-missing g c = λ files file files_told is gone.
+    missing_comes c.one_input.ensures.one c.one_input.ensures.missing (texts c.args.words.now) files c.in-Ok.answer
+    (by_words (texts c.args.words.now) files _ c.in-Ok.answer (sym c.in-Some.ensures) (c.in-Ok.ensures.answer files files_told))
+    c.put-2.result (λ not_5. c.put-2.ensures.status not_5 ∙ c.status_of-status.ensures) file is gone
+
+pub returns-clause-unread_only : goal.returns-clause-unread_only
+returns-clause-unread_only g c = λ is_4.
+    let unread = unread_of c.in-Ok.answer
+    (status_is c.put-2.result 4 (status_of c.in-Ok.answer) (λ not_5. c.put-2.ensures.status not_5 ∙ c.status_of-status.ensures) is_4 (λ e. cc)) in
+    let is = unread.1 in (
+      unread.0,
+      c.in-Ok.ensures.unread unread.0 (cc),
+      λ files files_told.
+          unread_told (texts c.args.words.now) files c.in-Ok.answer unread.0 is
+          (by_words (texts c.args.words.now) files _ c.in-Ok.answer (sym c.in-Some.ensures) (c.in-Ok.ensures.answer files files_told)),
+    )
+
+pub returns-clause-broken : goal.returns-clause-broken
+returns-clause-broken g c = λ files i entry files_told is at.
+    broken_comes c.one_input.ensures.one c.one_input.ensures.missing (texts c.args.words.now) files c.in-Ok.answer
+    (by_words (texts c.args.words.now) files _ c.in-Ok.answer (sym c.in-Some.ensures) (c.in-Ok.ensures.answer files files_told))
+    c.put-2.result (λ not_5. c.put-2.ensures.status not_5 ∙ c.status_of-status.ensures) i entry is at
+
+pub returns-clause-broken_only : goal.returns-clause-broken_only
+returns-clause-broken_only g c = λ is_7 files files_told.
+    broken_told (texts c.args.words.now) files c.in-Ok.answer
+    (by_words (texts c.args.words.now) files _ c.in-Ok.answer (sym c.in-Some.ensures) (c.in-Ok.ensures.answer files files_told))
+    (status_is c.put-2.result 7 (status_of c.in-Ok.answer) (λ not_5. c.put-2.ensures.status not_5 ∙ c.status_of-status.ensures) is_7 (λ e. cc))
+
+pub returns-clause-run_whole : goal.returns-clause-run_whole
+returns-clause-run_whole g c = λ is_run files files_told is_7.
+    run_is_whole (texts c.args.words.now) files is_run (broken_told (texts c.args.words.now) files c.in-Ok.answer
+    (by_words (texts c.args.words.now) files _ c.in-Ok.answer (sym c.in-Some.ensures) (c.in-Ok.ensures.answer files files_told))
+    (status_is c.put-2.result 7 (status_of c.in-Ok.answer) (λ not_5. c.put-2.ensures.status not_5 ∙ c.status_of-status.ensures) is_7 (λ e. cc)))
+
 pub returns-clause-complete : goal.returns-clause-complete
-returns-clause-complete g c = λ files p script files_told ready no_fault no_rise.
-    answer_whole (texts c.args.words.now) files (g.S.Shelf.faults c.args.shelf.now) [] None (g.S.Shelf.faults c.case_turn.new.shelf)
-    c.in-Some.case.now (sym c.in-Some.ensures) c.in-Ok.answer (c.in-Ok.ensures.answer files files_told) (λ file is. c.in-Ok.ensures.unread file (cc))
-    c.put-2.result p script ready no_fault (c.put-2.ensures.status (λ is_5. no_rise (c.put-2.ensures.failed is_5)) ∙ c.status_of-status.ensures)
+returns-clause-complete g c = λ files i files_told is no_fault no_rise.
+    all_comes c.one_input.ensures.one c.one_input.ensures.missing (texts c.args.words.now) files c.in-Ok.answer
+    (by_words (texts c.args.words.now) files _ c.in-Ok.answer (sym c.in-Some.ensures) (c.in-Ok.ensures.answer files files_told))
+    c.put-2.result (λ not_5. c.put-2.ensures.status not_5 ∙ c.status_of-status.ensures)
+    (g.S.Shelf.faults c.args.shelf.now) (g.S.Shelf.faults c.answer_to.new.shelf) i (λ file is. c.in-Ok.ensures.unread file (cc))
+    is no_fault (λ is_5. no_rise (c.put-2.ensures.failed is_5))

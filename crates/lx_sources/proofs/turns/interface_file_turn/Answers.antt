@@ -8,4 +8,4 @@ use Rattle.lx_sources.proofs.turns.interface_file_turn.Goals as goal
 pub returns-in_err-file : goal.returns-in_err-file
 returns-in_err-file g c =
     let p = err_from_is_err_and c.from_residual.result c.from_residual.ensures.1 in
-    rw (p.1, p.2) (file_memory SaysInterface (Tells FirstInterfaceFault (interface_line c.args.name.now)) c.args.name.now (g.S.Shelf.files c.args.shelf.now) (g.S.Shelf.faults c.args.shelf.now))
+    rw (p.1, p.2) (record { lawful = tt; turn = file_memory SaysInterface (Tells FirstInterfaceFault (interface_line c.args.name.now)) c.args.name.now (g.S.Shelf.files c.args.shelf.now) (g.S.Shelf.faults c.args.shelf.now) })

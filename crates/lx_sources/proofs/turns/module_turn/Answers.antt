@@ -9,4 +9,4 @@ use Rattle.lx_sources.proofs.turns.module_turn.Goals as goal
 pub returns-in_err-file : goal.returns-in_err-file
 returns-in_err-file g c =
     let p = err_from_is_err_and c.from_residual.result c.from_residual.ensures.1 in
-    rw (p.1, p.2) (file_memory (SaysModule Program) (Tells (FirstFault Program) (module_line c.args.name.now)) c.args.name.now (g.S.Shelf.files c.args.shelf.now) (g.S.Shelf.faults c.args.shelf.now))
+    rw (p.1, p.2) (record { sound = tt; turn = file_memory (SaysModule Program) (Tells (FirstFault Program) (module_line c.args.name.now)) c.args.name.now (g.S.Shelf.files c.args.shelf.now) (g.S.Shelf.faults c.args.shelf.now) })

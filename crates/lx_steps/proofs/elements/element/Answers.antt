@@ -6,14 +6,14 @@ use Rattle.lx_ir.specs.Layout.{element_offset}
 use Rattle.std.specs.Prelude.{pos, ◌+ℤ◌}
 use Rattle.lx_model.specs.Program.{module_of, home_or_kernel}
 use Rattle.lx_model.specs.Effect.{indices_of, operand, types_of, value_effect}
-use Rattle.lx_code.specs.Reach.{is_sized_type}
+use Rattle.lx_ir.specs.Layout.{is_lawful_type}
 use Rattle.lx_steps.specs.Standing.{run_of}
 use Rattle.lx_steps.proofs.Parts.{based}
 use Rattle.lx_steps.proofs.elements.element.Goals as goal
 
 pub offset-requires : goal.offset-requires
 offset-requires c =
-    subst (λ (m : Module). IsTrue (is_sized_type m.types c.args.ty.now)) (sym (c.text-text.ensures ∙ ap (module_of c.args.code.now) c.home.ensures)) c.requires
+    subst (λ (m : Module). IsTrue (is_lawful_type m.types c.args.ty.now)) (sym (c.text-text.ensures ∙ ap (module_of c.args.code.now) c.home.ensures)) c.requires
 
 pub returns : goal.returns
 returns c to =

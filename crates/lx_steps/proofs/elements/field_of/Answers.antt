@@ -1,16 +1,8 @@
 use Rattle.std.proofs.Common.{◌≡◌, ap, ◌∙◌, arith}
 use Rattle.std.specs.Prelude.{slice_get, Some, None}
 use Rattle.lx_ir.specs.Layout.{fields_of, unnamed}
-use Rattle.lx_steps.proofs.Parts.{past_fields, found_field, lost_field, no_field, sized_field}
-use Rattle.lx_steps.proofs.Sizes.{lawful_type}
+use Rattle.lx_steps.proofs.Parts.{found_field, lost_field, no_field, sized_field}
 use Rattle.lx_steps.proofs.elements.field_of.Goals as goal
-
-pub returns-then-number-gt4294967295-clause-part : goal.returns-then-number-gt4294967295-clause-part
-returns-then-number-gt4294967295-clause-part c =
-    past_fields c.args.text.now.types c.args.ty.now c.args.number c.requires (omega (arith, c.if-number-gt4294967295.true))
-
-pub offset_of-requires : goal.offset_of-requires
-offset_of-requires c = lawful_type c.args.text.now.types c.args.ty.now c.requires
 
 pub unreachable-requires : goal.unreachable-requires
 unreachable-requires c =

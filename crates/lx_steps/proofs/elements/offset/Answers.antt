@@ -5,11 +5,10 @@ use Rattle.lx_ir.specs.Layout.{element_offset}
 use Rattle.lx_model.specs.Effect.{indices_of, operand}
 use Rattle.lx_steps.specs.Standing.{run_of}
 use Rattle.lx_steps.proofs.Parts.{address}
-use Rattle.lx_steps.proofs.Sizes.{lawful_type}
 use Rattle.lx_steps.proofs.elements.offset.Goals as goal
 
 pub size_of-requires : goal.size_of-requires
-size_of-requires c = lawful_type c.args.text.now.types c.args.ty.now c.requires
+size_of-requires c = c.requires
 
 pub returns-in-Some : goal.returns-in-Some
 returns-in-Some c =

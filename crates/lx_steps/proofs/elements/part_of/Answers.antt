@@ -2,13 +2,11 @@ use Rattle.std.proofs.Common.{◌≡◌, ap, ◌∙◌, arith}
 use Rattle.lx_words.specs.Word.{signed}
 use Rattle.lx_steps.specs.Parts.{element_in}
 use Rattle.lx_steps.proofs.Parts.{element_part, other_part, sized_element}
-use Rattle.lx_steps.proofs.Sizes.{lawful_type}
 use Rattle.lx_steps.proofs.elements.part_of.Goals as goal
 
 pub size_of-requires : goal.size_of-requires
 size_of-requires c =
-    let types = c.args.text.now.types in
-    lawful_type types c.in-Some.element.now (sized_element types c.args.ty.now c.in-Some.element.now c.requires (c.in-Some.ensures ∙ ap element_in c.unnamed.ensures))
+    sized_element c.args.text.now.types c.args.ty.now c.in-Some.element.now c.requires (c.in-Some.ensures ∙ ap element_in c.unnamed.ensures)
 
 pub returns-in-Some-clause-part : goal.returns-in-Some-clause-part
 returns-in-Some-clause-part c =

@@ -5,13 +5,12 @@ use Rattle.lx_ir.specs.Layout.{is_lawful_type, align_of, size_of}
 use Rattle.lx_model.specs.Effect.{Wants}
 use Rattle.lx_model.specs.declared.request.What.TheVariants as what
 use Rattle.lx_model.specs.Program.{module_of, home_or_kernel}
-use Rattle.lx_steps.proofs.Sizes.{alignment_above, alignment_small, lawful_type}
+use Rattle.lx_steps.proofs.Sizes.{alignment_above, alignment_small}
 use Rattle.lx_steps.proofs.memory.alloca.Goals as goal
 
 pub align_of-align-requires : goal.align_of-align-requires
 align_of-align-requires c =
-    subst (λ (m : Module). IsTrue (is_lawful_type m.types c.args.ty.now)) (sym (c.text-text.ensures ∙ ap (module_of c.args.code.now) c.home.ensures))
-    (lawful_type (module_of c.args.code.now (home_or_kernel c.args.code.now c.args.run.now.function)).types c.args.ty.now c.requires)
+    subst (λ (m : Module). IsTrue (is_lawful_type m.types c.args.ty.now)) (sym (c.text-text.ensures ∙ ap (module_of c.args.code.now) c.home.ensures)) c.requires
 
 pub next_multiple_of-requires-clause-nonzero : goal.next_multiple_of-requires-clause-nonzero
 next_multiple_of-requires-clause-nonzero c = omega (arith, c.align_of-align.ensures, alignment_above c.text-text.result.now.types c.args.ty.now)
@@ -25,8 +24,7 @@ next_multiple_of-requires-clause-fits c =
 
 pub size_of-requires : goal.size_of-requires
 size_of-requires c =
-    subst (λ (m : Module). IsTrue (is_lawful_type m.types c.args.ty.now)) (sym (c.text-text.ensures ∙ ap (module_of c.args.code.now) c.home.ensures))
-    (lawful_type (module_of c.args.code.now (home_or_kernel c.args.code.now c.args.run.now.function)).types c.args.ty.now c.requires)
+    subst (λ (m : Module). IsTrue (is_lawful_type m.types c.args.ty.now)) (sym (c.text-text.ensures ∙ ap (module_of c.args.code.now) c.home.ensures)) c.requires
 
 pub returns : goal.returns
 returns c to =

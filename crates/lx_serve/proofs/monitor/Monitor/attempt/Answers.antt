@@ -58,6 +58,20 @@ returns-in-Direct-clause-tries g c = λ s k.
     subst (λ (w : What). Tries g.C.CapStore.stands c.args.program.now c.args.self.now s c.args.thread r.who w c.enter_kernel.result) (sym is)
     (c.enter_kernel.ensures c.args.program.now s c.args.thread r.who c.in-Enter.args k known)
 
+pub returns-in-Indirect-clause-tries : goal.returns-in-Indirect-clause-tries
+returns-in-Indirect-clause-tries g c = λ s k.
+    let r = c.args.request.now in
+    let is : r.what ≡ what.Enter (way.Indirect c.in-Indirect.at) c.in-Enter.args = cc in
+    subst (λ (w : What). Tries g.C.CapStore.stands c.args.program.now c.enter_address.new.self s c.args.thread r.who w c.enter_address.result) (sym is)
+    (c.enter_address.ensures.tries s c.args.thread k)
+
+pub returns-in-Slot-clause-tries : goal.returns-in-Slot-clause-tries
+returns-in-Slot-clause-tries g c = λ s k.
+    let r = c.args.request.now in
+    let is : r.what ≡ what.Enter (way.Slot c.in-Slot.slot c.in-Slot.ty) c.in-Enter.args = cc in
+    subst (λ (w : What). Tries g.C.CapStore.stands c.args.program.now c.enter_slot.new.self s c.args.thread r.who w c.enter_slot.result) (sym is)
+    (c.enter_slot.ensures.tries s c.args.thread k)
+
 pub returns-in-Perform-clause-tries : goal.returns-in-Perform-clause-tries
 returns-in-Perform-clause-tries g c = λ s k.
     let r = c.args.request.now in

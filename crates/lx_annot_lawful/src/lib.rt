@@ -1,0 +1,2 @@
+//! Which interfaces are lawful: definitions alone.
+#![tactic(auto)]

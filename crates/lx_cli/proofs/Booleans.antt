@@ -1,0 +1,6 @@
+-- Tests.
+use Rattle.std.proofs.Common.{◌≡◌, refl, ◌&&◌, Bool, true, false}
+
+pub and_true : (a b : Bool) → (a && b) ≡ true → (a ≡ true) × (b ≡ true)
+and_true true b is = (refl, is)
+and_true false b is = absurd cc

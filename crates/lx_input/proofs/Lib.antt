@@ -1,0 +1,5 @@
+pub mod Told
+pub mod Each
+pub mod Linking
+pub mod Parts
+pub mod Settled

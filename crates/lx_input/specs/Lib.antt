@@ -1,0 +1,4 @@
+pub mod Lines
+pub mod Checks
+pub mod Inputs
+pub mod Laws

@@ -1,0 +1,106 @@
+//! Checked texts, linked.
+
+ghost use Rattle.std.specs.Prelude.{◌≡◌, ◌≤◌, All, IfOk, length, map};
+ghost use Rattle.lx_ir.specs.Lawful.{IsPlain};
+ghost use Rattle.lx_annot_lawful.specs.Lawful.{IsLawfulInterface};
+ghost use Rattle.lx_slot_types.specs.Slots.{annotated_of};
+ghost use Rattle.lx_sources.specs.Sound.{AreSound};
+ghost use Rattle.lx_link.specs.Answers.{origin_name};
+ghost use Rattle.lx_input.specs.Inputs.{CheckTurn, LinkTurn};
+ghost use Rattle.lx_input.specs.Laws.{IsReady};
+
+use crate::checks::{annotate_modules, verify_module, verify_modules};
+use crate::input::Input;
+use crate::stop::link_stop;
+use lx_annot::interface::Interface;
+use lx_ir_verify::Verified;
+use lx_link::link;
+use lx_propagate::Annotated;
+use lx_script::{Case, Origin};
+use lx_sources::{InputStop, Sources};
+use lx_words::{Items, Schedule};
+use std::alloc::Global;
+
+/// The name of the file that a text comes from.
+fn origin_name(origin: &Origin) -> &[u8]
+    ensures { result.now ≡ origin_name origin.now }
+{
+    match origin {
+        Origin::None => &[],
+        Origin::Builtin => b"builtin",
+        Origin::File(name) => name.as_slice(),
+    }
+}
+
+/// A case has at most 16 threads.
+fn few_threads(case: &Case) -> usize
+    ensures count { result ≡ length case.now.threads }
+    ensures few { length case.now.threads ≤ 16 }
+{
+    case.threads.len()
+}
+
+/// Links what was checked; `name` is the name of the case.
+#[tactic(auto, using(crate::proofs::Linking::link_told))]
+fn link_checked(
+    alloc: Global,
+    name: &[u8],
+    case: &Case,
+    kernel: Verified,
+    interface: Interface,
+    modules: Vec<Verified>,
+    annotated: Items<Annotated>,
+    schedule: Option<Schedule>,
+) -> Result<Input, InputStop>
+    requires as_many { length modules.items ≡ length case.now.modules }
+    requires kernel_plain { IsPlain kernel }
+    requires modules_plain { All IsPlain modules.items }
+    requires interface { IsLawfulInterface interface }
+    requires annotated { annotated ≡ map (annotated_of interface) modules.items }
+    ensures turn { LinkTurn name.now (record { case = case.now; kernel = kernel; interface = interface; modules = modules.items; schedule = schedule }) result }
+    ensures ready { IfOk result IsReady }
+{
+    let _threads = few_threads(case);
+    match link(
+        alloc,
+        kernel,
+        interface,
+        modules,
+        annotated.as_slice(),
+        case,
+    ) {
+        Ok(linked) => {
+            let (program, script) = linked.into_parts();
+            Ok(Input {
+                program,
+                script,
+                annotated,
+                schedule,
+            })
+        }
+        Err(fault) => Err(link_stop(alloc, name, fault)),
+    }
+}
+
+/// Checks and links what was read; `name` is the name of the case.
+pub fn check_sources(alloc: Global, name: &[u8], sources: Sources) -> Result<Input, InputStop>
+    requires { AreSound sources }
+    ensures turn { CheckTurn name.now sources result }
+    ensures ready { IfOk result IsReady }
+{
+    let Sources {
+        case,
+        kernel,
+        interface,
+        modules,
+        schedule,
+    } = sources;
+    let names = case.modules.as_slice();
+    let kernel = verify_module(alloc, origin_name(&case.kernel), kernel)?;
+    let modules = verify_modules(alloc, names, modules.into_vec())?;
+    let annotated = annotate_modules(alloc, &interface, names, &modules)?;
+    let input = link_checked(
+        alloc, name, &case, kernel, interface, modules, annotated, schedule,
+    )?;
+    Ok(input)
+}

@@ -1,0 +1,5 @@
+pub mod Lines
+pub mod Reading
+pub mod Bodies
+pub mod Walk
+pub mod Functions

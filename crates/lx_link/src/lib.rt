@@ -1,0 +1,24 @@
+//! Linking: the program of a kernel, an interface and modules, and the calls of a script by numbers and words.
+#![tactic(auto)]
+
+ghost use Rattle.lx_link.specs.Laws.{AreWellLinked, CallsFit};
+
+mod arguments;
+mod calls;
+mod fault;
+mod linked;
+mod linking;
+mod names;
+
+pub use fault::LinkFault;
+pub use linked::{Linked, LinkedParts};
+pub use linking::link;
+
+/// Sound texts without a fault are linked to a well-formed program, and its calls fit the functions that they name.
+#[tactic(auto, using(crate::proofs::Fitting::well_linked, crate::proofs::Fitting::calls_fit))]
+pub fn link_laws()
+    ensures program { AreWellLinked }
+    ensures calls { CallsFit }
+{
+    lx_link_texts::text_laws();
+}

@@ -1,0 +1,4 @@
+pub mod Programs
+pub mod Faults
+pub mod Calls
+pub mod Orders

@@ -1,0 +1,8 @@
+pub mod Pairs
+pub mod Natives
+pub mod Passes
+pub mod Names
+pub mod Entries
+pub mod Places
+pub mod Sound
+pub mod Small

@@ -1,0 +1,8 @@
+use Rattle.std.proofs.Common.{◌≡◌, drop}
+use Rattle.lx_link_texts.specs.Faults.{first_module, imports_fault}
+use Rattle.lx_link_texts.proofs.imports.check_imports.Given as goal
+
+abbrev pub invariant-loop-number : goal.invariant-loop-number
+invariant-loop-number l =
+    first_module (imports_fault l.sources.kernel l.sources.interface) 0 l.sources.modules
+    ≡ first_module (imports_fault l.sources.kernel l.sources.interface) l.number (drop l.number l.sources.modules)

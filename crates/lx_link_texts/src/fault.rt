@@ -1,0 +1,56 @@
+//! Faults of what is linked.
+use lx_ir::module::Function;
+use std::marker::Model;
+
+/// What kind of fault it is.
+#[derive(Clone, Copy, Debug, PartialEq, Eq)]
+pub enum FaultKind {
+    Missing,
+    Unannotated,
+    SignatureDiffers,
+    TooLarge,
+    KernelIndirect,
+}
+
+/// The text that has a fault: a module by its number.
+#[derive(Clone, Copy, Debug, PartialEq, Eq)]
+pub enum Source {
+    Kernel,
+    Interface,
+    Module(u32),
+    Case,
+}
+
+/// A fault that was found: the text and the line, and the name of a function or global, or the word for a limit.
+#[derive(Drop)]
+pub struct Found<'a> {
+    pub kind: FaultKind,
+    pub source: Source,
+    pub line: u32,
+    pub name: &'a [u8],
+}
+
+impl<'a> Model for Found<'a> {
+    ghost use Rattle.lx_link_texts.specs.Faults.{Fault as Meaning};
+
+    ghost Value = { Meaning };
+
+    ghost view = { λ f. record { kind = f.kind; source = f.source; line = f.line; name = f.name.now } };
+}
+
+impl<'a> Found<'a> {
+    ghost use Rattle.std.specs.Prelude.{◌≡◌};
+    ghost use Rattle.lx_link_texts.specs.Faults.{fault_of};
+
+    /// A fault of a function, at its line.
+    pub fn at(kind: FaultKind, source: Source, function: &'a Function) -> Self
+        ensures { result ≡ fault_of kind source function.now }
+    {
+        Found {
+            kind,
+            source,
+            line: function.line,
+            name: function.name.as_slice(),
+        }
+    }
+}

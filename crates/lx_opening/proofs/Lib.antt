@@ -1,0 +1,5 @@
+pub mod PutBytes
+pub mod Globals
+pub mod Items
+pub mod Opened
+pub mod Typed

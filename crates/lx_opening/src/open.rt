@@ -1,0 +1,47 @@
+//! The world of a program before the first call.
+ghost use Rattle.std.specs.Prelude.{◌≡◌, ◌≤◌, [], IfOk, length};
+ghost use Rattle.lx_link_texts.specs.WellFormed.{IsWellFormed};
+ghost use Rattle.lx_model.specs.World.{opening};
+ghost use Rattle.lx_tables.specs.Entries.{all_annotated};
+ghost use Rattle.lx_world.specs.Worlds.{StandsForWorld, program_of};
+
+use crate::part::open_part;
+use lx_caps::CapStore;
+use lx_code::Code;
+use lx_model::program::{Calls, Program};
+use lx_propagate::Annotated;
+use lx_tables::{action_counts, reach_laws, sources_of};
+use lx_words::Memory;
+use lx_world::World;
+use std::alloc::Global;
+
+/// The opening of a script, a list of calls for each thread, over a well-formed program. `annotated` has the functions
+/// of each module that get a slot type, and `caps` is new.
+///
+/// # Errors
+/// Want of memory; more modules, functions of a module or actions of a function than a number of 32 bits counts are that
+/// too.
+pub fn open_world<C: CapStore + Drop>(
+    alloc: Global,
+    program: Program,
+    script: Vec<Calls>,
+    annotated: &[Annotated],
+    caps: C,
+) -> Result<World<C>, Memory>
+    requires well_formed { IsWellFormed program }
+    requires annotated { annotated.now ≡ all_annotated program }
+    requires threads { length script.items ≤ 16 }
+    requires new { C.stands caps [] }
+    ensures opens { IfOk result (λ world. StandsForWorld C.stands program world (opening program script.items)) }
+    ensures program { IfOk result (λ world. program_of world ≡ program) }
+{
+    reach_laws();
+    let sources = sources_of(alloc, &program, annotated)?;
+    let counts = action_counts(alloc, &program, sources.as_slice())?;
+    let code = Code::new(alloc, program, counts);
+    let Ok(shared) = open_part(alloc, &code, caps, sources) else {
+        return Err(Memory);
+    };
+    let world = World::open(alloc, code, script, shared)?;
+    Ok(world)
+}

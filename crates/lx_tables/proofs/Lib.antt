@@ -1,0 +1,5 @@
+pub mod Texts
+pub mod Reached
+pub mod Told
+pub mod CountTables
+pub mod ImageTables

@@ -1,0 +1,4 @@
+pub mod Counted
+pub mod Entries
+pub mod Laws
+pub mod Images

@@ -1,0 +1,5 @@
+pub mod Accounting
+pub mod Gathered
+pub mod Numbered
+pub mod Standing
+pub mod Turns

@@ -1,0 +1,10 @@
+use Rattle.std.proofs.Common.{◌≡◌, length, map}
+use Rattle.lx_model.specs.Thread.{fresh_thread}
+use Rattle.lx_world.specs.Worlds.{AllStand}
+use Rattle.lx_world.proofs.runners.Runners.open.Given as goal
+
+abbrev pub invariant-loop-calls : goal.invariant-loop-calls
+invariant-loop-calls l = record {
+  as_many : length l.list.items ≡ length l.yielded;
+  stand : AllStand l.code 0 l.list.items (map fresh_thread l.yielded);
+}

@@ -1,0 +1,50 @@
+use Rattle.std.proofs.Common.{◌≡◌, Bool, true, false, not, refl, sym, ◌∙◌}
+use Rattle.std.proofs.lemmas.Result.{err_from_is_err_and}
+use Rattle.lx_world.proofs.Standing.{busy, event_stands, fault_stands, idle_is}
+use Rattle.lx_world.proofs.world.World.event.Goals as goal
+
+idle_off : (x y : Bool) → x ≡ not y → x ≡ true → y ≡ false
+idle_off x true e f = absurd (cc)
+idle_off x false e f = refl
+
+busy_on : (x y : Bool) → x ≡ not y → x ≡ false → y ≡ false → ⊥
+busy_on x true e f h = cc
+busy_on x false e f h = cc
+
+pub returns-then-is_idle-clause-no_work : goal.returns-then-is_idle-clause-no_work
+returns-then-is_idle-clause-no_work g c = λ p w st.
+    let off = idle_off c.is_idle.result _ (c.is_idle.ensures.idle ∙ idle_is g.C.CapStore.stands c.args.self.now p w c.args.thread st) c.if-is_idle.true in
+    (λ _. off, λ _. refl)
+
+pub turn-requires-clause-work : goal.turn-requires-clause-work
+turn-requires-clause-work g c = busy c.args.self.now.runners.list.items c.args.thread c.index_mut.result.now (sym c.is_idle.ensures.idle ∙ c.if-is_idle.false) c.index_mut.ensures.value
+
+pub returns-clause-event : goal.returns-clause-event
+returns-clause-event g c = λ p w st.
+    event_stands g.C.CapStore.stands c.args.self.now _ p w c.args.thread c.index_mut.result.now c.turn.new.runner refl refl c.index_mut.ensures.value
+    (c.is_idle.ensures.there c.if-is_idle.false)
+    (busy c.args.self.now.runners.list.items c.args.thread c.index_mut.result.now (sym c.is_idle.ensures.idle ∙ c.if-is_idle.false) c.index_mut.ensures.value)
+    c.in_ok-turn.ensures.turns st
+
+pub returns-clause-no_work : goal.returns-clause-no_work
+returns-clause-no_work g c = λ p w st. (
+  λ e. absurd (cc),
+  λ off. absurd (busy_on c.is_idle.result _ (c.is_idle.ensures.idle ∙ idle_is g.C.CapStore.stands c.args.self.now p w c.args.thread st) c.if-is_idle.false off),
+)
+
+pub returns-in_err-turn-clause-fault : goal.returns-in_err-turn-clause-fault
+returns-in_err-turn-clause-fault g c =
+    let q = err_from_is_err_and c.from_residual.result c.from_residual.ensures.1 in
+    rw q.1
+    (λ p w st.
+    fault_stands g.C.CapStore.stands c.args.self.now _ p w c.args.thread c.index_mut.result.now c.turn.new.runner refl refl c.index_mut.ensures.value
+    (c.is_idle.ensures.there c.if-is_idle.false) c.in_err-turn.ensures.memory st)
+
+pub returns-in_err-turn-clause-no_work : goal.returns-in_err-turn-clause-no_work
+returns-in_err-turn-clause-no_work g c =
+    let q = err_from_is_err_and c.from_residual.result c.from_residual.ensures.1 in
+    rw (q.1, q.2)
+    (λ p w st. (
+      λ e. absurd (cc),
+      λ off. absurd (busy_on c.is_idle.result _ (c.is_idle.ensures.idle ∙ idle_is g.C.CapStore.stands c.args.self.now p w c.args.thread st) c.if-is_idle.false off),
+    ))

@@ -1,0 +1,33 @@
+//! The runners of a world.
+ghost use Rattle.std.specs.Prelude.{◌≤◌, length, map, IfOk};
+ghost use Rattle.lx_model.specs.Thread.{fresh_thread};
+
+use lx_interp::{Code, Runner};
+use lx_model::program::Calls;
+use lx_words::Memory;
+use std::alloc::Global;
+
+/// A runner for each thread, of which there are at most 16.
+#[derive(Drop)]
+pub struct Runners {
+    pub(crate) list: Vec<Runner>,
+    ghost few: { length list.items ≤ 16 },
+}
+
+impl Runners {
+    ghost use Rattle.lx_world.specs.Worlds.{AllStand};
+
+    /// A runner for each list of calls.
+    pub(crate) fn open(alloc: Global, code: &Code, script: Vec<Calls>) -> Result<Self, Memory>
+        requires { length script.items ≤ 16 }
+        ensures { IfOk result (λ runners. AllStand code.now 0 runners.list.items (map fresh_thread script.items)) }
+    {
+        let mut list = Vec::with_capacity(alloc, script.len())?;
+        for calls in script {
+            let thread = list.len() as u32;
+            let runner = Runner::open(alloc, thread, calls)?;
+            list.push(runner)?;
+        }
+        Ok(Runners { list })
+    }
+}

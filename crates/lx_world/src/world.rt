@@ -1,0 +1,122 @@
+//! The world: what threads share, and a runner for each thread.
+ghost use Rattle.std.specs.Prelude.{◌≡◌};
+ghost use Rattle.std.specs.List.{list_all};
+ghost use Rattle.lx_world.specs.Worlds.{is_idle};
+
+use crate::fault::EventFault;
+use crate::linked::LinkedCode;
+use crate::runners::Runners;
+use crate::turn::turn;
+use lx_caps::CapStore;
+use lx_interp::{Code, Runner};
+use lx_model::program::{Calls, Program};
+use lx_serve::SharedPart;
+use lx_words::Memory;
+use std::alloc::Global;
+
+/// A world of a program: what its threads share, their runners, and the code that they run.
+#[derive(Drop)]
+pub struct World<C: CapStore + Drop> {
+    pub(crate) shared: SharedPart<C>,
+    pub(crate) runners: Runners,
+    pub(crate) linked: LinkedCode,
+}
+
+fn are_done(runners: &[Runner]) -> bool
+    ensures { result ≡ list_all is_idle runners.now }
+{
+    runners.iter().all(|runner| runner.done())
+}
+
+impl<C: CapStore + Drop> World<C> {
+    ghost use Rattle.std.specs.Prelude.{◌≡◌, ◌<◌, ◌↔◌, ℕ, false, true, ◌≤◌, OnOk, OnErr, IfOk, IsErrOf, length};
+    ghost use Rattle.lx_model.specs.declared.program.Program.{Program};
+    ghost use Rattle.lx_model.specs.World.{World as Meaning, event, can_act, is_done, opening};
+    ghost use Rattle.lx_model.specs.Account.{schedule_of};
+    ghost use Rattle.lx_model.specs.Opening.{opening_state};
+    ghost use Rattle.lx_world.specs.Worlds.{StandsForWorld, program_of, events_in, is_idle_at};
+    ghost use Rattle.lx_serve.specs.Sources.{IsLinked};
+    ghost use Rattle.lx_serve.specs.Stands.{StandsForState};
+    ghost use Rattle.lx_world.specs.declared.fault.EventFault.{EventFault};
+
+    /// The opening of a script, a list of calls for each thread, over what threads share before the first call.
+    ///
+    /// # Errors
+    /// Want of memory.
+    pub fn open(
+        alloc: Global,
+        code: Code,
+        script: Vec<Calls>,
+        shared: SharedPart<C>,
+    ) -> Result<Self, Memory>
+        requires linked { IsLinked code }
+        requires opened { StandsForState C.stands code shared (opening_state code) }
+        requires threads { length script.items ≤ 16 }
+        ensures opens { IfOk result (λ world. StandsForWorld C.stands code world (opening code script.items)) }
+        ensures program { IfOk result (λ world. program_of world ≡ code) }
+    {
+        let runners = Runners::open(alloc, &code, script)?;
+        let linked = LinkedCode { code };
+        Ok(World {
+            shared,
+            runners,
+            linked,
+        })
+    }
+
+    /// The program that runs.
+    pub fn program(&self) -> &Program
+        ensures { result.now ≡ program_of self.now }
+    {
+        self.linked.code.program()
+    }
+
+    fn is_idle(&self, place: usize) -> bool
+        ensures idle { result ≡ is_idle_at self.now.runners.list.items place }
+        ensures there { result ≡ false → place < length self.now.runners.list.items }
+    {
+        match self.runners.list.get(place) {
+            Some(runner) => runner.done(),
+            None => true,
+        }
+    }
+
+    /// One event of a thread: its next request is served, and it takes in the reply. `NoWork` exactly where there is no
+    /// such thread or it has no call left, which changes nothing. After `Memory` only register steps of that thread may
+    /// have gone on.
+    pub fn event(&mut self, thread: u32) -> Result<(), EventFault>
+        ensures event { OnOk result ((p : Program) (w : Meaning) → StandsForWorld C.stands p self.old w → StandsForWorld C.stands p self.new (event p thread w)) }
+        ensures fault { OnErr result ((p : Program) (w : Meaning) → StandsForWorld C.stands p self.old w → StandsForWorld C.stands p self.new w) }
+        ensures no_work { (p : Program) (w : Meaning) → StandsForWorld C.stands p self.old w → IsErrOf result (EventFault.NoWork thread) ↔ (can_act w thread ≡ false) }
+        ensures number { (n : ℕ) → IsErrOf result (EventFault.NoWork n) → n ≡ thread }
+        ensures unchanged { IsErrOf result (EventFault.NoWork thread) → self.new ≡ self.old }
+        ensures program { program_of self.new ≡ program_of self.old }
+        ensures fewer { OnOk result (events_in self.new < events_in self.old) }
+    {
+        let place = thread as usize;
+        if self.is_idle(place) {
+            return Err(EventFault::NoWork { thread });
+        }
+        turn(
+            &mut self.shared,
+            &mut self.runners.list[place],
+            &self.linked,
+            thread,
+        )?;
+        Ok(())
+    }
+
+    /// Whether no thread has a call left.
+    pub fn done(&self) -> bool
+        ensures { (p : Program) (w : Meaning) → StandsForWorld C.stands p self.now w → result ≡ is_done w }
+    {
+        are_done(self.runners.list.as_slice())
+    }
+
+    /// The threads of the events so far.
+    pub fn schedule(&self) -> &[u32]
+        ensures { (p : Program) (w : Meaning) → StandsForWorld C.stands p self.now w → result.now ≡ schedule_of w }
+    {
+        self.shared.threads()
+    }
+}
