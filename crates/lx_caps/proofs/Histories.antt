@@ -8,7 +8,7 @@ use Rattle.lx_caps.specs.declared.Atom.{Atom}
 use Rattle.lx_caps.specs.declared.Atom.TheVariants.{Byte}
 use Rattle.lx_caps.specs.declared.Act.TheVariants.{Grant, Strip, Zero}
 use Rattle.lx_caps.specs.Regions.{covers}
-use Rattle.lx_caps.specs.History.{History, has, owns, owned_among, same_principal, reaches, reached}
+use Rattle.lx_caps.specs.History.{History, has, owns, owned_among, same_principal, reaches, reached, without_zeros}
 use Rattle.lx_caps.specs.Writers.{is_writer, moments}
 
 -- an owner is a writer
@@ -114,3 +114,12 @@ owned_by_owner among (Zero at size ∷ h) x q m o = owned_by_owner among h x q m
 
 pub by_an_owner : (h : History) (who : Principal) (x : Atom) → IsTrue (reached h who x) ↔ ((q : Principal) × IsTrue (reaches who q) × IsTrue (owns h q x))
 by_an_owner h who x = (owner_of (reaches who) h x, λ w. owned_by_owner (reaches who) h x w.0 w.1 w.2)
+
+same_owners : (among : Principal → Bool) (h : History) (x : Atom) → owned_among among (without_zeros h) x ≡ owned_among among h x
+same_owners among [] x = refl
+same_owners among (Grant q c ∷ h) x = ap (λ (b : Bool). (among q && has c x) || b) (same_owners among h x)
+same_owners among (Strip c ∷ h) x = ap (λ (b : Bool). not (has c x) && b) (same_owners among h x)
+same_owners among (Zero at size ∷ h) x = same_owners among h x
+
+pub zeros_aside : (h : History) (q : Principal) (x : Atom) → owns (without_zeros h) q x ≡ owns h q x
+zeros_aside h q x = same_owners (same_principal q) h x

@@ -4,6 +4,8 @@ pub mod Orders
 pub mod Least
 pub mod Begins
 pub mod NextOwned
+pub mod PrincipalOrder
+pub mod NextOwner
 pub mod RegionLemmas
 pub mod OwnerLemmas
 pub mod WriterLemmas

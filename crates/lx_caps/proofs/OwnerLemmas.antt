@@ -16,7 +16,9 @@ use Rattle.lx_caps.specs.Placed.{AllPlaced}
 use Rattle.lx_caps.specs.Order.{IsFirst, IsNextOwned}
 use Rattle.lx_caps.specs.OwnerLaws.{NoStrip, WasGranted, HoldsEach}
 use Rattle.lx_caps.proofs.Bytes.{each_byte-at, each_byte-from}
-use Rattle.lx_caps.proofs.Histories.{by_an_owner, same_is, same_itself}
+use Rattle.lx_caps.specs.Precedence.{follows, IsNextOwner}
+use Rattle.lx_caps.proofs.Histories.{by_an_owner, owned_by_owner, same_is, same_itself}
+use Rattle.lx_caps.proofs.PrincipalOrder.{one_first_principal}
 use Rattle.lx_caps.proofs.Orders.{before_one_way}
 use Rattle.lx_caps.proofs.RegionLemmas.{byte_by_byte}
 
@@ -177,3 +179,28 @@ not_held h (Global m) at size placed out =
 not_held h (Inst m k) at size placed out =
     false_from_ne_true (holds h (Inst m k) (cap.Write at size))
     (λ is. both_ways (mapped at size) out (held_in_memory h (Inst m k) at size placed (λ (e : Inst m k ≡ Kernel). absurd cc) is))
+
+pub one_next_owner : (h : History) (x : Atom) (after a b : Option Principal) → IsNextOwner h x after a → IsNextOwner h x after b → a ≡ b
+one_next_owner h x after a b first second = one_first_principal (λ q. follows after q && owns h q x) a b first second
+
+reaches_itself : (p : Principal) → reaches p p ≡ true
+reaches_itself Kernel = refl
+reaches_itself (Shared m) = same_itself (Shared m)
+reaches_itself (Global m) = eq-eqb m m refl
+reaches_itself (Inst m k) = or_left (same_principal (Inst m k) (Inst m k)) (same_principal (Shared m) (Inst m k)) (same_itself (Inst m k))
+
+owner_reaches : (h : History) (who : Principal) (b : ℕ) → owns h who (atom.Byte b) ≡ true → holds_by_reach h who (cap.Write b 1) ≡ true
+owner_reaches h who b is =
+    each_byte-from (λ (c : ℕ). reached h who (atom.Byte c)) b 1
+    (λ c low high.
+    let e : b ≡ c = omega arith in
+    subst (λ (k : ℕ). reached h who (atom.Byte k) ≡ true) e (owned_by_owner (reaches who) h (atom.Byte b) who (reaches_itself who) is))
+
+-- who owns a byte holds it
+pub owner_holds : (h : History) (who : Principal) (b : ℕ) → AllPlaced h → owns h who (atom.Byte b) ≡ true → holds h who (cap.Write b 1) ≡ true
+owner_holds h Kernel b placed is =
+    (byte_by_byte b 1).1
+    (λ c low high. let e : b ≡ c = omega arith in subst LiesInMemory e (owned_in_memory (same_principal Kernel) h b placed is))
+owner_holds h (Shared m) b placed is = owner_reaches h (Shared m) b is
+owner_holds h (Global m) b placed is = owner_reaches h (Global m) b is
+owner_holds h (Inst m k) b placed is = owner_reaches h (Inst m k) b is

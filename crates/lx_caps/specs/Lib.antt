@@ -4,6 +4,7 @@ pub mod Placed
 pub mod Acts
 pub mod History
 pub mod Order
+pub mod Precedence
 pub mod Starts
 pub mod Owners
 pub mod Writers

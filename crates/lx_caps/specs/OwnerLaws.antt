@@ -10,6 +10,7 @@ use Rattle.lx_caps.specs.Regions.{mapped}
 use Rattle.lx_caps.specs.History.{History, has, owns, reaches, holds}
 use Rattle.lx_caps.specs.Placed.{AllPlaced}
 use Rattle.lx_caps.specs.Order.{IsNextOwned}
+use Rattle.lx_caps.specs.Precedence.{IsNextOwner}
 
 -- no strip among the acts has the atom
 abbrev pub NoStrip : Atom → History → Type 0
@@ -40,3 +41,5 @@ pub record OwnerLaws : Type 0 where
   pub held_in_memory : (h : History) (who : Principal) (at size : ℕ) → AllPlaced h → who ≢ Kernel → IsTrue (holds h who (Write at size)) → IsTrue (mapped at size)
   -- there is one next owned atom
   pub one_next : (h : History) (who : Principal) (after a b : Option Atom) → IsNextOwned h who after a → IsNextOwned h who after b → a ≡ b
+  -- there is one next owner
+  pub one_next_owner : (h : History) (x : Atom) (after a b : Option Principal) → IsNextOwner h x after a → IsNextOwner h x after b → a ≡ b

@@ -1,5 +1,5 @@
 -- Where a principal's atoms may begin. Between two such places a range of bytes is owned whole or not at all.
-use Rattle.std.specs.Prelude.{◌+◌, Bool, nat_lt, Option, Some, None, if◌then◌else◌}
+use Rattle.std.specs.Prelude.{ℕ, ◌+◌, ◌-◌, Bool, true, false, nat_eq, nat_lt, Option, Some, None, if◌then◌else◌}
 use Rattle.lx_caps.specs.declared.Cap.TheVariants as cap
 use Rattle.lx_caps.specs.declared.Atom.{Atom}
 use Rattle.lx_caps.specs.declared.Atom.TheVariants.{Byte, Call, Ref}
@@ -30,3 +30,17 @@ abbrev pub lesser : Option Atom → Option Atom → Option Atom
 lesser None b = b
 lesser (Some x) None = Some x
 lesser (Some x) (Some y) = if is_before y x then Some y else Some x
+
+-- the atom comes before the one found, if one is found
+abbrev pub comes_sooner : Atom → Option Atom → Bool
+comes_sooner x None = true
+comes_sooner x (Some y) = is_before x y
+
+-- the byte before the given one
+abbrev pub byte_before : ℕ → Option Atom
+byte_before b = if nat_eq b 0 then None else Some (Byte (b - 1))
+
+-- this byte is the atom that was found
+abbrev pub is_the_byte : ℕ → Option Atom → Bool
+is_the_byte b (Some (Byte c)) = nat_eq c b
+is_the_byte b _ = false

@@ -30,8 +30,8 @@ pub use laws::{
     heap_laws, history_laws, name_laws, owner_laws, region_laws, worked_histories, writer_laws,
 };
 pub use plain::PlainCaps;
-pub use store::{CapStore, Memory, holds_range};
-pub use terms::{cells, mapped, reaches};
+pub use store::{CapStore, Memory, holds_range, owns_byte};
+pub use terms::{cells, earlier, follows, is_same, mapped, precedes, reaches};
 
 /// Who acts: the kernel, or a principal of a module.
 #[derive(Clone, Copy, Debug, PartialEq, Eq)]

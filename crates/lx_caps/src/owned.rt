@@ -1,15 +1,17 @@
 // Who owns and who holds what, by a list of acts, the oldest first.
 ghost use Rattle.std.specs.Prelude.{◌≡◌, ◌&&◌, true, All, reverse};
+ghost use Rattle.lx_caps.specs.declared.Principal.{Principal};
 ghost use Rattle.lx_caps.specs.declared.Atom.TheVariants.{Byte};
 ghost use Rattle.lx_caps.specs.declared.Cap.TheVariants.{Write};
 ghost use Rattle.lx_caps.specs.Placed.{is_placed, is_placed_act};
 ghost use Rattle.lx_caps.specs.History.{each_byte, holds_by_reach, owned_among, owns, reached};
 ghost use Rattle.lx_caps.specs.Order.{is_behind, IsNextOwned};
-ghost use Rattle.lx_caps.specs.Owners.{counts};
+ghost use Rattle.lx_caps.specs.Owners.{counts, gives};
+ghost use Rattle.lx_caps.specs.Precedence.{follows, is_found, IsNextOwner};
 ghost use Rattle.lx_caps.specs.Regions.{mapped};
-ghost use Rattle.lx_caps.specs.Starts.{start_of, start_behind, kept_by, lesser};
+ghost use Rattle.lx_caps.specs.Starts.{comes_sooner, kept_by, lesser, start_behind, start_of};
 
-use crate::terms::{has, is_before, is_behind, is_same, reaches};
+use crate::terms::{earlier, follows, has, is_before, is_behind, is_same, reaches};
 use crate::{Act, Atom, Cap, Principal};
 
 /// Whose ownership counts: a principal's own, or that of everyone in its reach.
@@ -119,6 +121,32 @@ fn kept(acts: &[Act], who: Principal, after: Option<Atom>, place: Option<Atom>) 
     }
 }
 
+fn comes_sooner(x: Atom, first: Option<Atom>) -> bool
+    ensures { result ≡ comes_sooner x first }
+{
+    match first {
+        None => true,
+        Some(found) => is_before(x, found),
+    }
+}
+
+/// The lesser of the first atom so far and a place, if that is kept. Who owns the place is asked only where it would
+/// come first.
+fn sooner(
+    acts: &[Act],
+    who: Principal,
+    after: Option<Atom>,
+    first: Option<Atom>,
+    place: Option<Atom>,
+) -> Option<Atom>
+    ensures { result ≡ lesser first (kept_by (λ x. is_behind after x && owns (reverse acts.now) who x) place) }
+{
+    match place {
+        Some(x) if comes_sooner(x, first) => lesser(first, kept(acts, who, after, place)),
+        _ => first,
+    }
+}
+
 /// Gives the next atom that the principal itself owns behind `after`. What is owned begins where an act begins it,
 /// or goes on behind `after`, so only these places are tried.
 pub(crate) fn next_in(acts: &[Act], who: Principal, after: Option<Atom>) -> Option<Atom>
@@ -127,7 +155,30 @@ pub(crate) fn next_in(acts: &[Act], who: Principal, after: Option<Atom>) -> Opti
 {
     let mut first = kept(acts, who, after, start_behind(after));
     for act in acts {
-        first = lesser(first, kept(acts, who, after, start(*act)));
+        first = sooner(acts, who, after, first, start(*act));
+    }
+    first
+}
+
+/// The principal that an act grants the atom to, if it is one behind `after` and owns the atom still.
+fn owner_by(acts: &[Act], act: Act, atom: Atom, after: Option<Principal>) -> Option<Principal>
+    ensures { (q : Principal) → (gives act q atom && (follows after q && owns (reverse acts.now) q atom)) ≡ is_found result q }
+{
+    match act {
+        Act::Grant(to, cap) if has(cap, atom) && follows(after, to) && is_owned(acts, to, atom) =>
+            Some(to),
+        _ => None,
+    }
+}
+
+/// Gives the next principal that itself owns the atom behind `after`. An owner was granted the atom, so only those are
+/// tried who were.
+pub(crate) fn next_owner_in(acts: &[Act], atom: Atom, after: Option<Principal>) -> Option<Principal>
+    ensures { IsNextOwner (reverse acts.now) atom after result }
+{
+    let mut first = None;
+    for act in acts {
+        first = earlier(first, owner_by(acts, *act, atom, after));
     }
     first
 }

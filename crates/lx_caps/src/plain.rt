@@ -3,7 +3,7 @@ ghost use Rattle.std.specs.Prelude.{◌≡◌, [], true, All, reverse};
 ghost use Rattle.lx_caps.specs.Placed.{is_placed_act};
 ghost use Rattle.lx_caps.specs.History.{History};
 
-use crate::owned::{is_held_by_reach, next_in};
+use crate::owned::{is_held_by_reach, next_in, next_owner_in};
 use crate::{Act, Acts, Atom, Cap, CapStore, Memory, Principal};
 use std::alloc::Global;
 
@@ -66,6 +66,10 @@ impl CapStore for PlainCaps {
             Principal::Kernel => true,
             _ => is_held_by_reach(self.acts.as_slice(), who, cap),
         }
+    }
+
+    fn next_owner(&self, atom: Atom, after: Option<Principal>) -> Option<Principal> {
+        next_owner_in(self.acts.as_slice(), atom, after)
     }
 
     fn next_owned(&self, who: Principal, after: Option<Atom>) -> Option<Atom> {

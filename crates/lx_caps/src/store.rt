@@ -40,6 +40,7 @@ pub trait CapStore {
     ghost use Rattle.lx_caps.specs.Placed.{is_placed};
     ghost use Rattle.lx_caps.specs.History.{holds};
     ghost use Rattle.lx_caps.specs.Order.{IsNextOwned};
+    ghost use Rattle.lx_caps.specs.Precedence.{IsNextOwner};
 
     /// Tells how much room there is.
     fn spare(&self) -> u64
@@ -72,6 +73,11 @@ pub trait CapStore {
         requires { is_placed cap ≡ true }
         ensures { (h : History) → stands self.now h → result ≡ holds h who cap };
 
+    /// Gives the next principal, in the order of principals, that itself owns the atom behind `after`: the first of all
+    /// for `None`. The answer is `None` exactly where there is no such principal.
+    fn next_owner(&self, atom: Atom, after: Option<Principal>) -> Option<Principal>
+        ensures { (h : History) → stands self.now h → IsNextOwner h atom after result };
+
     /// Gives the next atom, in order, that the principal itself owns behind `after`: the first of all for `None`.
     /// The answer is `None` exactly where there is no such atom.
     fn next_owned(&self, who: Principal, after: Option<Atom>) -> Option<Atom>
@@ -84,12 +90,41 @@ pub trait CapStore {
 }
 
 ghost use Rattle.std.specs.Prelude.{◌≡◌};
+ghost use Rattle.lx_caps.specs.declared.Atom.TheVariants.{Byte};
 ghost use Rattle.lx_caps.specs.declared.Cap.TheVariants.{Write};
-ghost use Rattle.lx_caps.specs.History.{History, holds};
+ghost use Rattle.lx_caps.specs.History.{History, holds, owns};
+ghost use Rattle.lx_caps.specs.Starts.{byte_before, is_the_byte};
 
 /// Says whether a principal holds a range of bytes, wherever the range lies. Nobody holds bytes outside memory.
 pub fn holds_range<C: CapStore>(caps: &C, who: Principal, at: u64, size: u64) -> bool
     ensures { (h : History) → C.stands caps.now h → result ≡ holds h who (Write at size) }
 {
     mapped(at, size) && caps.holds(who, Cap::Write { at, size })
+}
+
+fn byte_before(byte: u64) -> Option<Atom>
+    ensures { result ≡ byte_before byte }
+{
+    if byte == 0 {
+        None
+    } else {
+        Some(Atom::Byte(byte - 1))
+    }
+}
+
+fn is_the_byte(byte: u64, found: Option<Atom>) -> bool
+    ensures { result ≡ is_the_byte byte found }
+{
+    match found {
+        Some(Atom::Byte(b)) => b == byte,
+        _ => false,
+    }
+}
+
+/// Says whether a principal itself owns a byte.
+pub fn owns_byte<C: CapStore>(caps: &C, who: Principal, byte: u64) -> bool
+    ensures { (h : History) → C.stands caps.now h → result ≡ owns h who (Byte byte) }
+{
+    // Who does not hold a byte does not own it, and holding is the cheaper question.
+    holds_range(caps, who, byte, 1) && is_the_byte(byte, caps.next_owned(who, byte_before(byte)))
 }

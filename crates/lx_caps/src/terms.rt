@@ -1,9 +1,11 @@
 // What principals reach, what capabilities are made of, and how atoms are ordered.
-ghost use Rattle.std.specs.Prelude.{◌≡◌, ◌<◌};
+ghost use Rattle.std.specs.Prelude.{◌≡◌, ◌<◌, ◌||◌, Bool};
 ghost use Rattle.lx_caps.specs.Cells.{cells};
 ghost use Rattle.lx_caps.specs.History.{has, is_of, reaches, same_principal};
 ghost use Rattle.lx_caps.specs.Order.{is_before, is_behind};
+ghost use Rattle.lx_caps.specs.Precedence.{follows, is_found, module_rank, precedes, rank_in_module, IsFirstPrincipal};
 ghost use Rattle.lx_caps.specs.Regions.{lies_in, mapped};
+ghost use Rattle.lx_caps.specs.declared.Principal.{Principal};
 
 use crate::{Atom, Cap, Principal};
 
@@ -44,7 +46,8 @@ pub fn cells(cap: Cap) -> u64
     }
 }
 
-pub(crate) fn is_same(p: Principal, q: Principal) -> bool
+/// Says whether two principals are the same.
+pub fn is_same(p: Principal, q: Principal) -> bool
     ensures { result ≡ same_principal p q }
 {
     match (p, q) {
@@ -74,6 +77,57 @@ pub fn reaches(p: Principal, owner: Principal) -> bool
         Principal::Kernel | Principal::Shared(_) => is_same(p, owner),
         Principal::Global(m) => is_of(m, owner),
         Principal::Inst(m, _) => is_same(p, owner) || is_same(Principal::Shared(m), owner),
+    }
+}
+
+fn module_rank(p: Principal) -> u64
+    ensures { result ≡ module_rank p }
+{
+    match p {
+        Principal::Kernel => 0,
+        Principal::Shared(m) | Principal::Global(m) | Principal::Inst(m, _) => m as u64 + 1,
+    }
+}
+
+fn rank_in_module(p: Principal) -> u64
+    ensures { result ≡ rank_in_module p }
+{
+    match p {
+        Principal::Kernel | Principal::Shared(_) => 0,
+        Principal::Global(_) => 1,
+        Principal::Inst(_, k) => k as u64 + 2,
+    }
+}
+
+/// Says whether the first principal comes before the second one: the kernel comes first, then for each module its
+/// shared principal, its global one, and its instances by number.
+pub fn precedes(p: Principal, q: Principal) -> bool
+    ensures { result ≡ precedes p q }
+{
+    let a = module_rank(p);
+    let b = module_rank(q);
+    a < b || (a == b && rank_in_module(p) < rank_in_module(q))
+}
+
+/// Says whether a principal comes behind `after`: any does behind `None`.
+pub fn follows(after: Option<Principal>, who: Principal) -> bool
+    ensures { result ≡ follows after who }
+{
+    match after {
+        None => true,
+        Some(last) => precedes(last, who),
+    }
+}
+
+/// Gives the first of two principals in order, where there are two. The first one that passes a test, and one that was
+/// found, give the first one of all that pass the test or were found.
+pub fn earlier(first: Option<Principal>, found: Option<Principal>) -> Option<Principal>
+    ensures { (p : Principal → Bool) → IsFirstPrincipal p first → IsFirstPrincipal (λ q. p q || is_found found q) result }
+{
+    match (first, found) {
+        (None, _) => found,
+        (_, None) => first,
+        (Some(one), Some(other)) => if precedes(other, one) { found } else { first },
     }
 }
 

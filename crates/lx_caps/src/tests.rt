@@ -6,7 +6,9 @@ ghost use Rattle.lx_caps.specs.History.{History, holds};
 ghost use Rattle.lx_caps.specs.Cells.{cells};
 ghost use Rattle.lx_caps.specs.Placed.{is_placed};
 
-use crate::{Act, Atom, Cap, CapStore, PlainCaps, Principal, cells, mapped, reaches};
+use crate::{
+    Act, Atom, Cap, CapStore, PlainCaps, Principal, cells, mapped, owns_byte, precedes, reaches,
+};
 use std::alloc::Global;
 use std::process::Abort;
 use std::test::Fail;
@@ -171,6 +173,43 @@ fn owned_atoms_come_in_order(rt: HostRuntime) -> Result<(), Fail> {
     }
     assert_eq!(rt; caps.next_owned(GLOBAL, None), None);
     assert_eq!(rt; caps.next_owned(FIRST, Some(Atom::Byte(u64::MAX))), None);
+    Ok(())
+}
+
+#[test]
+fn owners_come_in_order(rt: HostRuntime) -> Result<(), Fail> {
+    let caps = filled(
+        &rt,
+        rt.alloc(),
+        &[
+            Act::Grant(STRANGER, bytes(0x1000000, 8)),
+            Act::Grant(SECOND, bytes(0x1000004, 8)),
+            Act::Grant(FIRST, bytes(0x1000006, 2)),
+            Act::Grant(GLOBAL, bytes(0x1000000, 64)),
+            Act::Grant(SHARED, bytes(0x1000007, 1)),
+            Act::Strip(bytes(0x1000007, 2)),
+            Act::Grant(SECOND, bytes(0x1000007, 1)),
+        ],
+    )?;
+    let mut owner = None;
+    for want in [
+        Some(GLOBAL),
+        Some(FIRST),
+        Some(SECOND),
+        Some(STRANGER),
+        None,
+    ] {
+        owner = caps.next_owner(Atom::Byte(0x1000006), owner);
+        assert_eq!(rt; owner, want);
+    }
+    assert_eq!(rt; caps.next_owner(Atom::Byte(0x1000007), None), Some(SECOND));
+    assert_eq!(rt; caps.next_owner(Atom::Byte(0x1000008), None), None);
+    assert_eq!(rt; caps.next_owner(Atom::Call(0x1000006), None), None);
+    assert!(rt; precedes(Principal::Kernel, SHARED));
+    assert!(rt; owns_byte(&caps, FIRST, 0x1000006));
+    assert!(rt; !owns_byte(&caps, FIRST, 0x1000005));
+    assert!(rt; owns_byte(&caps, GLOBAL, 0x1000000));
+    assert!(rt; !owns_byte(&caps, GLOBAL, 0));
     Ok(())
 }
 

@@ -1,6 +1,6 @@
 //! What all threads share.
 ghost use Rattle.std.specs.Prelude.{◌≡◌, ◌<◌, ◌++◌, ◌∷◌, [], true, IfOk, OnErr, OnOk};
-ghost use Rattle.lx_writers.specs.Recorded.{room_of};
+ghost use Rattle.lx_writer_sets.specs.Stands.{room_of};
 
 use crate::heap::no_blocks;
 use crate::monitor::Monitor;

@@ -96,3 +96,11 @@ module _ (s : State) (slot a : ℕ) where
 -- what is known once all principals were looked at
 pub are_told : (s : State) (slot a : ℕ) (qs : List Principal) (seen : SlotWriters) → seen ≡ fold (with_writer s.history slot a) Nobody qs → AreTold s slot a (filter (is_slot_writer s.history slot) qs) seen
 are_told s slot a qs seen is = subst (AreTold s slot a (filter (is_slot_writer s.history slot) qs)) (sym is) (told s slot a qs)
+
+none_left : (p : Principal → Bool) (qs : List Principal) → ((q : Principal) → p q ≡ false) → filter p qs ≡ []
+none_left p [] none = refl
+none_left p (q ∷ qs) none = ap (λ b. if b then q ∷ filter p qs else filter p qs) (none q) ∙ none_left p qs none
+
+-- a slot that nobody wrote in has no writer in any list
+pub told_clean : (h : History) (slot : ℕ) (qs : List Principal) → ((q : Principal) → is_slot_writer h slot q ≡ false) → filter (is_slot_writer h slot) qs ≡ []
+told_clean h slot qs none = none_left (is_slot_writer h slot) qs none

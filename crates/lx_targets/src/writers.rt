@@ -144,6 +144,9 @@ pub fn slot_writers<C: CapStore + Drop>(
     ensures { IfOk result (λ seen. (s : State) → StandsRecorded C.stands caps.now s.history
         → AreTold s slot at (filter (is_slot_writer s.history slot) (flat_map (module_principals names.now.names) (below names.now.modules))) seen) }
 {
+    if caps.is_clean(slot) {
+        return Ok(SlotWriters::Nobody);
+    }
     let seen = with_modules(caps, names, slot, at)?;
     Ok(seen)
 }

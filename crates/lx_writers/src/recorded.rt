@@ -1,54 +1,63 @@
-//! A store of capabilities with the list of all acts beside it.
-ghost use Rattle.std.specs.Prelude.{◌≡◌, ◌+◌, ◌^◌, ◌<◌, ◌≤◌, ◌∷◌, [], true};
+//! A store of capabilities with its writer sets.
+ghost use Rattle.std.specs.Prelude.{◌≡◌, ◌↔◌, ◌+◌, ◌^◌, ◌<◌, ◌≤◌, ◌∷◌, [], false, true, IsTrue};
 ghost use Rattle.lx_caps.specs.declared.Act.TheVariants.{Zero};
+ghost use Rattle.lx_caps.specs.declared.Principal.{Principal};
 ghost use Rattle.lx_caps.specs.History.{History};
 ghost use Rattle.lx_caps.specs.Regions.{mapped};
 ghost use Rattle.lx_caps.specs.Writers.{is_slot_writer};
+ghost use Rattle.lx_writer_sets.specs.Sets.{IsNextWriter};
 
-use crate::acts::{is_slot_writer, push, reserve, room};
-use lx_caps::{Act, Atom, Cap, CapStore, Memory, Principal};
+use crate::noted::note_grant;
+use lx_caps::{Atom, Cap, CapStore, Memory, Principal};
+use lx_writer_sets::{WriterSets, writer_set_laws};
 use std::alloc::Global;
 
-/// A store of capabilities, and all acts that it was told of, the zeroing of bytes among them.
+/// A store of capabilities, and the writers of each byte by what the store was told.
 #[derive(Drop)]
 pub struct Recorded<C: CapStore + Drop> {
     caps: C,
-    acts: Vec<Act>,
+    sets: WriterSets,
 }
 
 impl<C: CapStore + Drop> CapStore for Recorded<C> {
-    ghost use Rattle.lx_writers.specs.Recorded.{IsRecorded, lesser, room_of};
+    ghost use Rattle.lx_writer_sets.specs.Stands as written;
+    ghost use Rattle.lx_writers.specs.Recorded.{IsRecorded, lesser};
 
-    ghost stands = { λ r h. IsRecorded C.stands r.caps r.acts.items h };
+    ghost stands = { λ r h. IsRecorded C.stands r.caps r.sets h };
 
-    ghost spare = { λ r. lesser (C.spare r.caps) (room_of r.acts) };
+    ghost spare = { λ r. lesser (C.spare r.caps) (written.spare_of r.sets) };
 
     ghost lies_in_memory = { λ r h is. is.placed };
 
     fn spare(&self) -> u64 {
         let caps = self.caps.spare();
-        let acts = room(&self.acts);
-        if caps <= acts { caps } else { acts }
+        let sets = self.sets.spare();
+        if caps <= sets { caps } else { sets }
     }
 
     fn reserve(&mut self, n: u64) -> Result<(), Memory> {
         self.caps.reserve(n)?;
-        reserve(&mut self.acts, n)?;
+        self.sets.reserve(n)?;
         Ok(())
     }
 
     fn grant(&mut self, to: Principal, cap: Cap) {
         self.caps.grant(to, cap);
-        push(&mut self.acts, Act::Grant(to, cap));
+        note_grant(&mut self.sets, to, cap);
     }
 
     fn strip(&mut self, cap: Cap) {
+        // Who wrote the bytes wrote them all the same, so the sets stay.
+        writer_set_laws();
         self.caps.strip(cap);
-        push(&mut self.acts, Act::Strip(cap));
     }
 
     fn holds(&self, who: Principal, cap: Cap) -> bool {
         self.caps.holds(who, cap)
+    }
+
+    fn next_owner(&self, atom: Atom, after: Option<Principal>) -> Option<Principal> {
+        self.caps.next_owner(atom, after)
     }
 
     fn next_owned(&self, who: Principal, after: Option<Atom>) -> Option<Atom> {
@@ -57,7 +66,8 @@ impl<C: CapStore + Drop> CapStore for Recorded<C> {
 }
 
 impl<C: CapStore + Drop> Recorded<C> {
-    ghost use Rattle.lx_writers.specs.Recorded.{IsRecorded, lesser, room_of};
+    ghost use Rattle.lx_writer_sets.specs.Stands as written;
+    ghost use Rattle.lx_writers.specs.Recorded.{IsRecorded, lesser};
 
     /// A store that stands for the empty history, over a store that does.
     pub fn new(alloc: Global, caps: C) -> Self
@@ -66,27 +76,42 @@ impl<C: CapStore + Drop> Recorded<C> {
     {
         Recorded {
             caps,
-            acts: Vec::new(alloc),
+            sets: WriterSets::new(alloc),
         }
     }
 
     /// Records that bytes were zeroed. Nobody loses or gains any, but only their owners are writers of them from now on.
-    /// It takes at most one of the room.
+    /// It takes no memory.
     pub fn zero(&mut self, at: u64, size: u64)
-        requires room { 0 < ⟦<Recorded<C> as CapStore>⟧.spare self.old }
         requires placed { mapped at size ≡ true }
         ensures appends { (h : History) → ⟦<Recorded<C> as CapStore>⟧.stands self.old h → ⟦<Recorded<C> as CapStore>⟧.stands self.new (Zero at size ∷ h) }
-        ensures takes { ⟦<Recorded<C> as CapStore>⟧.spare self.old ≤ ⟦<Recorded<C> as CapStore>⟧.spare self.new + 1 }
+        ensures keeps { ⟦<Recorded<C> as CapStore>⟧.spare self.new ≡ ⟦<Recorded<C> as CapStore>⟧.spare self.old }
     {
-        push(&mut self.acts, Act::Zero { at, size });
+        self.sets.zero(at, size, &self.caps);
     }
 
-    /// Says whether the principal owned one of the eight bytes of a slot at some moment since that byte was last zeroed,
-    /// that moment included.
+    /// Gives the next writer of a slot, in the order of principals, behind `after`: the next principal that owned one of the
+    /// slot's eight bytes at some moment since that byte was last zeroed, that moment included.
+    pub fn next_writer(&self, slot: u64, after: Option<Principal>) -> Option<Principal>
+        requires { slot + 8 ≤ 2 ^ 64 }
+        ensures { (h : History) → ⟦<Recorded<C> as CapStore>⟧.stands self.now h → IsNextWriter h slot after result }
+    {
+        self.sets.next_writer(slot, after)
+    }
+
+    /// Says whether the principal is a writer of the slot.
     pub fn is_slot_writer(&self, slot: u64, who: Principal) -> bool
         requires { slot + 8 ≤ 2 ^ 64 }
         ensures { (h : History) → ⟦<Recorded<C> as CapStore>⟧.stands self.now h → result ≡ is_slot_writer h slot who }
     {
-        is_slot_writer(self.acts.as_slice(), slot, who)
+        self.sets.is_writer(slot, who)
+    }
+
+    /// Says whether none of the eight bytes of a slot has a writer.
+    pub fn is_clean(&self, slot: u64) -> bool
+        requires { slot + 8 ≤ 2 ^ 64 }
+        ensures { (h : History) → ⟦<Recorded<C> as CapStore>⟧.stands self.now h → IsTrue result ↔ ((q : Principal) → is_slot_writer h slot q ≡ false) }
+    {
+        self.sets.is_clean(slot)
     }
 }

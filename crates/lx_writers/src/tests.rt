@@ -1,6 +1,6 @@
 //! Writers of a slot, as owners come and go and bytes are zeroed.
 use crate::Recorded;
-use lx_caps::{Cap, CapStore, PlainCaps, Principal, mapped};
+use lx_caps::{Atom, Cap, CapStore, PlainCaps, Principal, mapped};
 use std::process::Abort;
 use std::test::Fail;
 
@@ -21,6 +21,9 @@ fn hand_on(rt: &impl Abort, caps: &mut Recorded<PlainCaps>) -> Result<(), Fail> 
     assert!(rt; caps.is_slot_writer(0x1000007, SHARED));
     assert!(rt; !caps.is_slot_writer(0x1000008, SHARED));
     assert!(rt; !caps.is_slot_writer(0x1000000, FIRST));
+    assert_eq!(rt; caps.next_writer(0x1000000, None), Some(SHARED));
+    assert_eq!(rt; caps.next_owner(Atom::Byte(0x1000000), None), None);
+    assert!(rt; caps.is_clean(0x1000008));
     Ok(())
 }
 

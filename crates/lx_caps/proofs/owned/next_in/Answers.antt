@@ -15,7 +15,7 @@ loop-act-preserved c =
     let i = c.loop-act.act-index in
     let acts = c.args.acts.now in
     let below : i < length acts = omega arith in
-    rw (c.lesser-first.ensures, c.kept.ensures, c.start.ensures)
+    rw (c.sooner-first.ensures, c.start.ensures)
     (one_more (λ x. is_behind c.args.after x && owns (reverse acts) c.args.who x) c.args.after (reverse (take i acts)) (reverse (take (i + 1) acts))
     (get_or acts i (Grant Kernel (Write 0 0))) (reverse-take_more acts i (Grant Kernel (Write 0 0)) below) c.loop-act.first c.loop-act.invariant)
 

@@ -1,6 +1,6 @@
 -- Zeros change nothing that is held.
 use Rattle.std.proofs.Common.{◌∙◌}
-use Rattle.lx_writers.specs.Recorded.{without_zeros}
+use Rattle.lx_caps.specs.History.{without_zeros}
 use Rattle.lx_writers.proofs.Recording.{held_same}
 use Rattle.lx_writers.proofs.recorded.RecordedCapStore.holds.Goals as goal
 

@@ -1,5 +1,5 @@
 -- Zeros change nothing that is owned.
-use Rattle.lx_writers.specs.Recorded.{without_zeros}
+use Rattle.lx_caps.specs.History.{without_zeros}
 use Rattle.lx_writers.proofs.Recording.{next_same}
 use Rattle.lx_writers.proofs.recorded.RecordedCapStore.next_owned.Goals as goal
 

@@ -1,0 +1,6 @@
+pub mod Masks
+pub mod Slots
+pub mod Bytes
+pub mod Lists
+pub mod Ranges
+pub mod Recording

@@ -1,0 +1,4 @@
+pub mod Bits
+pub mod Sets
+pub mod Stands
+pub mod Laws
