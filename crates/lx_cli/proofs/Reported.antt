@@ -14,6 +14,8 @@ use Rattle.lx_cli.specs.Told.{TellsRun}
 use Rattle.lx_cli.specs.declared.answer.Answer.{Answer}
 use Rattle.lx_cli.specs.declared.answer.Answer.TheVariants as answer
 use Rattle.lx_cli.proofs.Journal.{schedule_ran}
+use Rattle.lx_plain_runs.specs.Authorised.{AreAuthorised}
+use Rattle.lx_plain_runs.specs.PlainRuns.{IsPlainRun}
 
 -- what stands behind the first line
 abbrev behind_line : Program → Account → List ℕ
@@ -46,9 +48,9 @@ account_is laws p w q a schedule text returned q_is a_is s_is lawful text_is ret
     }
 
 pub report_is : (p : Program) (script : List (List ScriptCall)) (s : List ℕ) (asked : Option (List ℕ)) (returned : Bool) (text : List ℕ)
-    → is_whole p s (opening p script) ≡ true → IsAsked asked s → IsAccountOf p (run p s (opening p script)) returned text
-    → (r : IsReport p script returned text) × IsAsked asked r.schedule
-report_is p script s asked returned text whole is_asked tells =
+    → is_whole p s (opening p script) ≡ true → IsAsked asked s → AreAuthorised p s (opening p script) → IsPlainRun p script s
+    → IsAccountOf p (run p s (opening p script)) returned text → (r : IsReport p script returned text) × IsAsked asked r.schedule
+report_is p script s asked returned text whole is_asked authorised plain tells =
     let same : schedule_of (run p s (opening p script)) ≡ s = schedule_ran p s (opening p script) refl whole in (
       record {
         schedule = s;
@@ -57,17 +59,19 @@ report_is p script s asked returned text whole is_asked tells =
         line = (tells.line.0, tells.line.1 ∙ ap (λ (l : List ℕ). schedule_line l ++ tells.line.0) same);
         only = λ other rest is_other is. tells.only other rest is_other is ∙ same;
         status = tells.status;
+        authorised = authorised;
+        plain = plain;
       },
       is_asked,
     )
 
 -- the answer tells of the run of a schedule
 pub told_of : (p : Program) (script : List (List ScriptCall)) (s : List ℕ) (asked : Option (List ℕ)) (a : Answer)
-    → is_whole p s (opening p script) ≡ true → IsAsked asked s
+    → is_whole p s (opening p script) ≡ true → IsAsked asked s → AreAuthorised p s (opening p script) → IsPlainRun p script s
     → (text : List ℕ) × (returned : Bool) × (a ≡ answer.Report text returned) × IsAccountOf p (run p s (opening p script)) returned text
     → TellsRun p script asked a
-told_of p script s asked a whole is_asked (text, returned, is, tells) =
-    subst (TellsRun p script asked) (sym is) (report_is p script s asked returned text whole is_asked tells)
+told_of p script s asked a whole is_asked authorised plain (text, returned, is, tells) =
+    subst (TellsRun p script asked) (sym is) (report_is p script s asked returned text whole is_asked authorised plain tells)
 
 pub if_ok : {A E : Type 0} {P Q : A → Type 0} (r : Result A E) → ((a : A) → P a → Q a) → IfOk r P → IfOk r Q
 if_ok (Ok a) f is = f a is

@@ -12,6 +12,8 @@ use Rattle.lx_model.specs.Account.{account, schedule_of}
 use Rattle.lx_report.specs.Report.{report_text, schedule_line}
 use Rattle.lx_report.specs.Laws.{IsSchedule}
 use Rattle.lx_input.specs.declared.input.Input.{Input}
+use Rattle.lx_plain_runs.specs.Authorised.{AreAuthorised}
+use Rattle.lx_plain_runs.specs.PlainRuns.{IsPlainRun}
 
 abbrev pub is_returned : Outcome → Bool
 is_returned (Returned v) = true
@@ -37,6 +39,12 @@ pub record IsReport (p : Program) (script : List (List ScriptCall)) (returned : 
   pub line : (rest : List ℕ) × (text ≡ schedule_line schedule ++ rest)
   pub only : (other : List ℕ) (rest : List ℕ) → IsSchedule other → text ≡ schedule_line other ++ rest → other ≡ schedule
   pub status : all_returned (account p (run p schedule (opening p script))).outcomes ≡ returned
+  -- what each act needed was held by the principal on top of its thread's stack, by the grants and strips before it; what
+  -- was not held was refused, naming the principal and the capability; a call that was stopped changed nothing else
+  pub authorised : AreAuthorised p schedule (opening p script)
+  -- each event that was not refused is the step of the programs as they are written, without the monitor; where no call
+  -- came to a refusal the whole run is theirs
+  pub plain : IsPlainRun p script schedule
 
 -- the schedule is the one that is replayed, where one is
 abbrev pub IsAsked : Option (List ℕ) → List ℕ → Type 0

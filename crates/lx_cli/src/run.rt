@@ -17,6 +17,7 @@ use lx_input::Input;
 use lx_model::account::{CallOutcome, ImageCount};
 use lx_model::request::Outcome;
 use lx_opening::open_world;
+use lx_plain_runs::run_laws;
 use lx_report::{report, report_laws};
 use lx_tables::image_counts;
 use lx_words::{Items, Memory, Name};
@@ -115,10 +116,11 @@ fn run_world<C: CapStore + Drop>(
     images: Items<ImageCount>,
 ) -> Result<Answer, Memory>
     requires { (p : Program) × (script : List (List ScriptCall)) × StandsForWorld C.stands p world (opening p script)
-        × IsWellFormed p × (images ≡ images_of p) × (length script ≡ threads) }
+        × IsWellFormed p × (images ≡ images_of p) × (length script ≡ threads) × (length script ≤ 16) }
     ensures { IfOk result (λ a. (p : Program) (script : List (List ScriptCall)) → StandsForWorld C.stands p world (opening p script)
         → length script ≡ threads → TellsRun p script None a) }
 {
+    run_laws();
     run_threads(&mut world, threads)?;
     report_of(alloc, &world, images)
 }
@@ -133,8 +135,9 @@ fn replay_world<C: CapStore + Drop>(
     requires { (p : Program) × (script : List (List ScriptCall)) × StandsForWorld C.stands p world (opening p script)
         × IsWellFormed p × (images ≡ images_of p) }
     ensures { IfOk result (λ a. (p : Program) (script : List (List ScriptCall)) → StandsForWorld C.stands p world (opening p script)
-        → TellsRun p script (Some schedule.now) a) }
+        → length script ≤ 16 → TellsRun p script (Some schedule.now) a) }
 {
+    run_laws();
     match replay(&mut world, schedule)? {
         Some(entry) => Ok(Answer::Broken(entry)),
         None => report_of(alloc, &world, images),

@@ -1,5 +1,5 @@
 -- What the monitor's answers mean.
-use Rattle.std.proofs.Common.{◌≡◌, ◌≢◌, ℕ, zero, suc, Bool, true, false, Option, Some, None, Ok, Err, List, [], ◌∷◌, refl, ap, slice_get, slice_set, ◌&&◌}
+use Rattle.std.proofs.Common.{◌≡◌, ◌≢◌, ℕ, zero, suc, Bool, true, false, Option, Some, None, Ok, Err, List, [], ◌∷◌, refl, ap, subst, slice_get, slice_set, ◌&&◌}
 use Rattle.std.specs.List.{list_all}
 use Rattle.lx_words.specs.Width.{byte_count}
 use Rattle.lx_words.specs.Word.{Word}
@@ -24,10 +24,10 @@ use Rattle.lx_annot.specs.Value.{Found}
 use Rattle.lx_model.specs.Next.{request}
 use Rattle.lx_model.specs.Thread.{Thread, has_work}
 use Rattle.lx_model.specs.State.{State}
-use Rattle.lx_model.specs.Act.{or_else, unless}
-use Rattle.lx_model.specs.Enter.{Running, slot_writers, writer_refusal, by_writers, written_target, entered_function, runs_as}
+use Rattle.lx_model.specs.Act.{or_else, unless, unmapped}
+use Rattle.lx_model.specs.Enter.{Running, slot_writers, writer_refusal, by_writers, written_target, decide_slot, entered_function, not_annotated, runs_as, same_annotation}
 use Rattle.lx_model.specs.Decide.{decide, arg}
-use Rattle.lx_model.specs.Program.{NativeCall, Alloc, Free, ZeroBytes, TryLock, NoteValue, AliasPrincipal, native_call}
+use Rattle.lx_model.specs.Program.{function_at, is_annotated, NativeCall, Alloc, Free, ZeroBytes, TryLock, NoteValue, AliasPrincipal, native_call}
 use Rattle.lx_model.specs.Serve.{Served, serve, serve_by, grant_what, entering, entering_as, after_native, after_try_lock, after_stop}
 use Rattle.lx_model.specs.World.{World, event, event_if, event_of}
 use Rattle.lx_model.specs.Authority.{is_module, SameBut}
@@ -78,6 +78,18 @@ store_refused p s t (Shared m) at w im h = refused _ _ p s t _ h
 store_refused p s t (Global m) at w im h = refused _ _ p s t _ h
 store_refused p s t (Inst m k) at w im h = refused _ _ p s t _ h
 
+pub fill_refused : (p : Program) (s : State) (t : ℕ) (who : Principal) (at byte len : ℕ) → is_module who ≡ true → holds s.history who (Write at len) ≡ false → (serve p s t (request who (what.Fill at byte len))).reply ≡ Ended (Refused (refusal.Write who at len))
+fill_refused p s t Kernel at byte len im h = cc
+fill_refused p s t (Shared m) at byte len im h = refused _ _ p s t _ h
+fill_refused p s t (Global m) at byte len im h = refused _ _ p s t _ h
+fill_refused p s t (Inst m k) at byte len im h = refused _ _ p s t _ h
+
+pub copy_refused : (p : Program) (s : State) (t : ℕ) (who : Principal) (to from len : ℕ) → is_module who ≡ true → holds s.history who (Write to (suc len)) ≡ false → (serve p s t (request who (what.Copy to from (suc len)))).reply ≡ Ended (Refused (refusal.Write who to (suc len)))
+copy_refused p s t Kernel to from len im h = cc
+copy_refused p s t (Shared m) to from len im h = refused_first _ _ _ p s t _ h
+copy_refused p s t (Global m) to from len im h = refused_first _ _ _ p s t _ h
+copy_refused p s t (Inst m k) to from len im h = refused_first _ _ _ p s t _ h
+
 pub entered : (p : Program) (s : State) (t : ℕ) (who : Principal) (a : ℕ) (args : List Word) (n : ℕ) (q : Principal) (c : Bool) → (serve p s t (request who (what.Enter (Indirect a) args))).reply ≡ Entered n q c → holds s.history who (Call a) ≡ true
 entered p s t who a args n q c h = met_entry _ _ _ p s t _ n q c h
 
@@ -114,6 +126,58 @@ slot_entry true o p s t who slot ty a args target (w ∷ ws) more r n q c h =
 pub by_slot : (p : Program) (s : State) (t : ℕ) (who : Principal) (slot ty : ℕ) (args : List Word) (n : ℕ) (q : Principal) (c : Bool) → (serve p s t (request who (what.Enter (Slot slot ty) args))).reply ≡ Entered n q c → list_all (λ w. holds s.history w (Call (number_at s.memory slot 8))) (slot_writers p s slot) ≡ true
 by_slot p s t who slot ty args n q c h =
     slot_entry (mapped slot 8) _ p s t who slot ty (number_at s.memory slot 8) args _ (slot_writers p s slot) _ _ n q c h
+
+-- what is entered was decided for
+
+undecided : (d : Option Outcome) (p : Program) (s : State) (t : ℕ) (r : Request) (n : ℕ) (q : Principal) (c : Bool) → (serve_by d p s t r).reply ≡ Entered n q c → d ≡ None
+undecided None p s t r n q c h = refl
+undecided (Some o) p s t r n q c h = cc
+
+first_none : (first more : Option Outcome) → or_else first more ≡ None → first ≡ None
+first_none None more e = refl
+first_none (Some o) more e = cc
+
+rest_none : (first more : Option Outcome) → or_else first more ≡ None → more ≡ None
+rest_none None more e = e
+rest_none (Some o) more e = cc
+
+passed : (b : Bool) (o : Outcome) → unless b o ≡ None → b ≡ true
+passed true o e = refl
+passed false o e = cc
+
+written_none : (p : Program) (s : State) (who : Principal) (slot ty a : ℕ) (target : Option ℕ) (ws : List Principal) → ws ≢ [] → by_writers p s who slot ty a target ws ≡ None → written_target p who a ty target ≡ None
+written_none p s who slot ty a target [] some e = absurd (some refl)
+written_none p s who slot ty a target (w ∷ ws) some e = rest_none (writer_refusal s slot a (w ∷ ws)) (written_target p who a ty target) e
+
+target_annotated : (p : Program) (who : Principal) (a ty n : ℕ) (target : Option ℕ) → target ≡ Some n → written_target p who a ty target ≡ None → (is_annotated p n ≡ true) × (same_annotation p ty n ≡ true)
+target_annotated p who a ty n None is e = cc
+target_annotated p who a ty n (Some m) is e =
+    let same : m ≡ n = cc in
+    subst (λ (k : ℕ). (is_annotated p k ≡ true) × (same_annotation p ty k ≡ true)) same
+    (passed (is_annotated p m) _ (first_none (unless (is_annotated p m) (not_annotated who a)) _ e), passed (same_annotation p ty m) _ (rest_none (unless (is_annotated p m) (not_annotated who a)) _ e))
+
+entered_running : (p : Program) (s : State) (who : Principal) (way : Way) (m : ℕ) (r : Found Running) (n : ℕ) (q : Principal) (c : Bool) → (entering_as p s who way m r).reply ≡ Entered n q c → Some m ≡ Some n
+entered_running p s who way m (Err at) n q c h = cc
+entered_running p s who way m (Ok r) n q c h = cc
+
+entered_target : (p : Program) (s : State) (who : Principal) (way : Way) (args : List Word) (target : Option ℕ) (n : ℕ) (q : Principal) (c : Bool) → (entering p s who way args target).reply ≡ Entered n q c → target ≡ Some n
+entered_target p s who way args None n q c h = cc
+entered_target p s who way args (Some m) n q c h = entered_running p s who way m (runs_as p s who way m args) n q c h
+
+granted_target : (d : Option Outcome) (p : Program) (s : State) (t : ℕ) (who : Principal) (slot ty : ℕ) (args : List Word) (n : ℕ) (q : Principal) (c : Bool) →
+    (serve_by d p s t (request who (what.Enter (Slot slot ty) args))).reply ≡ Entered n q c → function_at p (number_at s.memory slot 8) ≡ Some n
+granted_target None p s t who slot ty args n q c h = entered_target p s who (Slot slot ty) args (function_at p (number_at s.memory slot 8)) n q c h
+granted_target (Some o) p s t who slot ty args n q c h = cc
+
+pub slot_annotated : (p : Program) (s : State) (t : ℕ) (who : Principal) (slot ty : ℕ) (args : List Word) (n : ℕ) (q : Principal) (c : Bool) → slot_writers p s slot ≢ [] → (serve p s t (request who (what.Enter (Slot slot ty) args))).reply ≡ Entered n q c → (is_annotated p n ≡ true) × (same_annotation p ty n ≡ true)
+slot_annotated p s t who slot ty args n q c some h =
+    let r = request who (what.Enter (Slot slot ty) args) in
+    let a = number_at s.memory slot 8 in
+    let target = function_at p a in
+    let none = undecided (decide p s t r) p s t r n q c h in
+    let row = rest_none (unless (mapped slot 8) (unmapped slot)) (decide_slot p s who slot ty a args) none in
+    let writers = first_none (by_writers p s who slot ty a target (slot_writers p s slot)) _ row in
+    target_annotated p who a ty n target (granted_target (decide p s t r) p s t who slot ty args n q c h) (written_none p s who slot ty a target (slot_writers p s slot) some writers)
 
 -- what is granted ends no call, but for a finish
 EndsAlike : State → ℕ → Served → Type 0

@@ -36,9 +36,8 @@ use Rattle.lx_model.specs.Act.{or_else, unless, unmapped, not_held, outside, on_
 use Rattle.lx_model.specs.Enter.{text_of_principal, entered_function, crosses, Running, instance_of, runs_by, runs_in, runs_as, found_nothing, nobody, instance_named, not_annotated, fits_params, has_signature, decide_target, writer_refusal, same_annotation, written_target, by_writers, slot_writers, slot_signature, decide_enter}
 use Rattle.lx_model.specs.Decide.{decide, decide_write, decide_what, decide_native, decide_alias, result_or_none, outcome_of, arg, unless_mapped}
 use Rattle.lx_model.specs.Serve.{Served, serving, serve, serve_by, grant_what, entering, entering_as, after_native, after_try_lock, after_alloc}
-use Rattle.lx_model.specs.Fits.{FitsWay, FitsWhat}
 use Rattle.lx_model.specs.Plain.{text_principal, forget_principal, forget_state, trap_of, unless_zero, action_trap, action_trap_or_none, plain_slot, plain_indirect, plain_enter, plain_native, text_of, plain_entering, plain_grant, plain_serve_by, plain_decide, plain_serve, forget_served}
-use Rattle.lx_model.specs.PlainLaws.{is_refused, is_refusal, HoldsInMemory}
+use Rattle.lx_model.specs.PlainLaws.{is_refused, is_refusal, HoldsInMemory, NamesKernel, NamesKernelBy}
 use Rattle.lx_model.proofs.Forgetting.{forget_what, forget_request}
 use Rattle.lx_model.proofs.ForgettingReplies.{forget_reply}
 
@@ -384,11 +383,7 @@ direct_in p s n args None e = no_true (sym e)
 direct_in p s n args (Some None) e = refl
 direct_in p s n args (Some (Some m)) e = no_true (sym e)
 
-abbrev FitsDirect : Program → Way → Type 0
-FitsDirect p (Direct n) = is_in p None n ≡ true
-FitsDirect p _ = Unit {0}
-
-enter_grants : (p : Program) (s : State) (who : Principal) (way : Way) (args : List Word) → FitsDirect p way → decide_enter p s who way args ≡ None →
+enter_grants : (p : Program) (s : State) (who : Principal) (way : Way) (args : List Word) → NamesKernelBy p way → decide_enter p s who way args ≡ None →
     forget_served (plain_entering p (forget_state s) (forget_principal who) way (entered_function p s way)) ≡ plainly (entering p s who way args (entered_function p s way))
 enter_grants p s who (Script n) args f e = enters p s who (Script n) args n e
 enter_grants p s who (Direct n) args f e = enters p s who (Direct n) args n (direct_in p s n args (home_of p n) f)
@@ -412,11 +407,7 @@ native_grants s t who TryLock args = lock_grants s (arg args 0) (number_at s.mem
 native_grants s t who NoteValue args = refl
 native_grants s t who AliasPrincipal args = refl
 
-abbrev FitsEnter : Program → What → Type 0
-FitsEnter p (what.Enter way args) = FitsDirect p way
-FitsEnter p _ = Unit {0}
-
-grants : (p : Program) (s : State) (t : ℕ) (who : Principal) (w : What) → FitsEnter p w → decide_what p s t who w ≡ None →
+grants : (p : Program) (s : State) (t : ℕ) (who : Principal) (w : What) → NamesKernel p w → decide_what p s t who w ≡ None →
     forget_served (plain_grant p (forget_state s) t (forget_principal who) (forget_what w)) ≡ plainly (grant_what p s t who w)
 grants p s t q (what.Load at width) f e = refl
 grants p s t q (what.Store at w) f e = refl
@@ -435,27 +426,9 @@ kept_reply : (p : Program) (s : State) (t : ℕ) (r : Request) (d : Option Outco
 kept_reply p s t r None e = tt
 kept_reply p s t r (Some o) e = e
 
-direct_fits : (p : Program) (way : Way) (args : List Word) → FitsWay p way args → FitsDirect p way
-direct_fits p (Script n) args f = tt
-direct_fits p (Direct n) args f = f.0
-direct_fits p (Indirect a) args f = tt
-direct_fits p (Slot slot ty) args f = tt
-
-enter_fits : (p : Program) (t : ℕ) (who : Principal) (w : What) → FitsWhat p t who w → FitsEnter p w
-enter_fits p t q (what.Load at width) f = tt
-enter_fits p t q (what.Store at w) f = tt
-enter_fits p t q (what.Copy to from len) f = tt
-enter_fits p t q (what.Fill to byte len) f = tt
-enter_fits p t q (what.Alloca at size) f = tt
-enter_fits p t q (what.Enter way args) f = direct_fits p way args f
-enter_fits p t q (what.Perform n post k env source dest) f = tt
-enter_fits p t q (what.Return low high) f = tt
-enter_fits p t q (what.Native k args) f = tt
-enter_fits p t q (what.Finish o) f = tt
-
 -- a request that is not refused is served as the plain programs do
-pub serve_alike : (p : Program) (s : State) (t : ℕ) (r : Request) → HoldsInMemory s.history → FitsWhat p t r.who r.what → is_refusal (serve p s t r).reply ≡ false →
+pub serve_alike : (p : Program) (s : State) (t : ℕ) (r : Request) → HoldsInMemory s.history → NamesKernel p r.what → is_refusal (serve p s t r).reply ≡ false →
     plain_serve p (forget_state s) t (forget_request r) ≡ plainly (serve p s t r)
 serve_alike p s t r h f e =
     ap (λ d. forget_served (plain_serve_by d p (forget_state s) t (forget_request r))) (decision p s t r.who r.what h (kept_reply p s t r (decide p s t r) e))
-    ∙ served_of p s t r (decide p s t r) (grants p s t r.who r.what (enter_fits p t r.who r.what f))
+    ∙ served_of p s t r (decide p s t r) (grants p s t r.who r.what f)

@@ -1,5 +1,5 @@
 -- Every event that is not refused is the uninstrumented program's step.
-use Rattle.std.specs.Prelude.{◌≡◌, ℕ, Bool, true, false, Some, slice_get}
+use Rattle.std.specs.Prelude.{◌≡◌, ℕ, Bool, true, false, Some, None, slice_get, ⊤}
 use Rattle.lx_caps.specs.declared.Principal.{Principal}
 use Rattle.lx_caps.specs.declared.Cap.TheVariants.{Write}
 use Rattle.lx_caps.specs.Regions.{mapped}
@@ -9,9 +9,13 @@ use Rattle.lx_model.specs.declared.request.Outcome.{Outcome}
 use Rattle.lx_model.specs.declared.request.Outcome.TheVariants.{Returned, Refused, Trapped, Budget}
 use Rattle.lx_model.specs.declared.request.Reply.{Reply}
 use Rattle.lx_model.specs.declared.request.Reply.TheVariants.{Value, Done, Entered, Ended}
+use Rattle.lx_model.specs.declared.request.Way.{Way}
+use Rattle.lx_model.specs.declared.request.Way.TheVariants.{Direct}
+use Rattle.lx_model.specs.declared.request.What.{What}
+use Rattle.lx_model.specs.declared.request.What.TheVariants.{Enter}
+use Rattle.lx_model.specs.Program.{is_in}
 use Rattle.lx_model.specs.Thread.{Thread}
 use Rattle.lx_model.specs.Next.{next}
-use Rattle.lx_model.specs.Fits.{Fits}
 use Rattle.lx_model.specs.Authority.{is_module}
 use Rattle.lx_model.specs.Serve.{serve}
 use Rattle.lx_model.specs.World.{World, event}
@@ -34,7 +38,16 @@ is_refusal (Entered n q c) = false
 abbrev pub HoldsInMemory : History → Type 0
 HoldsInMemory h = (who : Principal) (at size : ℕ) → is_module who ≡ true → holds h who (Write at size) ≡ true → mapped at size ≡ true
 
+-- a function that is called by its name is one of the kernel
+abbrev pub NamesKernelBy : Program → Way → Type 0
+NamesKernelBy p (Direct n) = is_in p None n ≡ true
+NamesKernelBy p _ = ⊤
+
+abbrev pub NamesKernel : Program → What → Type 0
+NamesKernel p (Enter way args) = NamesKernelBy p way
+NamesKernel p _ = ⊤
+
 pub record PlainLaws : Type 0 where
-  -- an event that makes a lawful request and whose reply is no refusal changes memory, heap, notes and threads as the
-  -- plain programs' step does
-  pub plain : (p : Program) (t : ℕ) (w : World) (thread : Thread) → slice_get w.threads t ≡ Some thread → HoldsInMemory w.state.history → Fits p t (next p t thread).request → is_refusal (serve p w.state t (next p t thread).request).reply ≡ false → plain_event p t (forget_world w) ≡ forget_world (event p t w)
+  -- an event whose reply is no refusal changes memory, heap, notes and threads as the plain programs' step does, where
+  -- what modules hold lies in memory and the functions that are called by their names are the kernel's
+  pub plain : (p : Program) (t : ℕ) (w : World) (thread : Thread) → slice_get w.threads t ≡ Some thread → HoldsInMemory w.state.history → NamesKernel p (next p t thread).request.what → is_refusal (serve p w.state t (next p t thread).request).reply ≡ false → plain_event p t (forget_world w) ≡ forget_world (event p t w)

@@ -3,3 +3,4 @@ pub mod Gathered
 pub mod Numbered
 pub mod Standing
 pub mod Turns
+pub mod Tested

@@ -1,4 +1,4 @@
-use Rattle.std.proofs.Common.{◌≡◌, length, map, arith, None}
+use Rattle.std.proofs.Common.{◌≡◌, ◌≤◌, length, map, arith, None}
 use Rattle.std.proofs.lemmas.List.{length-map}
 use Rattle.lx_model.specs.Thread.{fresh_thread}
 use Rattle.lx_model.specs.World.{opening, run}
@@ -19,4 +19,7 @@ returns g c =
     let start = opening p script in
     let many : length (map fresh_thread script) ≡ c.args.threads = simp length-map threads in
     let ran = c.in_ok-run_threads.ensures p start stands many in
-    told_of p script ran.0 None a ran.1 tt (said.0, said.1, said.2, said.3 p (run p ran.0 start) ran.2)) c.report_of.ensures
+    let few : length script ≤ 16 = omega (arith, threads, c.requires.5, c.requires.6) in
+    told_of p script ran.0 None a ran.1 tt (c.run_laws.ensures.authorised p ran.0 start)
+    (c.run_laws.ensures.plain p script ran.0 few stands.shared.keeps.history.placed)
+    (said.0, said.1, said.2, said.3 p (run p ran.0 start) ran.2)) c.report_of.ensures

@@ -1,0 +1,3 @@
+pub mod PlainRuns
+pub mod Authorised
+pub mod Laws
