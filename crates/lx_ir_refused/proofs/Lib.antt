@@ -1,0 +1,5 @@
+pub mod Local
+pub mod Loops
+pub mod Operands
+pub mod Calls
+pub mod Forms
