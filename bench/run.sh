@@ -1,12 +1,16 @@
 #!/usr/bin/env bash
-# How many IR instructions a second `./lxfi replay` executes, beside `lli -force-interpreter` on the same text where it is
-# installed. No test: the numbers depend on the machine. Build the program first (`./lxfi` does it).
+# How long `./lxfi` takes for three programs at three sizes each, and how long `lli` takes to interpret the same text
+# where it is installed. No test: the numbers depend on the machine. Build the program first (`./lxfi` does it).
+#
+# What a program costs is the growth from the least size to the greatest, so that reading, linking and starting do not
+# count. `lli` interprets only with `-jit-kind=mcjit` beside `-force-interpreter`: without it, it compiles all the same.
 set -u
 top=$(cd "$(dirname "$(readlink -f "${BASH_SOURCE[0]}")")/.." && pwd) || exit 70
 work=$(mktemp -d) || exit 70
 trap 'rm -rf "$work"' EXIT
 cd "$work" || exit 70
-lli=$(command -v lli || command -v lli-14 || true)
+lli=$(command -v lli-14 || command -v lli || true)
+[ -n "$lli" ] || echo "lli is not installed: it is left out" >&2
 
 # A loop of arithmetic: three instructions a round.
 cat >arithmetic.ll <<'LL'
@@ -40,35 +44,71 @@ e:
 }
 LL
 
-# seconds COMMAND..: the least of three runs
+# A C file: bytes put into a ring and taken again, 79 instructions a round, six calls among them.
+cp "$top/examples/c/ring.ll" ring.ll || exit 70
+
+# seconds STATUS COMMAND..: the least of three runs, or nothing where one has another exit status
 seconds() {
-  local best= start end took
+  local wanted=$1 best= start end took status
+  shift
   for _ in 1 2 3; do
     start=$(date +%s.%N)
-    "$@" >/dev/null 2>&1
+    "$@" >said 2>&1
+    status=$?
     end=$(date +%s.%N)
+    if [ "$status" -ne "$wanted" ]; then
+      { echo "$*: status $status, not $wanted:"; head -5 said; } >&2
+      return
+    fi
     took=$(awk -v a="$start" -v b="$end" 'BEGIN { printf "%.4f", b - a }')
     if [ -z "$best" ] || awk -v a="$took" -v b="$best" 'BEGIN { exit !(a < b) }'; then best=$took; fi
   done
   echo "$best"
 }
 
-# measure NAME ROUNDS INSTRUCTIONS EVENTS
+# interpreted NAME TYPE FUNCTION ROUNDS RETURNED: what lli takes for the same call, whose answer it has to give too
+interpreted() {
+  {
+    cat "$1.ll"
+    printf 'define i32 @main() {\n  %%r = call %s @%s(%s %s)\n' "$2" "$3" "$2" "$4"
+    printf '  %%wrong = icmp ne %s %%r, %s\n  %%status = zext i1 %%wrong to i32\n  ret i32 %%status\n}\n' "$2" "$5"
+  } >main.ll
+  seconds 0 "$lli" -opaque-pointers -jit-kind=mcjit -force-interpreter main.ll
+}
+
+# measure NAME TYPE FUNCTION A_ROUND BESIDE ROUNDS..: a call whose fuel is just enough for its instructions
 measure() {
-  printf 'lxfi case 1\nkernel none\ninterface none\nmodule m %s.ll\nthread\ncall m:loop %s fuel 1048576\n' "$1" "$2" >"$1.case"
-  echo "0*$4" >"$1.schedule"
-  local ours theirs=
-  ours=$(seconds "$top/lxfi" replay "$1.case" "$1.schedule")
-  if [ -n "$lli" ]; then
-    sed "s/@loop(i64 %n)/@main(i32 %argc, ptr %argv)/; s/, %n$/, $2/" "$1.ll" >"$1.main.ll"
-    theirs=$(seconds "$lli" -opaque-pointers -force-interpreter "$1.main.ll")
-  fi
-  awk -v n="$1" -v i="$3" -v o="$ours" -v t="$theirs" 'BEGIN {
-    printf "%-11s %9d instructions  lxfi %.4f s  %.0f a second", n, i, o, i / o
-    if (t != "") printf "  lli %.4f s", t
+  local name=$1 type=$2 function=$3 a_round=$4 beside=$5 rounds steps ours theirs returned
+  shift 5
+  for rounds in "$@"; do
+    steps=$((a_round * rounds + beside))
+    printf 'lxfi case 1\nkernel none\ninterface none\nmodule m %s.ll\nthread\ncall m:%s %s fuel %s\n' \
+      "$name" "$function" "$rounds" "$((steps + 1))" >bench.case
+    ours=$(seconds 0 "$top/lxfi" run bench.case)
+    returned=$(sed -n 's/^call 0.0 .* returned //p' said)
+    theirs=
+    if [ -n "$lli" ] && [ -n "$ours" ]; then
+      theirs=$(interpreted "$name" "$type" "$function" "$rounds" "$returned")
+    fi
+    echo "$name $steps ${ours:-failed} ${theirs:-none}"
+  done | awk '{
+    printf "%-11s %8d instructions  lxfi %s s", $1, $2, $3
+    if ($4 != "none") printf "  lli %s s", $4
+    printf "\n"
+    if (NR == 1) { name = $1; least = $2; ours = $3; theirs = $4 }
+    most = $2; our_last = $3; their_last = $4
+  } END {
+    million = (most - least) / 1000000
+    if (million <= 0 || ours == "failed" || our_last == "failed") exit
+    printf "%-11s a million more        lxfi %.4f s", name, (our_last - ours) / million
+    if (theirs != "none" && their_last != "none") {
+      printf "  lli %.4f s", (their_last - theirs) / million
+      if (their_last > theirs) printf "  %.1f times", (our_last - ours) / (their_last - theirs)
+    }
     printf "\n"
   }'
 }
 
-for rounds in 3333 333333; do measure arithmetic "$rounds" $((3 * rounds)) 3; done
-for rounds in 2500 250000; do measure stores "$rounds" $((4 * rounds)) $((rounds + 3)); done
+measure arithmetic i64 loop 3 2 3333 33333 333333
+measure stores i64 loop 4 2 2500 25000 250000
+measure ring i32 ring_sum 79 13 127 1266 12658
