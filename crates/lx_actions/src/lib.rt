@@ -18,8 +18,6 @@ mod fault;
 mod look;
 mod moves;
 mod refusal;
-#[cfg(test)]
-mod tests;
 
 pub use deed::perform;
 pub use fault::ActFault;

@@ -19,6 +19,3 @@ mod text;
 
 pub use fault::InterfaceFault;
 pub use text::{read_interface, tokens_say_all};
-
-#[cfg(test)]
-mod tests;

@@ -22,8 +22,6 @@ mod owned;
 mod plain;
 mod store;
 mod terms;
-#[cfg(test)]
-mod tests;
 
 pub use acts::Acts;
 pub use laws::{

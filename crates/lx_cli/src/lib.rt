@@ -4,8 +4,6 @@
 mod answer;
 mod command;
 mod run;
-#[cfg(test)]
-mod tests;
 mod top;
 
 pub use top::lxfi;

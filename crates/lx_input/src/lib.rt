@@ -12,6 +12,3 @@ mod linked;
 mod stop;
 
 pub use input::{Input, one_input, read_input};
-
-#[cfg(test)]
-mod tests;

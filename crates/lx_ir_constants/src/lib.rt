@@ -29,6 +29,3 @@ pub fn constant_laws()
     ensures values_refused { ValuesAreRefused }
     ensures inits_refused { InitsAreRefused }
 {}
-
-#[cfg(test)]
-mod tests;

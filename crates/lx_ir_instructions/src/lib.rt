@@ -13,6 +13,3 @@ pub fn instruction_laws()
     ensures read { InstrsAreRead }
     ensures found { InstrsAreFound }
 {}
-
-#[cfg(test)]
-mod tests;

@@ -27,6 +27,3 @@ pub fn operand_laws()
     ensures lists_refused { ListsAreRefused }
     ensures attributes_refused { AttributesAreRefused }
 {}
-
-#[cfg(test)]
-mod tests;

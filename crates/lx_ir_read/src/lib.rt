@@ -18,6 +18,3 @@ pub use first::{FirstReading, Found, Progress};
 pub use lx_ir_calls::TextForm;
 pub use lx_ir_faults::{ReadFault, TextFault};
 pub use reading::{module_laws, read_module};
-
-#[cfg(test)]
-mod tests;

@@ -25,6 +25,3 @@ pub fn statement_laws()
 {
     instruction_laws();
 }
-
-#[cfg(test)]
-mod tests;

@@ -27,6 +27,3 @@ pub use token::{Kind, Mark, Tok, Toks};
 pub fn worked_tokens()
     ensures { WorkedTokens }
 {}
-
-#[cfg(test)]
-mod tests;

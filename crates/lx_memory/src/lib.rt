@@ -11,8 +11,6 @@ mod heap;
 mod numbers;
 mod range;
 mod space;
-#[cfg(test)]
-mod tests;
 
 pub use heap::{KHeap, NotLive};
 pub use lx_caps::{Memory, mapped};

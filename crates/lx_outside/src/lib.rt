@@ -20,8 +20,6 @@ mod put;
 mod real;
 mod shelf;
 mod sink;
-#[cfg(test)]
-mod tests;
 
 pub use file_text::{FileText, Files};
 pub use gate::{Gate, GatePlace, OpenGate};

@@ -14,8 +14,6 @@
 
 mod fault;
 mod principals;
-#[cfg(test)]
-mod tests;
 
 pub use fault::AliasFault;
 pub use lx_caps::Memory;

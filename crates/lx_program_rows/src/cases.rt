@@ -164,8 +164,8 @@ owns driver.shared call 0x10120
     },
 ];
 
-/// Modules at the limits of the machine: 256 frames and no more, the last unit of fuel, and where the bytes of the stack
-/// of the second thread lie.
+/// Modules at the limits of the machine: 256 frames and no more, a loop of a million instructions with just enough fuel,
+/// the last unit of fuel, and where the bytes of the stack of the second thread lie.
 pub static LIMITS: [Row; 3] = [
     Row {
         case: "lxfi case 1
@@ -195,13 +195,13 @@ kernel none
 interface none
 module m loop.ll
 thread
-call m:loop 33332 fuel 99999
+call m:loop 333333 fuel 1000002
 call m:loop 2 fuel 9
 call m:loop 2 fuel 8
 ",
         status: 1,
         written: "schedule 0*8
-call 0.0 m:loop returned 33332
+call 0.0 m:loop returned 333333
 call 0.1 m:loop returned 2
 call 0.2 m:loop budget
 image m guards 0 checks 0 wrappers 0

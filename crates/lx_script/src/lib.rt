@@ -36,6 +36,3 @@ pub use case::{
 pub use fault::CaseFault;
 pub use reader::{one_case, read_case};
 pub use schedule::{one_schedule, read_schedule};
-
-#[cfg(test)]
-mod tests;

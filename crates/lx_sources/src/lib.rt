@@ -16,6 +16,3 @@ pub use line::{FaultKind, FaultLine, fault_text};
 pub use sources::{Sources, one_input, read_sources};
 pub use stop::{InputStop, fault_at};
 pub use turns::Modules;
-
-#[cfg(test)]
-mod tests;

@@ -36,6 +36,3 @@ ghost use Rattle.lx_words.specs.Rows.{WorkedWords};
 pub fn worked_words()
     ensures { WorkedWords }
 {}
-
-#[cfg(test)]
-mod tests;

@@ -21,8 +21,6 @@ mod entry;
 mod laws;
 mod piece;
 mod sets;
-#[cfg(test)]
-mod tests;
 
 pub use laws::writer_set_laws;
 pub use sets::WriterSets;

@@ -16,8 +16,6 @@
 
 mod noted;
 mod recorded;
-#[cfg(test)]
-mod tests;
 
 pub use lx_caps::Memory;
 pub use recorded::Recorded;

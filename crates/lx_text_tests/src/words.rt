@@ -1,6 +1,6 @@
 //! The tables of words, number texts and tokens at their edges.
 
-use crate::{
+use lx_words::{
     BinOp, DivFault, LexFault, Name, Pred, Schedule, TokenKind, TokenRule, Tokens, Width, Word,
     binary, compare, put_decimal, put_hex, resize, scan, split,
 };

@@ -1,5 +1,5 @@
 //! Each call once with ample memory. What a call answers is proved.
-use crate::{
+use lx_outside::{
     FileShelf, Gate, GatePlace, MemShelf, MemSink, OpenGate, Shelf, ShelfFault, SinkFault, StdSink,
     put_all,
 };

@@ -1,7 +1,8 @@
 //! Hostile shelves, with what each comes to.
 
-use crate::{InputStop, fault_text, read_sources};
+use crate::common::shelf_of;
 use lx_outside::MemShelf;
+use lx_sources::{InputStop, fault_text, read_sources};
 use lx_words::Name;
 use std::alloc::Global;
 use std::test::Fail;
@@ -89,14 +90,6 @@ static ROWS: [Row; 15] = [
     Row(&[("one.case", NONE), ("two.txt", "schedule 0*2")], true, ""),
     Row(&[("one.case", BUILT_IN)], false, ""),
 ];
-
-fn shelf_of(alloc: Global, files: &[(&str, &str)]) -> Result<MemShelf, Fail> {
-    let mut shelf = MemShelf::new(alloc, Vec::new(alloc));
-    for (name, text) in files {
-        shelf.put_file(alloc, name, text.as_bytes())?;
-    }
-    Ok(shelf)
-}
 
 fn unread(alloc: Global, file: &[u8]) -> Result<Name, InputStop> {
     let mut text = Vec::from_slice(alloc, b"cannot read ")?;

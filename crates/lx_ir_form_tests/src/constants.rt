@@ -1,8 +1,9 @@
 //! Types and initialisers from text, as the printer writes them, and their faults.
 
-use crate::{init, is_misplaced};
+use crate::common::Faulty;
 use lx_ir::module::{GlobalVar, Module};
 use lx_ir::print;
+use lx_ir_constants::{init, is_misplaced};
 use lx_ir_terms::{Context, Fault, FaultKind, ReadError, Reader};
 use lx_ir_tokens::{IrTokens, read_tokens};
 use lx_words::{Items, Memory};
@@ -99,10 +100,6 @@ fn constants_read_as_they_are_printed(rt: HostRuntime) -> Result<(), Fail> {
     }
     Ok(())
 }
-
-/// A text, and its fault: the kind, and how many tokens are left.
-#[derive(Drop)]
-struct Faulty(&'static [u8], FaultKind, usize);
 
 static FAULTY: [Faulty; 12] = [
     Faulty(b"i8 256", FaultKind::OutOfProfile, 1),

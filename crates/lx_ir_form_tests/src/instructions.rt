@@ -1,10 +1,11 @@
 //! Instructions from text, as the printer writes them, and their faults.
 
-use crate::instruction;
+use crate::common::Faulty;
 use lx_ir::instr::{Instr, Op};
 use lx_ir::module::{Block, Function, Module, Symbol};
 use lx_ir::print;
 use lx_ir_calls::TextForm;
+use lx_ir_instructions::instruction;
 use lx_ir_terms::{Context, Fault, FaultKind, ReadError, Reader};
 use lx_ir_tokens::{IrTokens, read_tokens};
 use lx_words::{Items, Memory, Names};
@@ -251,10 +252,6 @@ fn instructions_read_as_they_are_printed(rt: HostRuntime) -> Result<(), Fail> {
     }
     Ok(())
 }
-
-/// A text, and its fault: the kind, and how many tokens are left.
-#[derive(Drop)]
-struct Faulty(&'static [u8], FaultKind, usize);
 
 static FAULTY: [Faulty; 34] = [
     Faulty(b"%r = icmp i32 1, 2", FaultKind::OutOfProfile, 4),

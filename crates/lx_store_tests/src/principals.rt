@@ -1,14 +1,9 @@
 //! Names as they are told: by whom, in which module, and in which order.
-use crate::{AliasFault, Principals};
+use crate::common::{FIRST, GLOBAL, SECOND, goes_between_threads};
 use lx_caps::Principal;
+use lx_principals::{AliasFault, Principals};
 use std::process::Abort;
 use std::test::Fail;
-
-const GLOBAL: Principal = Principal::Global(0);
-
-const FIRST: Principal = Principal::Inst(0, 0);
-
-const SECOND: Principal = Principal::Inst(0, 1);
 
 const THIRD: Principal = Principal::Inst(0, 2);
 
@@ -46,8 +41,6 @@ fn assert_firsts(rt: &impl Abort, principals: &Principals, asked: &[(u32, u32, O
         assert_eq!(rt; first, *want, "{home} {instance}");
     }
 }
-
-fn goes_between_threads<T: Send + Sync>(_: &T) {}
 
 #[test]
 fn a_value_that_names_nobody_makes_an_instance(rt: HostRuntime) -> Result<(), Fail> {

@@ -1,9 +1,9 @@
 //! Statements from text, as the printer writes them, and their faults.
 
-use crate::{Defined, Statement, TextForm, statement};
 use lx_ir::module::{Block, Function, GlobalVar, Module, Parameter};
 use lx_ir::print;
 use lx_ir::types::{NamedType, Scalar};
+use lx_ir_statements::{Defined, Statement, TextForm, statement};
 use lx_ir_terms::{Context, Fault, FaultKind, ReadError, Reader};
 use lx_ir_tokens::{IrTokens, read_tokens};
 use lx_words::{Items, Memory, Name, Names};

@@ -1,8 +1,7 @@
 //! Each call once with ample memory, and the edges of the regions. What a call answers is proved.
-use crate::{KHeap, NotLive, Space, Unmapped, mapped};
+use crate::common::goes_between_threads;
+use lx_memory::{KHeap, NotLive, Space, Unmapped, mapped};
 use std::test::Fail;
-
-fn goes_between_threads<T: Send + Sync>(_: &T) {}
 
 #[test]
 fn numbers_stand_with_the_least_byte_first(rt: HostRuntime) -> Result<(), Fail> {

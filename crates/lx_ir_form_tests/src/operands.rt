@@ -1,12 +1,12 @@
 //! Operands from text: how many tokens are left behind each, and their faults.
 
-use crate::{
+use lx_ir::module::{Constant, Pointer, Value};
+use lx_ir::types::Scalar;
+use lx_ir_operands::{
     address, again, align, attributes, case, edge, flagged_scalar, flagged_type, flagged_typed,
     has_case, has_further, has_label_word, local, metadata, next_label, second, skip_flags,
     truth_type, typed,
 };
-use lx_ir::module::{Constant, Pointer, Value};
-use lx_ir::types::Scalar;
 use lx_ir_terms::{Context, FaultKind, ReadError, Reader};
 use lx_ir_tokens::{IrTokens, read_tokens};
 use lx_words::{Memory, Width};

@@ -1,6 +1,7 @@
 //! Inputs with faults that the checks find, and one without.
 
-use crate::{Input, read_input};
+use crate::common::shelf_of;
+use lx_input::{Input, read_input};
 use lx_outside::MemShelf;
 use lx_sources::{InputStop, fault_text};
 use lx_words::Name;
@@ -66,12 +67,9 @@ static ROWS: [Row; 8] = [
     Row("lxfi case 1\nkernel builtin\ninterface builtin\n", &[], ""),
 ];
 
-fn shelf_of(alloc: Global, case: &str, files: &[(&str, &str)]) -> Result<MemShelf, Fail> {
-    let mut shelf = MemShelf::new(alloc, Vec::new(alloc));
+fn shelf_with(alloc: Global, case: &str, files: &[(&str, &str)]) -> Result<MemShelf, Fail> {
+    let mut shelf = shelf_of(alloc, files)?;
     shelf.put_file(alloc, "one.case", case.as_bytes())?;
-    for (name, text) in files {
-        shelf.put_file(alloc, name, text.as_bytes())?;
-    }
     Ok(shelf)
 }
 
@@ -88,7 +86,7 @@ fn told(alloc: Global, shelf: &mut MemShelf) -> Result<Name, InputStop> {
 }
 
 fn comes_to(alloc: Global, row: &Row) -> Result<bool, Fail> {
-    let mut shelf = shelf_of(alloc, row.0, row.1)?;
+    let mut shelf = shelf_with(alloc, row.0, row.1)?;
     let text = told(alloc, &mut shelf)?;
     Ok(text.is_same(row.2.as_bytes()))
 }
@@ -106,7 +104,7 @@ const WHOLE: &str =
     "lxfi case 1\nkernel builtin\ninterface builtin\nmodule m probe.ll\nthread\ncall m:probe 0 fuel 9\n";
 
 fn whole(alloc: Global) -> Result<Input, Fail> {
-    let mut shelf = shelf_of(alloc, WHOLE, &[("probe.ll", PROBE), ("two.txt", "0*2")])?;
+    let mut shelf = shelf_with(alloc, WHOLE, &[("probe.ll", PROBE), ("two.txt", "0*2")])?;
     let input = read_input(alloc, &mut shelf, "one.case", Some("two.txt"))?;
     Ok(input)
 }

@@ -1,6 +1,6 @@
 //! A text with every kind of token, lines that are passed over, and a byte that begins no token.
 
-use crate::{
+use lx_ir_tokens::{
     ConstantWord, InstructionWord, IrTokens, Keyword, Kind, Mark, ScalarWord, StatementWord, Tok,
     read_tokens,
 };

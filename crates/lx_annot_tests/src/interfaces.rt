@@ -1,9 +1,9 @@
 //! Interfaces, with the first fault or the canonical texts that each has.
 
-use crate::{InterfaceFault, read_interface};
 use lx_annot::action::Annotation;
 use lx_annot::canonical::canonical;
 use lx_annot::interface::Interface;
+use lx_annot_read::{InterfaceFault, read_interface};
 use lx_words::Memory;
 use std::alloc::Global;
 use std::test::Fail;

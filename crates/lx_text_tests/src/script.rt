@@ -1,6 +1,6 @@
 //! Hostile cases and schedules, with the value or the first fault that each has.
 
-use crate::{Case, CaseArg, CaseFault, Origin, read_case, read_schedule};
+use lx_script::{Case, CaseArg, CaseFault, Origin, read_case, read_schedule};
 use lx_words::Schedule;
 use std::alloc::Global;
 use std::test::Fail;

@@ -6,22 +6,13 @@ ghost use Rattle.lx_caps.specs.History.{History, holds};
 ghost use Rattle.lx_caps.specs.Cells.{cells};
 ghost use Rattle.lx_caps.specs.Placed.{is_placed};
 
-use crate::{
-    Act, Atom, Cap, CapStore, PlainCaps, Principal, cells, mapped, owns_byte, precedes, reaches,
+use crate::common::{FIRST, GLOBAL, SECOND, SHARED, STRANGER, is_in_memory};
+use lx_caps::{
+    Act, Atom, Cap, CapStore, PlainCaps, Principal, cells, owns_byte, precedes, reaches,
 };
 use std::alloc::Global;
 use std::process::Abort;
 use std::test::Fail;
-
-const SHARED: Principal = Principal::Shared(0);
-
-const GLOBAL: Principal = Principal::Global(0);
-
-const FIRST: Principal = Principal::Inst(0, 0);
-
-const SECOND: Principal = Principal::Inst(0, 1);
-
-const STRANGER: Principal = Principal::Shared(1);
 
 /// Moves a capability to a principal, where its source holds it. Any store will do.
 fn moved<C: CapStore>(caps: &mut C, source: Principal, dest: Principal, cap: Cap) -> bool
@@ -37,15 +28,6 @@ fn moved<C: CapStore>(caps: &mut C, source: Principal, dest: Principal, cap: Cap
         true
     } else {
         false
-    }
-}
-
-fn is_in_memory(cap: Cap) -> bool
-    ensures { result ≡ is_placed cap }
-{
-    match cap {
-        Cap::Write { at, size } => mapped(at, size),
-        _ => true,
     }
 }
 

@@ -1,17 +1,10 @@
 //! Writers of slots, as ranges are noted and zeroed.
-use crate::WriterSets;
+use crate::common::{FIRST, SECOND, SHARED, STRANGER};
 use lx_caps::{Cap, CapStore, PlainCaps, Principal, cells, mapped};
+use lx_writer_sets::WriterSets;
 use std::alloc::Global;
 use std::process::Abort;
 use std::test::Fail;
-
-const SHARED: Principal = Principal::Shared(0);
-
-const FIRST: Principal = Principal::Inst(0, 0);
-
-const SECOND: Principal = Principal::Inst(0, 1);
-
-const STRANGER: Principal = Principal::Shared(1);
 
 fn noted(
     rt: &impl Abort,

@@ -1,13 +1,8 @@
-//! Worked cases over memory: what the program writes, and its status.
+//! The cases are run, and what they write and their status are compared.
 
-mod rows;
-mod texts;
-
-use crate::tests::rows::{
-    FAULTY, MEMORY, OWN_KERNELS, PLAIN, PRINCIPALS, REPLAYED, Row, SLOTS, Wanted,
-};
-use crate::tests::texts::TEXTS;
-use crate::top::lxfi;
+use crate::rows::{FAULTY, MEMORY, OWN_KERNELS, PLAIN, PRINCIPALS, REPLAYED, Row, SLOTS, Wanted};
+use crate::texts::TEXTS;
+use lx_cli::lxfi;
 use lx_outside::{MemShelf, MemSink, OpenGate};
 use std::alloc::Global;
 use std::sync::Wait;

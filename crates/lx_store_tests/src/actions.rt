@@ -1,14 +1,14 @@
 //! Actions over a plain store and memory: what is moved, what is refused, and that a refused action moves nothing.
 ghost use Rattle.std.specs.Prelude.{◌≡◌, ◌≤◌, length};
 ghost use Rattle.lx_annot.specs.Items.{list_items, list_of_action};
-ghost use Rattle.lx_caps.specs.Placed.{is_placed};
 
-use crate::{ActFault, SpaceLook, perform};
+use crate::common::{FIRST, SECOND, SHARED, is_in_memory};
+use lx_actions::{ActFault, SpaceLook, perform};
 use lx_annot::action::{Action, ActionNode, CapSpec};
 use lx_annot::expr::{Env, Expr, ExprNode, Ty};
 use lx_annot::interface::{CapIterator, Interface, Item};
 use lx_annot::value::Look;
-use lx_caps::{Act, Cap, CapStore, PlainCaps, Principal, cells, mapped};
+use lx_caps::{Act, Cap, CapStore, PlainCaps, Principal, cells};
 use lx_memory::Space;
 use lx_model::request::Refusal;
 use lx_words::{Items, Width, Word};
@@ -17,12 +17,6 @@ use std::process::Abort;
 use std::test::Fail;
 
 const KERNEL: Principal = Principal::Kernel;
-
-const SHARED: Principal = Principal::Shared(0);
-
-const FIRST: Principal = Principal::Inst(0, 0);
-
-const SECOND: Principal = Principal::Inst(0, 1);
 
 /// How an action ended, in values that compare.
 #[derive(Clone, Copy, Debug, PartialEq, Eq)]
@@ -138,15 +132,6 @@ fn items_named(i: &Interface, a: &Action) -> usize
             count_items(i, list)
         }
         ActionNode::If(_, a) => items_named(i, a),
-    }
-}
-
-fn is_in_memory(cap: Cap) -> bool
-    ensures { result ≡ is_placed cap }
-{
-    match cap {
-        Cap::Write { at, size } => mapped(at, size),
-        _ => true,
     }
 }
 

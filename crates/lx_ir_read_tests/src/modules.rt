@@ -1,8 +1,8 @@
 //! Modules from texts and back, and the faults of texts.
 
-use crate::{ReadFault, TextForm, read_module};
 use lx_ir::module::Module;
 use lx_ir::print;
+use lx_ir_read::{ReadFault, TextForm, read_module};
 use lx_words::Memory;
 use std::alloc::Global;
 use std::test::Fail;

@@ -1,12 +1,9 @@
 //! Writers of a slot, as owners come and go and bytes are zeroed.
-use crate::Recorded;
-use lx_caps::{Atom, Cap, CapStore, PlainCaps, Principal, mapped};
+use crate::common::{FIRST, SHARED};
+use lx_caps::{Atom, Cap, CapStore, PlainCaps, mapped};
+use lx_writers::Recorded;
 use std::process::Abort;
 use std::test::Fail;
-
-const SHARED: Principal = Principal::Shared(0);
-
-const FIRST: Principal = Principal::Inst(0, 0);
 
 const SLOT: Cap = Cap::Write {
     at: 0x1000000,

@@ -1,0 +1,5 @@
+//! Tests of the reading of interfaces.
+#![tactic(auto)]
+
+#[cfg(test)]
+mod interfaces;

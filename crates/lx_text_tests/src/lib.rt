@@ -1,0 +1,11 @@
+//! Tests of words, the outside world, cases, schedules and the tokens of a module's text.
+#![tactic(auto)]
+
+#[cfg(test)]
+mod ir_tokens;
+#[cfg(test)]
+mod outside;
+#[cfg(test)]
+mod script;
+#[cfg(test)]
+mod words;
