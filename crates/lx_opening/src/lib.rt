@@ -3,6 +3,7 @@
 #![tactic(auto)]
 
 mod bytes;
+mod events;
 mod grants;
 mod inits;
 mod open;

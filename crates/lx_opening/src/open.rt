@@ -3,8 +3,9 @@ ghost use Rattle.std.specs.Prelude.{◌≡◌, ◌≤◌, [], IfOk, length};
 ghost use Rattle.lx_link_texts.specs.WellFormed.{IsWellFormed};
 ghost use Rattle.lx_model.specs.World.{opening};
 ghost use Rattle.lx_tables.specs.Entries.{all_annotated};
-ghost use Rattle.lx_world.specs.Worlds.{StandsForWorld, program_of};
+ghost use Rattle.lx_world.specs.Worlds.{HasRoom, StandsForWorld, program_of};
 
+use crate::events::script_events;
 use crate::part::open_part;
 use lx_caps::CapStore;
 use lx_code::Code;
@@ -16,11 +17,12 @@ use lx_world::World;
 use std::alloc::Global;
 
 /// The opening of a script, a list of calls for each thread, over a well-formed program. `annotated` has the functions
-/// of each module that get a slot type, and `caps` is new.
+/// of each module that get a slot type, and `caps` is new. The world has room in its journal for every event that the fuel
+/// of the script allows.
 ///
 /// # Errors
 /// Want of memory; more modules, functions of a module or actions of a function than a number of 32 bits counts are that
-/// too.
+/// too, and so are more events than a `usize` counts.
 pub fn open_world<C: CapStore + Drop>(
     alloc: Global,
     program: Program,
@@ -34,12 +36,14 @@ pub fn open_world<C: CapStore + Drop>(
     requires new { C.stands caps [] }
     ensures opens { IfOk result (λ world. StandsForWorld C.stands program world (opening program script.items)) }
     ensures program { IfOk result (λ world. program_of world ≡ program) }
+    ensures room { IfOk result (λ world. HasRoom world) }
 {
     reach_laws();
     let sources = sources_of(alloc, &program, annotated)?;
     let counts = action_counts(alloc, &program, sources.as_slice())?;
     let code = Code::new(alloc, program, counts);
-    let Ok(shared) = open_part(alloc, &code, caps, sources) else {
+    let events = script_events(script.as_slice())?;
+    let Ok(shared) = open_part(alloc, &code, caps, sources, events) else {
         return Err(Memory);
     };
     let world = World::open(alloc, code, script, shared)?;

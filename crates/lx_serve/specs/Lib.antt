@@ -7,3 +7,4 @@ pub mod Performed
 pub mod Entering
 pub mod Served
 pub mod Targets
+pub mod Room

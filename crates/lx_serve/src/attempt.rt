@@ -1,11 +1,12 @@
 //! A request as a whole.
-ghost use Rattle.std.specs.Prelude.{◌≡◌, ◌<◌, ◌≤◌, true, IfOk, OnErr};
+ghost use Rattle.std.specs.Prelude.{◌≡◌, ◌<◌, ◌≤◌, true, false, IfOk, IsOk, OnErr};
 ghost use Rattle.lx_model.specs.Decide.{decide};
 ghost use Rattle.lx_model.specs.Serve.{serve_by};
 ghost use Rattle.lx_model.specs.State.{State};
 ghost use Rattle.lx_model.specs.declared.request.Outcome.{Outcome};
 ghost use Rattle.lx_model.specs.declared.request.What.TheVariants as what;
 ghost use Rattle.lx_requests.specs.Servable.{is_servable_what};
+ghost use Rattle.lx_serve.specs.Room.{lacks_memory, takes_no_memory};
 ghost use Rattle.lx_serve.specs.Served.{is_ended};
 ghost use Rattle.lx_serve.specs.Sources.{IsLinked};
 ghost use Rattle.lx_serve.specs.Stands.{Gives, Keeps, Tries};
@@ -31,6 +32,7 @@ impl<C: CapStore + Drop> Monitor<C> {
             → Tries C.stands program.now self.new s thread request.now.who request.now.what result }
         ensures ends { IfOk result (λ reply. (o : Outcome) → request.now.what ≡ what.Finish o → is_ended reply ≡ true) }
         ensures spare { OnErr result (spare_of C.spare self.old.caps ≤ spare_of C.spare self.new.caps) }
+        ensures no_memory { takes_no_memory request.now.what ≡ true → lacks_memory result ≡ false }
     {
         let who = request.who;
         match &request.what {
@@ -73,8 +75,9 @@ impl<C: CapStore + Drop> Monitor<C> {
             → Gives C.stands program.now self.new reply (serve_by (decide program.now s thread request.now) program.now s thread request.now)) }
         ensures ends { IfOk result (λ reply. (o : Outcome) → request.now.what ≡ what.Finish o → is_ended reply ≡ true) }
         ensures memory { OnErr result ((s : State) → Keeps C.stands program.now self.old s → Keeps C.stands program.now self.new s) }
+        ensures no_memory { takes_no_memory request.now.what ≡ true → 0 < spare_of C.spare self.old.caps → IsOk result }
     {
-        self.reserve(1)?;
+        self.make_room()?;
         match self.attempt(program, thread, request) {
             Ok(reply) => Ok(reply),
             Err(Halt::Ended(outcome)) => Ok(self.stop(thread, outcome)),

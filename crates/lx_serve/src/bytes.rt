@@ -1,11 +1,12 @@
 //! Requests that read, write and take bytes.
-ghost use Rattle.std.specs.Prelude.{◌≡◌, ◌<◌, ◌≤◌, ◌-◌, ℕ, OnErr, true};
+ghost use Rattle.std.specs.Prelude.{◌≡◌, ◌<◌, ◌≤◌, ◌-◌, ℕ, OnErr, true, false};
 ghost use Rattle.lx_caps.specs.Regions.{mapped, stack_end, stack_start};
 ghost use Rattle.lx_caps.specs.declared.Principal.{Principal};
 ghost use Rattle.lx_model.specs.declared.program.Program.{Program};
 ghost use Rattle.lx_model.specs.declared.request.What.TheVariants as what;
 ghost use Rattle.lx_model.specs.Fits.{FitsStack};
 ghost use Rattle.lx_model.specs.State.{State};
+ghost use Rattle.lx_serve.specs.Room.{lacks_memory};
 ghost use Rattle.lx_serve.specs.Stands.{Keeps, Tries};
 ghost use Rattle.lx_writers.specs.Stands.{spare_of};
 
@@ -22,8 +23,9 @@ impl<C: CapStore + Drop> Monitor<C> {
     ghost use Rattle.std.specs.Prelude.{◌≡◌, ◌<◌, ◌≤◌, true};
 
     pub(crate) fn load(&self, at: u64, width: Width) -> Result<Reply, Halt>
-        ensures { (p : Program) (s : State) (t : ℕ) (by : Principal) → Keeps C.stands p self.now s
+        ensures tries { (p : Program) (s : State) (t : ℕ) (by : Principal) → Keeps C.stands p self.now s
             → Tries C.stands p self.now s t by (what.Load at width) result }
+        ensures no_memory { lacks_memory result ≡ false }
     {
         let size = byte_count(width);
         if let Some(outcome) = unless_mapped(at, u64::from(size)) {
@@ -36,6 +38,7 @@ impl<C: CapStore + Drop> Monitor<C> {
         ensures tries { (p : Program) (s : State) (t : ℕ) → Keeps C.stands p self.old s
             → Tries C.stands p self.new s t who (what.Store at value) result }
         ensures spare { spare_of C.spare self.new.caps ≡ spare_of C.spare self.old.caps }
+        ensures no_memory { lacks_memory result ≡ false }
     {
         let size = byte_count(value.width);
         if let Some(outcome) = unless_writable(&self.caps, who, at, u64::from(size)) {
@@ -55,6 +58,7 @@ impl<C: CapStore + Drop> Monitor<C> {
         ensures tries { (p : Program) (s : State) (t : ℕ) → Keeps C.stands p self.old s
             → Tries C.stands p self.new s t who (what.Copy to from len) result }
         ensures spare { spare_of C.spare self.new.caps ≡ spare_of C.spare self.old.caps }
+        ensures no_memory { lacks_memory result ≡ false }
     {
         if let Some(outcome) = unless_copied(&self.caps, who, to, from, len) {
             return Err(Halt::Ended(outcome));
@@ -73,6 +77,7 @@ impl<C: CapStore + Drop> Monitor<C> {
         ensures tries { (p : Program) (s : State) (t : ℕ) → Keeps C.stands p self.old s
             → Tries C.stands p self.new s t who (what.Fill to byte len) result }
         ensures spare { spare_of C.spare self.new.caps ≡ spare_of C.spare self.old.caps }
+        ensures no_memory { lacks_memory result ≡ false }
     {
         if let Some(outcome) = unless_writable(&self.caps, who, to, len) {
             return Err(Halt::Ended(outcome));

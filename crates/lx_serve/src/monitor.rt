@@ -30,15 +30,18 @@ pub(crate) struct Monitor<C: CapStore + Drop> {
 }
 
 impl<C: CapStore + Drop> Monitor<C> {
-    ghost use Rattle.std.specs.Prelude.{◌≡◌, ◌<◌, ◌≤◌, true};
+    ghost use Rattle.std.specs.Prelude.{◌≡◌, ◌<◌, ◌≤◌, true, IsOk};
     ghost use Rattle.lx_model.specs.Serve.{after_stop, with_strip};
 
-    /// Makes room for so many cells of the store.
-    pub(crate) fn reserve(&mut self, cells: u64) -> Result<(), Memory>
-        ensures room { OnOk result (cells ≤ spare_of C.spare self.new.caps) }
+    /// Makes room for a strip of the store, where there is none.
+    pub(crate) fn make_room(&mut self) -> Result<(), Memory>
+        ensures room { OnOk result (0 < spare_of C.spare self.new.caps) }
+        ensures had_room { 0 < spare_of C.spare self.old.caps → IsOk result }
         ensures stays { (p : Program) (s : State) → Keeps C.stands p self.old s → Keeps C.stands p self.new s }
     {
-        self.caps.reserve(cells)?;
+        if self.caps.spare() == 0 {
+            self.caps.reserve(1)?;
+        }
         Ok(())
     }
 

@@ -1,5 +1,5 @@
 //! What all threads share.
-ghost use Rattle.std.specs.Prelude.{◌≡◌, ◌<◌, ◌++◌, ◌∷◌, [], true, IfOk, OnErr, OnOk};
+ghost use Rattle.std.specs.Prelude.{◌≡◌, ◌<◌, ◌≤◌, ◌+◌, ◌++◌, ◌∷◌, [], true, IfOk, IsOk, OnErr, OnOk};
 ghost use Rattle.lx_writer_sets.specs.Stands.{room_of};
 
 use crate::heap::no_blocks;
@@ -23,9 +23,11 @@ pub struct SharedPart<C: CapStore + Drop> {
     journal: Vec<u32>,
 }
 
-/// Makes room for one more thread.
+/// Makes room for one more thread, where there is none.
 fn make_room(journal: &mut Vec<u32>) -> Result<(), Memory>
     ensures room { OnOk result (0 < room_of journal.new) }
+    ensures had_room { 0 < room_of journal.old → IsOk result }
+    ensures grows { room_of journal.old ≤ room_of journal.new }
     ensures stays { journal.new.items ≡ journal.old.items }
 {
     journal.reserve(1)?;
@@ -34,7 +36,8 @@ fn make_room(journal: &mut Vec<u32>) -> Result<(), Memory>
 
 fn push(journal: &mut Vec<u32>, thread: u32)
     requires { 0 < room_of journal.old }
-    ensures { journal.new.items ≡ journal.old.items ++ thread ∷ [] }
+    ensures appends { journal.new.items ≡ journal.old.items ++ thread ∷ [] }
+    ensures takes { room_of journal.old ≤ room_of journal.new + 1 }
 {
     journal.push(thread).unwrap();
 }
@@ -50,13 +53,14 @@ impl<C: CapStore + Drop> SharedPart<C> {
     ghost use Rattle.lx_model.specs.Opening.{opening_history, opening_state, with_globals};
     ghost use Rattle.lx_model.specs.Serve.{serve};
     ghost use Rattle.lx_model.specs.State.{State};
+    ghost use Rattle.lx_serve.specs.Room.{journal_room, store_room, takes_no_memory};
     ghost use Rattle.lx_serve.specs.Served.{is_ended};
     ghost use Rattle.lx_serve.specs.Sources.{IsLinked, Knows};
     ghost use Rattle.lx_serve.specs.Stands.{Serves, StandsForState, instances};
     ghost use Rattle.lx_writers.specs.Stands.{StandsRecorded};
 
     /// The part before the first call of a program: the globals are written in `space`, `caps` has what each module owns,
-    /// and `sources` tells where the annotation of each function stands.
+    /// and `sources` tells where the annotation of each function stands. The journal has room for so many events.
     ///
     /// # Errors
     /// Want of memory.
@@ -66,17 +70,20 @@ impl<C: CapStore + Drop> SharedPart<C> {
         space: Space,
         caps: Recorded<C>,
         sources: Vec<Option<Source>>,
+        events: usize,
     ) -> Result<Self, Memory>
         requires written { IsShownBy space (with_globals program.now program.now.globals []) }
         requires owned { StandsRecorded C.stands caps (opening_history program.now) }
         requires known { Knows program.now sources.items }
-        ensures { IfOk result (λ part. StandsForState C.stands program.now part (opening_state program.now)) }
+        ensures opens { IfOk result (λ part. StandsForState C.stands program.now part (opening_state program.now)) }
+        ensures room { IfOk result (λ part. events ≤ journal_room part) }
     {
         let Ok(modules) = u32::try_from(program.modules.items.len()) else {
             return Err(Memory);
         };
         let heap = no_blocks(alloc)?;
         let names = Principals::new(alloc, modules)?;
+        let journal = Vec::with_capacity(alloc, events)?;
         Ok(SharedPart {
             monitor: Monitor {
                 alloc,
@@ -87,12 +94,13 @@ impl<C: CapStore + Drop> SharedPart<C> {
                 notes: Vec::new(alloc),
                 sources,
             },
-            journal: Vec::new(alloc),
+            journal,
         })
     }
 
     /// Serves a request: answers as the monitor does, and stands for the state that it leaves. A request that no thread
-    /// makes ends its call.
+    /// makes ends its call. An event takes one of the journal's room. Reads and writes of bytes and the end of a call take
+    /// no memory where the journal has room for an event and the store for one strip.
     ///
     /// # Errors
     /// Want of memory, which leaves what the part stands for.
@@ -107,6 +115,9 @@ impl<C: CapStore + Drop> SharedPart<C> {
             → is_servable program.now thread request.now ≡ true → Serves C.stands program.now self.new reply (serve program.now s thread request.now)) }
         ensures ends { IfOk result (λ reply. (o : Outcome) → request.now.what ≡ what.Finish o → is_ended reply ≡ true) }
         ensures memory { OnErr result ((s : State) → StandsForState C.stands program.now self.old s → StandsForState C.stands program.now self.new s) }
+        ensures room { OnOk result (journal_room self.old ≤ journal_room self.new + 1) }
+        ensures room_stays { OnErr result (journal_room self.old ≤ journal_room self.new) }
+        ensures no_memory { takes_no_memory request.now.what ≡ true → 0 < journal_room self.old → 0 < store_room C.spare self.old → IsOk result }
     {
         if !is_servable(program, thread, request) {
             return Ok(Reply::Ended(Outcome::Trapped(Trap::Unreachable)));

@@ -139,7 +139,7 @@ static CALLS: [(u32, u64, Seen); 6] = [
 
 fn call_natives(rt: &impl Abort, m: &mut Monitor<PlainCaps>) -> Result<(), Fail> {
     for (native, bits, want) in CALLS.iter() {
-        m.reserve(1)?;
+        m.make_room()?;
         assert_eq!(rt;
             tell(&m.native(0, Principal::Kernel, *native, &[long(*bits)])),
             *want

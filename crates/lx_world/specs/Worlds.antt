@@ -1,16 +1,18 @@
 -- The world stands for a world of the monitor.
-use Rattle.std.specs.Prelude.{◌≡◌, ℕ, suc, Bool, true, not, Option, Some, None, List, [], ◌∷◌, option_map, unwrap_or, slice_get}
+use Rattle.std.specs.Prelude.{◌≡◌, ◌≤◌, ℕ, suc, Bool, true, not, Option, Some, None, List, [], ◌∷◌, option_map, unwrap_or, slice_get}
 use Rattle.std.specs.List.{sum_by}
 use Rattle.lx_requests.specs.OnStack.{AreOnStack}
 use Rattle.lx_caps.specs.History.{History}
 use Rattle.lx_model.specs.declared.program.Program.{Program}
+use Rattle.lx_model.specs.declared.program.ScriptCall.{ScriptCall}
 use Rattle.lx_model.specs.State.{State}
 use Rattle.lx_model.specs.Thread.{Thread, has_call}
 use Rattle.lx_model.specs.Next.{next, absorb}
 use Rattle.lx_model.specs.Serve.{serve}
 use Rattle.lx_model.specs.World.{World as Meaning}
 use Rattle.lx_interp.specs.declared.runner.Runner.{Runner}
-use Rattle.lx_interp.specs.Runner.{StandsFor as Runs, calls_left, events_left}
+use Rattle.lx_interp.specs.Runner.{StandsFor as Runs, calls_left, events_left, events_of}
+use Rattle.lx_serve.specs.Room.{journal_room}
 use Rattle.lx_serve.specs.Stands.{StandsForState}
 use Rattle.lx_serve.specs.declared.shared.SharedPart.{SharedPart}
 use Rattle.lx_world.specs.declared.world.World.{World}
@@ -50,6 +52,14 @@ program_of w = w.linked.code
 -- how many events the world may still have
 abbrev pub events_in : {C : Type 0} → World C → ℕ
 events_in w = sum_by events_left w.runners.list.items
+
+-- how many events a script may have: of each call its fuel, and its end
+abbrev pub script_events : List (List ScriptCall) → ℕ
+script_events script = sum_by events_of script
+
+-- the journal has room for all events that the world may still have
+abbrev pub HasRoom : {C : Type 0} → World C → Type 0
+HasRoom w = events_in w ≤ journal_room w.shared
 
 -- the runner has no call left
 abbrev pub is_idle : Runner → Bool

@@ -85,7 +85,8 @@ fn program(alloc: Global) -> Result<Program, Memory>
     })
 }
 
-/// What its threads share before the first call: the module owns the call of its function.
+/// What its threads share before the first call: the module owns the call of its function, and there is room for three
+/// calls of nine units of fuel.
 #[tactic(auto, unfolding(lx_actions::specs::Shown::IsShownBy), using(crate::proofs::Tested::nothing_written, crate::proofs::Tested::nothing_annotated))]
 fn shared<C: CapStore + Drop>(
     alloc: Global,
@@ -100,7 +101,7 @@ fn shared<C: CapStore + Drop>(
     let mut caps = Recorded::new(alloc, caps);
     caps.reserve(1)?;
     caps.grant(Principal::Shared(0), Cap::Call { at: 0x10000 });
-    let part = SharedPart::open(alloc, program, space, caps, Vec::new(alloc))?;
+    let part = SharedPart::open(alloc, program, space, caps, Vec::new(alloc), 30)?;
     Ok(part)
 }
 

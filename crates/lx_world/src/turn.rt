@@ -1,10 +1,11 @@
 //! One event of a thread.
-ghost use Rattle.std.specs.Prelude.{◌≡◌, ◌<◌, true, OnOk, OnErr, IfOk, IsTrue};
+ghost use Rattle.std.specs.Prelude.{◌≡◌, ◌<◌, ◌≤◌, ◌+◌, true, OnOk, OnErr, IfOk, IsTrue};
 ghost use Rattle.lx_model.specs.State.{State};
 ghost use Rattle.lx_model.specs.Serve.{serve};
 ghost use Rattle.lx_model.specs.Thread.{Thread, has_call};
 ghost use Rattle.lx_interp.specs.Runner.{calls_left, events_left, is_spent};
 ghost use Rattle.lx_requests.specs.Servable.{is_servable};
+ghost use Rattle.lx_serve.specs.Room.{journal_room};
 ghost use Rattle.lx_serve.specs.Sources.{IsLinked};
 ghost use Rattle.lx_serve.specs.Stands.{Serves, StandsForState};
 ghost use Rattle.lx_world.specs.Worlds.{StandsFor, HasTurned, HasStayed};
@@ -30,6 +31,8 @@ fn answer<C: CapStore + Drop>(
         → is_servable code.now thread request.now ≡ true → Serves C.stands code.now shared.new reply (serve code.now s thread request.now)) }
     ensures spent { IfOk result (λ reply. is_spent request.now.what reply ≡ true) }
     ensures memory { OnErr result ((s : State) → StandsForState C.stands code.now shared.old s → StandsForState C.stands code.now shared.new s) }
+    ensures room { OnOk result (journal_room shared.old ≤ journal_room shared.new + 1) }
+    ensures room_stays { OnErr result (journal_room shared.old ≤ journal_room shared.new) }
 {
     match shared.serve(code.program(), thread, request) {
         Ok(reply) => Ok(reply),
@@ -51,6 +54,9 @@ pub(crate) fn turn<C: CapStore + Drop>(
     ensures memory { OnErr result ((s : State) (x : Thread) → StandsForState C.stands linked.now.code shared.old s → StandsFor linked.now.code thread runner.old x
         → HasStayed C.stands linked.now.code thread shared.new runner.new s x) }
     ensures fewer { OnOk result (events_left runner.new < events_left runner.old) }
+    ensures no_more { OnErr result (events_left runner.new ≤ events_left runner.old) }
+    ensures room { OnOk result (journal_room shared.old ≤ journal_room shared.new + 1) }
+    ensures room_stays { OnErr result (journal_room shared.old ≤ journal_room shared.new) }
 {
     request_laws();
     let code = &linked.code;

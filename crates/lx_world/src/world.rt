@@ -34,12 +34,14 @@ impl<C: CapStore + Drop> World<C> {
     ghost use Rattle.lx_model.specs.World.{World as Meaning, event, can_act, is_done, opening};
     ghost use Rattle.lx_model.specs.Account.{schedule_of};
     ghost use Rattle.lx_model.specs.Opening.{opening_state};
-    ghost use Rattle.lx_world.specs.Worlds.{StandsForWorld, program_of, events_in, is_idle_at};
+    ghost use Rattle.lx_world.specs.Worlds.{HasRoom, StandsForWorld, program_of, events_in, is_idle_at, script_events};
+    ghost use Rattle.lx_serve.specs.Room.{journal_room};
     ghost use Rattle.lx_serve.specs.Sources.{IsLinked};
     ghost use Rattle.lx_serve.specs.Stands.{StandsForState};
     ghost use Rattle.lx_world.specs.declared.fault.EventFault.{EventFault};
 
-    /// The opening of a script, a list of calls for each thread, over what threads share before the first call.
+    /// The opening of a script, a list of calls for each thread, over what threads share before the first call. Where the
+    /// shared journal has room for the events of the script, the world has room for all its events.
     ///
     /// # Errors
     /// Want of memory.
@@ -54,6 +56,8 @@ impl<C: CapStore + Drop> World<C> {
         requires threads { length script.items ≤ 16 }
         ensures opens { IfOk result (λ world. StandsForWorld C.stands code world (opening code script.items)) }
         ensures program { IfOk result (λ world. program_of world ≡ code) }
+        ensures events { IfOk result (λ world. events_in world ≡ script_events script.items) }
+        ensures room { IfOk result (λ world. script_events script.items ≤ journal_room shared → HasRoom world) }
     {
         let runners = Runners::open(alloc, &code, script)?;
         let linked = LinkedCode { code };
@@ -83,7 +87,7 @@ impl<C: CapStore + Drop> World<C> {
 
     /// One event of a thread: its next request is served, and it takes in the reply. `NoWork` exactly where there is no
     /// such thread or it has no call left, which changes nothing. After `Memory` only register steps of that thread may
-    /// have gone on.
+    /// have gone on. Room for all events stays room for all that are left.
     pub fn event(&mut self, thread: u32) -> Result<(), EventFault>
         ensures event { OnOk result ((p : Program) (w : Meaning) → StandsForWorld C.stands p self.old w → StandsForWorld C.stands p self.new (event p thread w)) }
         ensures fault { OnErr result ((p : Program) (w : Meaning) → StandsForWorld C.stands p self.old w → StandsForWorld C.stands p self.new w) }
@@ -92,6 +96,7 @@ impl<C: CapStore + Drop> World<C> {
         ensures unchanged { IsErrOf result (EventFault.NoWork thread) → self.new ≡ self.old }
         ensures program { program_of self.new ≡ program_of self.old }
         ensures fewer { OnOk result (events_in self.new < events_in self.old) }
+        ensures room { HasRoom self.old → HasRoom self.new }
     {
         let place = thread as usize;
         if self.is_idle(place) {

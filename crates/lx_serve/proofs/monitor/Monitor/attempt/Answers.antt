@@ -11,7 +11,7 @@ pub returns-in-Load-clause-tries : goal.returns-in-Load-clause-tries
 returns-in-Load-clause-tries g c = λ s k.
     let r = c.args.request.now in
     subst (λ (w : What). Tries g.C.CapStore.stands c.args.program.now c.args.self.now s c.args.thread r.who w c.load.result) (sym c.in-Load.is)
-    (c.load.ensures c.args.program.now s c.args.thread r.who k)
+    (c.load.ensures.tries c.args.program.now s c.args.thread r.who k)
 
 pub returns-in-Store-clause-tries : goal.returns-in-Store-clause-tries
 returns-in-Store-clause-tries g c = λ s k.

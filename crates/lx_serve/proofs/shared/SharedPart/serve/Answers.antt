@@ -6,4 +6,4 @@ pub returns-clause-served : goal.returns-clause-served
 returns-clause-served g c = λ s st servable.
     entered g.C.CapStore.stands c.args.program.now s c.args.thread c.args.request.now c.args.self.now
     (record { monitor = c.answer.new.self; journal = c.push.new.journal }) c.in_ok-reply.reply st
-    (c.push.ensures ∙ ap (λ (l : List ℕ). l ++ c.args.thread ∷ []) c.make_room.ensures.stays) (c.in_ok-reply.ensures.gives s st.keeps)
+    (c.push.ensures.appends ∙ ap (λ (l : List ℕ). l ++ c.args.thread ∷ []) c.make_room.ensures.stays) (c.in_ok-reply.ensures.gives s st.keeps)

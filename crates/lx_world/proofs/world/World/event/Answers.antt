@@ -1,5 +1,7 @@
 use Rattle.std.proofs.Common.{◌≡◌, Bool, true, false, not, refl, sym, ◌∙◌}
 use Rattle.std.proofs.lemmas.Result.{err_from_is_err_and}
+use Rattle.lx_serve.specs.Room.{journal_room}
+use Rattle.lx_world.proofs.Counted.{room_behind, room_still}
 use Rattle.lx_world.proofs.Standing.{busy, event_stands, fault_stands, idle_is}
 use Rattle.lx_world.proofs.world.World.event.Goals as goal
 
@@ -48,3 +50,13 @@ returns-in_err-turn-clause-no_work g c =
       λ e. absurd (cc),
       λ off. absurd (busy_on c.is_idle.result _ (c.is_idle.ensures.idle ∙ idle_is g.C.CapStore.stands c.args.self.now p w c.args.thread st) c.if-is_idle.false off),
     ))
+
+pub returns-clause-room : goal.returns-clause-room
+returns-clause-room g c = λ room.
+    room_behind c.args.self.now.runners.list.items _ c.args.thread c.index_mut.result.now c.turn.new.runner (journal_room c.args.self.now.shared) (journal_room c.turn.new.shared) refl c.index_mut.ensures.value
+    (c.is_idle.ensures.there c.if-is_idle.false) c.in_ok-turn.ensures.fewer c.in_ok-turn.ensures.room room
+
+pub returns-in_err-turn-clause-room : goal.returns-in_err-turn-clause-room
+returns-in_err-turn-clause-room g c = λ room.
+    room_still c.args.self.now.runners.list.items _ c.args.thread c.index_mut.result.now c.turn.new.runner (journal_room c.args.self.now.shared) (journal_room c.turn.new.shared) refl c.index_mut.ensures.value
+    (c.is_idle.ensures.there c.if-is_idle.false) c.in_err-turn.ensures.no_more c.in_err-turn.ensures.room_stays room
