@@ -4,8 +4,6 @@
 mod code;
 mod constants;
 mod targets;
-#[cfg(test)]
-mod tests;
 mod words;
 
 pub use code::{ActionCounts, Code};

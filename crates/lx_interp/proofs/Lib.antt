@@ -4,4 +4,3 @@ pub mod Goings
 pub mod Takings
 pub mod Replies
 pub mod Registers
-pub mod Tested

@@ -4,8 +4,6 @@
 mod ending;
 mod frame;
 mod runner;
-#[cfg(test)]
-mod tests;
 
 pub use ending::Ending;
 pub use lx_code::{ActionCounts, Code};

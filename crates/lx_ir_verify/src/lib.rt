@@ -15,6 +15,3 @@ mod verified;
 pub use fault::VerifyFault;
 pub use laws::{verifier_laws, worked_faults};
 pub use verified::{Verified, verify};
-
-#[cfg(test)]
-mod tests;

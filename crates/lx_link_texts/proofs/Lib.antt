@@ -5,4 +5,3 @@ pub mod Names
 pub mod Entries
 pub mod Places
 pub mod Sound
-pub mod Small

@@ -24,6 +24,3 @@ pub fn text_laws()
     ensures well_formed { AreWellFormed }
     ensures limits { VerifiedHaveLimits }
 {}
-
-#[cfg(test)]
-mod tests;

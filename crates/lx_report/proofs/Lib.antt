@@ -3,4 +3,3 @@ mod Runs
 mod Maximal
 mod FirstLine
 mod Slots
-mod Tested

@@ -47,6 +47,3 @@ pub fn report_laws()
 {
     number_texts()
 }
-
-#[cfg(test)]
-mod tests;

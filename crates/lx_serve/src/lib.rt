@@ -18,8 +18,6 @@ mod source;
 mod space;
 mod targets;
 mod terms;
-#[cfg(test)]
-mod tests;
 
 pub use lx_caps::Memory;
 pub use shared::SharedPart;

@@ -15,6 +15,3 @@ pub use decide::is_same_annotation;
 pub use fault::PropagateFault;
 pub use module::{propagate, slot_of};
 pub use rows::worked_slots;
-
-#[cfg(test)]
-mod tests;

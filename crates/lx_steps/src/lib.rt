@@ -9,8 +9,6 @@ mod jumps;
 mod memory;
 mod operand;
 mod steps;
-#[cfg(test)]
-mod tests;
 mod values;
 
 pub use activation::{Activation, Range};

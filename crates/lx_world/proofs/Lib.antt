@@ -4,4 +4,3 @@ pub mod Counted
 pub mod Numbered
 pub mod Standing
 pub mod Turns
-pub mod Tested

@@ -1,3 +1,2 @@
 pub mod Worlds
 pub mod Accounts
-pub mod Tested

@@ -8,8 +8,6 @@ mod linked;
 mod outcomes;
 mod owners;
 mod runners;
-#[cfg(test)]
-mod tests;
 mod turn;
 mod world;
 
