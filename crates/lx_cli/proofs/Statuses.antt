@@ -5,10 +5,10 @@ use Rattle.std.proofs.lemmas.Bool.{cases_lt}
 use Rattle.lx_model.specs.World.{opening, is_whole}
 use Rattle.lx_outside.specs.declared.file_text.FileText.{FileText}
 use Rattle.lx_outside.specs.Files.{file_at}
-use Rattle.lx_sources.specs.declared.line.FaultLine.{FaultLine}
-use Rattle.lx_sources.specs.declared.stop.InputStop.{InputStop}
-use Rattle.lx_sources.specs.declared.stop.InputStop.TheVariants as stops
-use Rattle.lx_sources.specs.Laws.{IsOne, EndsAt}
+use Rattle.lx_input.specs.Files.FaultLine.{FaultLine}
+use Rattle.lx_input.specs.Files.InputStop.{InputStop}
+use Rattle.lx_input.specs.Files.InputStop.TheVariants as stops
+use Rattle.lx_input.specs.Files.Laws.{IsOne, EndsAt}
 use Rattle.lx_input.specs.declared.input.Input.{Input}
 use Rattle.lx_input.specs.Inputs.{InputTurn}
 use Rattle.lx_input.specs.Laws.{OneInput, MissingFilesEnd}

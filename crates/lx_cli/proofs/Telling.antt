@@ -1,8 +1,8 @@
 -- What an answer tells of the files' input.
 use Rattle.std.proofs.Common.{◌≡◌, sym, subst, ℕ, Bool, List, [], ◌∷◌, ◌++◌, Result, IfOk, Ok, Err}
-use Rattle.lx_sources.specs.declared.stop.InputStop.{InputStop}
-use Rattle.lx_sources.specs.declared.stop.InputStop.TheVariants as stops
-use Rattle.lx_sources.specs.Turns.{HasNoted}
+use Rattle.lx_input.specs.Files.InputStop.{InputStop}
+use Rattle.lx_input.specs.Files.InputStop.TheVariants as stops
+use Rattle.lx_input.specs.Files.Turns.{HasNoted}
 use Rattle.lx_input.specs.declared.input.Input.{Input}
 use Rattle.lx_cli.specs.declared.answer.Answer.{Answer}
 use Rattle.lx_cli.specs.declared.answer.Answer.TheVariants as answer

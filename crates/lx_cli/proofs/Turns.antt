@@ -1,10 +1,10 @@
 -- A schedule is read only where one is asked for.
 use Rattle.std.proofs.Common.{◌≡◌, ◌∙◌, ap, ℕ, List, Option, None, Result, Ok, Err}
 use Rattle.lx_outside.specs.declared.file_text.FileText.{FileText}
-use Rattle.lx_sources.specs.declared.stop.InputStop.{InputStop}
-use Rattle.lx_sources.specs.declared.sources.Sources.{Sources}
-use Rattle.lx_sources.specs.Turns.{Goes, Then, Gives}
-use Rattle.lx_sources.specs.Inputs.{SourcesTurn, CaseTurn, KernelTurn, InterfaceTurn, ModulesTurn, ScheduleTurn, BehindCase, BehindKernel, BehindInterface, BehindModules}
+use Rattle.lx_input.specs.Files.InputStop.{InputStop}
+use Rattle.lx_input.specs.Files.Sources.{Sources}
+use Rattle.lx_input.specs.Files.Turns.{Goes, Then, Gives}
+use Rattle.lx_input.specs.Files.Inputs.{SourcesTurn, CaseTurn, KernelTurn, InterfaceTurn, ModulesTurn, ScheduleTurn, BehindCase, BehindKernel, BehindInterface, BehindModules}
 use Rattle.lx_link.specs.Answers.{origin_name}
 use Rattle.lx_input.specs.declared.input.Input.{Input}
 use Rattle.lx_input.specs.Checks.{Passed, EachModule, VerifyTurn, PropagateTurn}

@@ -3,7 +3,7 @@ use Rattle.std.specs.Prelude.{◌≡◌, ℕ, Bool, not, ◌&&◌, List, [], ◌
 use Rattle.std.specs.Str.{bytes_eq}
 use Rattle.std.specs.declared.alloc.Global.{Global}
 use Rattle.lx_outside.specs.declared.file_text.FileText.{FileText}
-use Rattle.lx_sources.specs.declared.stop.InputStop.{InputStop}
+use Rattle.lx_input.specs.Files.InputStop.{InputStop}
 use Rattle.lx_input.specs.declared.input.Input.{Input}
 use Rattle.lx_input.specs.Inputs.{InputTurn}
 

@@ -2,9 +2,9 @@
 use Rattle.std.specs.Prelude.{◌≡◌, ℕ, zero, suc, ◌<◌, Bool, true, false, List, [], ◌∷◌, ◌++◌, length, take, Option, Some, None, Ok, Err, if◌then◌else◌}
 use Rattle.std.specs.List.{Contains}
 use Rattle.lx_outside.specs.declared.file_text.FileText.{FileText}
-use Rattle.lx_sources.specs.declared.line.FaultLine.{FaultLine}
-use Rattle.lx_sources.specs.declared.stop.InputStop.TheVariants as stops
-use Rattle.lx_sources.specs.Lines.{fault_text}
+use Rattle.lx_input.specs.Files.FaultLine.{FaultLine}
+use Rattle.lx_input.specs.Files.InputStop.TheVariants as stops
+use Rattle.lx_input.specs.Files.Lines.{fault_text}
 use Rattle.lx_input.specs.declared.input.Input.{Input}
 use Rattle.lx_cli.specs.Answer.{IsReportOf, IsBroken, usage_line, unread_line, broken_line}
 use Rattle.lx_cli.specs.Command.{command_of, ComesTo}

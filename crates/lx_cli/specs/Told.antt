@@ -3,8 +3,8 @@ use Rattle.std.specs.Prelude.{◌≡◌, ℕ, List, Option, Some, Result, Ok, Er
 use Rattle.lx_model.specs.declared.program.Program.{Program}
 use Rattle.lx_model.specs.declared.program.ScriptCall.{ScriptCall}
 use Rattle.lx_model.specs.World.{opening}
-use Rattle.lx_sources.specs.declared.stop.InputStop.{InputStop}
-use Rattle.lx_sources.specs.declared.stop.InputStop.TheVariants as stops
+use Rattle.lx_input.specs.Files.InputStop.{InputStop}
+use Rattle.lx_input.specs.Files.InputStop.TheVariants as stops
 use Rattle.lx_input.specs.declared.input.Input.{Input}
 use Rattle.lx_cli.specs.Answer.{IsReport, IsReportOf, IsAsked, IsBroken, broken_at}
 use Rattle.lx_cli.specs.declared.answer.Answer.{Answer}

@@ -3,7 +3,7 @@ ghost use Rattle.std.specs.Prelude.{◌≡◌, ◌++◌, IfOk};
 ghost use Rattle.lx_cli.specs.Answer.{broken_line, unread_line};
 ghost use Rattle.lx_cli.specs.Rows.{answer_text, status_of};
 
-use lx_sources::{FaultLine, fault_text};
+use lx_input::{FaultLine, fault_text};
 use lx_words::{Memory, Name, put_decimal};
 use std::alloc::Global;
 

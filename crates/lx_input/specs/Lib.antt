@@ -1,4 +1,5 @@
 pub mod Lines
 pub mod Checks
+pub mod Files
 pub mod Inputs
 pub mod Laws

@@ -12,3 +12,4 @@ mod linked;
 mod stop;
 
 pub use input::{Input, one_input, read_input};
+pub use lx_sources::{FaultKind, FaultLine, InputStop, fault_text, read_sources};

@@ -6,7 +6,7 @@ ghost use Rattle.lx_ir_blocks.specs.Laws.{BodiesAreRead, BodiesAreFound};
 mod body;
 
 pub use body::{blocks, line};
-use lx_ir_instructions::instruction_laws;
+pub use lx_ir_instructions::instruction_laws;
 
 /// Reading and the grammar of blocks agree.
 pub fn block_laws()

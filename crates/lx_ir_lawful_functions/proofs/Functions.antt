@@ -21,7 +21,7 @@ use Rattle.lx_ir_lawful_names.specs.Things.{AreOnce}
 use Rattle.lx_ir_lawful_names.proofs.NamesOnce.{names_once}
 use Rattle.lx_ir_lawful_names.proofs.TokenNames.{tokens_are_named}
 use Rattle.lx_ir_lawful_names.proofs.Few.{names_are_few}
-use Rattle.lx_ir_sized.proofs.Blocks.{body_all}
+use Rattle.lx_ir_read_lawful.proofs.Sizes.{body_all}
 use Rattle.lx_ir_read_lawful.specs.Laws.{is_first_or_defined}
 use Rattle.lx_ir_read_lawful.proofs.Symbols.{symbols_are_once}
 use Rattle.lx_ir_read_lawful.proofs.Imports.{imports_are_first}

@@ -26,7 +26,7 @@ use Rattle.lx_ir_read.specs.Tables.{tokens_left}
 use Rattle.lx_ir_read.specs.Again.{no_draft, registers_in, with_registers, with_defined, with_declared, import_of, local_names, kept}
 use Rattle.lx_ir_read.specs.Reading.{tables_of, full_context}
 use Rattle.lx_ir_read.specs.Grammar.{AreStatements, AddAll, IsModule}
-use Rattle.lx_ir_sized.proofs.Types.{left_there}
+use Rattle.lx_ir_read_lawful.proofs.Sizes.{left_there}
 use Rattle.lx_ir_lawful_functions.specs.Laws.{last_context}
 
 both_true : (a b : Bool) → a ≡ true → b ≡ true → (a && b) ≡ true

@@ -12,6 +12,7 @@ use Rattle.lx_ir_read.specs.Reading.{tables_of, full_context}
 use Rattle.lx_ir_read.specs.Grammar.{IsModule}
 use Rattle.lx_ir_lawful.specs.Tells.{Tells}
 use Rattle.lx_ir_lawful_forms.specs.Said.{Names}
+pub use Rattle.lx_ir_read_lawful.specs.Laws.{TypesAreOnce, SymbolsAreOnce, ImportsAreFirst}
 
 -- the context that knows all names of a module, by which its statements are read last
 abbrev pub last_context : (form : TextForm) (text : List ℕ) (m : Module) → IsModule form text m → Context

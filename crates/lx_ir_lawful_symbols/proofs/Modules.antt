@@ -31,8 +31,7 @@ use Rattle.lx_ir_lawful_names.specs.Things.{named_things, AreOnce}
 use Rattle.lx_ir_lawful_names.specs.Tokens.{IsNamed, IsTokenNamed}
 use Rattle.lx_ir_lawful_names.proofs.NamesOnce.{names_once}
 use Rattle.lx_ir_lawful_names.proofs.TokenNames.{tokens_are_named}
-use Rattle.lx_ir_sized.specs.Laws.{is_such_struct}
-use Rattle.lx_ir_sized.proofs.Types.{all_types, Good, all_good, modules_have_lawful_types}
+use Rattle.lx_ir_read_lawful.proofs.Sizes.{is_such_struct, all_types, Good, all_good, modules_have_lawful_types}
 use Rattle.lx_ir_read_lawful.proofs.Symbols.{symbols_are_once}
 use Rattle.lx_ir_lawful.specs.Tells.{Tells}
 use Rattle.lx_ir_lawful_forms.specs.Said.{Names}

@@ -1,3 +1,4 @@
 pub mod Once
 pub mod Symbols
 pub mod Imports
+pub mod Sizes

@@ -14,8 +14,8 @@ mod types;
 
 pub use defined::{Defined, is_block_write};
 pub use form::Statement;
+use lx_ir_blocks::instruction_laws;
 pub use lx_ir_calls::TextForm;
-use lx_ir_instructions::instruction_laws;
 pub use reading::statement;
 
 /// Reading and the grammar of statements agree.

@@ -1,10 +1,9 @@
 -- The parts of a lawful module, put together.
 use Rattle.std.proofs.Common.{◌≤◌, [], length, arith}
 use Rattle.lx_ir_read.specs.Laws.{ModulesAreFound}
-use Rattle.lx_ir_read_lawful.specs.Laws.{TypesAreOnce, SymbolsAreOnce, ImportsAreFirst}
 use Rattle.lx_ir_lawful_symbols.specs.Laws.{TextsTell, TextsName, GlobalsAreLawful, ThingsAreFew}
 use Rattle.lx_ir_lawful_symbols.proofs.Few.{tokens_few}
-use Rattle.lx_ir_lawful_functions.specs.Laws.{FunctionsAreLawful}
+use Rattle.lx_ir_lawful_functions.specs.Laws.{FunctionsAreLawful, TypesAreOnce, SymbolsAreOnce, ImportsAreFirst}
 use Rattle.lx_ir_whole.specs.Laws.{ReadIsLawful}
 
 pub lawful : ModulesAreFound → TypesAreOnce → SymbolsAreOnce → ImportsAreFirst → TextsTell → TextsName → GlobalsAreLawful → ThingsAreFew → FunctionsAreLawful → ReadIsLawful

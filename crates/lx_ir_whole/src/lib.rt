@@ -3,10 +3,9 @@
 
 ghost use Rattle.lx_ir_whole.specs.Laws.{ProgramsArePlain, ReadIsLawful};
 
-use lx_ir_lawful_functions::function_laws;
+use lx_ir_lawful_functions::{function_laws, once_laws};
 use lx_ir_lawful_symbols::symbol_laws;
 use lx_ir_read::module_laws;
-use lx_ir_read_lawful::once_laws;
 
 /// Each module that a text says is lawful, where the text is shorter than 2 ^ 32 - 1 bytes. A program has no lines and no names
 /// that images alone have.

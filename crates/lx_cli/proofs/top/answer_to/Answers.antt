@@ -1,5 +1,5 @@
 use Rattle.std.proofs.Common.{◌≡◌, refl, subst, Result, Ok, Err}
-use Rattle.lx_sources.specs.declared.stop.InputStop.{InputStop}
+use Rattle.lx_input.specs.Files.InputStop.{InputStop}
 use Rattle.lx_input.specs.declared.input.Input.{Input}
 use Rattle.lx_input.specs.Inputs.{InputTurn}
 use Rattle.lx_cli.specs.Command.{Command}

@@ -1,5 +1,5 @@
 use Rattle.std.proofs.Common.{◌≡◌, ◌∙◌, sym, [], None, Ok, Err}
-use Rattle.lx_sources.specs.declared.stop.InputStop.TheVariants as stops
+use Rattle.lx_input.specs.Files.InputStop.TheVariants as stops
 use Rattle.lx_cli.specs.Command.{texts}
 use Rattle.lx_cli.specs.Rows.{status_of}
 use Rattle.lx_cli.proofs.Written.{by_words, usage_wrote, usage_short, answer_wrote, answer_short}
