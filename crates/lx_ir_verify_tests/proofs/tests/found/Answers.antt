@@ -1,8 +1,8 @@
 use Rattle.std.proofs.Common.{◌+◌, ◌<◌, ◌^◌, length, arith}
-use Rattle.lx_ir_verified_examples.proofs.tests.is_verified.Goals as goal
+use Rattle.lx_ir_verify_tests.proofs.tests.found.Goals as goal
 
 -- What is read is lawful.
 pub verify-requires : goal.verify-requires
 verify-requires c =
     let few : length c.as_bytes-bytes.result.now + 1 < 2 ^ 32 = omega (arith, c.if-bytes-gt20000.false, c.as_bytes-bytes.ensures.len) in
-    c.whole_laws.ensures.lawful _ _ _ few c.in-Ok.ensures.module
+    c.whole_laws.ensures.lawful _ _ _ few c.in_ok-module.ensures.module

@@ -1,0 +1,102 @@
+//! Texts are read, and what verifying the modules that they say finds is compared.
+
+use crate::rows::{C_FILES, ENDS, LABELS, PHIS, REGISTERS, Row, TYPES, WITHOUT_A_FAULT, Wanted};
+use lx_ir_read::{TextForm, read_module};
+use lx_ir_verify::{Verified, VerifyFault, verify};
+use lx_ir_whole::whole_laws;
+use std::alloc::Global;
+use std::test::Fail;
+
+/// What verifying the module of a text finds.
+fn found(alloc: Global, text: &str) -> Result<Result<Verified, VerifyFault>, Fail> {
+    let bytes = text.as_bytes();
+    if bytes.len() > 20000 {
+        return Err(Fail::new("a text is too long"));
+    }
+    whole_laws();
+    let module = read_module(alloc, TextForm::Program, bytes)?;
+    Ok(verify(alloc, module))
+}
+
+/// The number of a fault, its line, and what names it; want of memory has no number.
+fn told(fault: &VerifyFault) -> (u8, u32, &[u8]) {
+    match fault {
+        VerifyFault::Memory => (0, 0, &[]),
+        VerifyFault::TypeDiffers { line, what } => (1, *line, what.as_slice()),
+        VerifyFault::NoSuchLabel { line, what } => (2, *line, what.as_slice()),
+        VerifyFault::NotAssigned { line, what } => (3, *line, what.as_slice()),
+        VerifyFault::PhiEdges { line, what } => (4, *line, what.as_slice()),
+        VerifyFault::NoTerminator { line, what } => (5, *line, what.as_slice()),
+    }
+}
+
+fn is_wanted(found: &Result<Verified, VerifyFault>, wanted: &Wanted) -> bool {
+    match (found, wanted) {
+        (Ok(verified), Wanted::Nothing(functions)) => {
+            verified.module().functions.len() == *functions
+        }
+        (Err(fault), Wanted::Fault(number, line, what)) => {
+            told(fault) == (*number, *line, what.as_bytes())
+        }
+        _ => false,
+    }
+}
+
+/// The name of the first row whose module has something else found in it than is wanted, or no name.
+fn first_wrong(alloc: Global, rows: &[Row]) -> Result<&'static str, Fail> {
+    for row in rows {
+        if !is_wanted(&found(alloc, row.text)?, &row.wanted) {
+            return Ok(row.name);
+        }
+    }
+    Ok("")
+}
+
+#[test]
+fn what_clang_prints_is_verified(rt: HostRuntime) -> Result<(), Fail> {
+    let wrong = first_wrong(rt.alloc(), &C_FILES)?;
+    assert_eq!(rt; wrong, "");
+    Ok(())
+}
+
+#[test]
+fn modules_without_a_fault_are_verified(rt: HostRuntime) -> Result<(), Fail> {
+    let wrong = first_wrong(rt.alloc(), &WITHOUT_A_FAULT)?;
+    assert_eq!(rt; wrong, "");
+    Ok(())
+}
+
+#[test]
+fn another_type_is_told(rt: HostRuntime) -> Result<(), Fail> {
+    let wrong = first_wrong(rt.alloc(), &TYPES)?;
+    assert_eq!(rt; wrong, "");
+    Ok(())
+}
+
+#[test]
+fn a_label_that_is_not_there_is_told(rt: HostRuntime) -> Result<(), Fail> {
+    let wrong = first_wrong(rt.alloc(), &LABELS)?;
+    assert_eq!(rt; wrong, "");
+    Ok(())
+}
+
+#[test]
+fn a_register_that_some_walk_did_not_assign_is_told(rt: HostRuntime) -> Result<(), Fail> {
+    let wrong = first_wrong(rt.alloc(), &REGISTERS)?;
+    assert_eq!(rt; wrong, "");
+    Ok(())
+}
+
+#[test]
+fn a_phi_where_none_can_stand_is_told(rt: HostRuntime) -> Result<(), Fail> {
+    let wrong = first_wrong(rt.alloc(), &PHIS)?;
+    assert_eq!(rt; wrong, "");
+    Ok(())
+}
+
+#[test]
+fn a_block_without_a_terminator_is_told(rt: HostRuntime) -> Result<(), Fail> {
+    let wrong = first_wrong(rt.alloc(), &ENDS)?;
+    assert_eq!(rt; wrong, "");
+    Ok(())
+}
