@@ -22,10 +22,32 @@ const BOTH: &str =
 
 const IMPORT: &str = "declare i32 @do_probe(i64)\n";
 
+/// One function in two fields.
+const TWICE: &str =
+    "%struct.dev_ops = type { ptr, ptr }\n@ops = global %struct.dev_ops { ptr @h, ptr @h }\ndefine i32 @h() {\nret i32 0\n}\n";
+
+/// One function that is stored to the second field, by a register.
+const STORED: &str =
+    "%struct.dev_ops = type { ptr, ptr }\n@ops = global %struct.dev_ops zeroinitializer\ndefine i32 @h() {\n%r = getelementptr %struct.dev_ops, ptr @ops, i32 0, i32 1\nstore ptr @h, ptr %r\nret i32 0\n}\n";
+
+/// Two fields with two slot types, whose functions run as different principals.
+const APART: &str =
+    "interface 1\nslot probe : i32 () principal(shared)\nslot xmit : i32 () principal(global)\nfield %struct.dev_ops 0 : probe\nfield %struct.dev_ops 1 : xmit\n";
+
+/// Two fields with two slot types that agree.
+const ALIKE: &str =
+    "interface 1\nslot probe : i32 () principal(shared)\nslot xmit : i32 () principal(shared)\nfield %struct.dev_ops 0 : probe\nfield %struct.dev_ops 1 : xmit\n";
+
+const OWN_INTERFACE: &str = "lxfi case 1\nkernel none\ninterface file i.txt\nmodule m m.ll\n";
+
+const OWN_KERNEL: &str = "lxfi case 1\nkernel file k.ll\ninterface none\n";
+
+const NOTHING: &str = "lxfi case 1\nkernel none\ninterface none\n";
+
 const PROBE: &str =
     "%struct.dev_ops = type { ptr, ptr }\n@ops = global %struct.dev_ops { ptr @probe, ptr null }\ndefine i32 @probe(ptr %d) {\nret i32 0\n}\n";
 
-static ROWS: [Row; 8] = [
+static ROWS: [Row; 11] = [
     Row(
         "lxfi case 1\nkernel none\ninterface none\nmodule m un.ll\n",
         &[("un.ll", UNASSIGNED)],
@@ -40,6 +62,23 @@ static ROWS: [Row; 8] = [
         "lxfi case 1\nkernel builtin\ninterface builtin\nmodule m imp.ll\n",
         &[("imp.ll", IMPORT)],
         "imp.ll:1: link 2 @do_probe\n",
+    ),
+    // Slot types that differ by their principals alone.
+    Row(
+        OWN_INTERFACE,
+        &[("i.txt", APART), ("m.ll", TWICE)],
+        "m.ll:3: propagate 1 @h probe xmit\n",
+    ),
+    // What the kernel declares is a native, with its parameters.
+    Row(
+        OWN_KERNEL,
+        &[("k.ll", "declare void @k.panic()\n")],
+        "k.ll:1: link 1 @k.panic\n",
+    ),
+    Row(
+        OWN_KERNEL,
+        &[("k.ll", "declare void @k.note()\n")],
+        "k.ll:1: link 3 @k.note\n",
     ),
     // The kernel is verified first.
     Row(
@@ -103,19 +142,72 @@ fn each_check_tells_its_fault(rt: HostRuntime) -> Result<(), Fail> {
 const WHOLE: &str =
     "lxfi case 1\nkernel builtin\ninterface builtin\nmodule m probe.ll\nthread\ncall m:probe 0 fuel 9\n";
 
-fn whole(alloc: Global) -> Result<Input, Fail> {
-    let mut shelf = shelf_with(alloc, WHOLE, &[("probe.ll", PROBE), ("two.txt", "0*2")])?;
-    let input = read_input(alloc, &mut shelf, "one.case", Some("two.txt"))?;
+/// The input of a case without a fault.
+fn linked(
+    alloc: Global,
+    case: &str,
+    files: &[(&str, &str)],
+    schedule: Option<&str>,
+) -> Result<Input, Fail> {
+    let mut shelf = shelf_with(alloc, case, files)?;
+    let input = read_input(alloc, &mut shelf, "one.case", schedule)?;
     Ok(input)
 }
 
 #[test]
 fn a_whole_input_is_linked(rt: HostRuntime) -> Result<(), Fail> {
-    let alloc = rt.alloc();
-    let input = whole(alloc)?;
+    let files = [("probe.ll", PROBE), ("two.txt", "0*2")];
+    let input = linked(rt.alloc(), WHOLE, &files, Some("two.txt"))?;
     assert!(rt; input.program.modules.len() == 1);
     assert!(rt; input.script.len() == 1);
     assert!(rt; input.annotated.len() == 1);
     assert!(rt; input.schedule.is_some());
+    Ok(())
+}
+
+#[test]
+fn without_texts_there_are_the_natives(rt: HostRuntime) -> Result<(), Fail> {
+    let input = linked(rt.alloc(), NOTHING, &[], None)?;
+    assert!(rt; input.program.functions.len() == 6);
+    assert!(rt; input.program.globals.is_empty());
+    Ok(())
+}
+
+/// An interface, a module, and the slot type that the module's function has.
+struct Slotted(&'static str, &'static str, u32);
+
+static SLOT_TYPES: [Slotted; 2] = [
+    // The first of slot types that agree.
+    Slotted(ALIKE, TWICE, 0),
+    Slotted(APART, STORED, 1),
+];
+
+/// Whether one function of the one module has a slot type, and it is function 0 with this one.
+fn is_alone_with(input: &Input, slot: u32) -> bool {
+    match input.annotated.as_slice() {
+        [marks] => match marks.as_slice() {
+            [mark] => mark.function == 0 && mark.slot == slot,
+            _ => false,
+        },
+        _ => false,
+    }
+}
+
+fn gets_its_slot(alloc: Global, row: &Slotted) -> Result<bool, Fail> {
+    let input = linked(
+        alloc,
+        OWN_INTERFACE,
+        &[("i.txt", row.0), ("m.ll", row.1)],
+        None,
+    )?;
+    Ok(is_alone_with(&input, row.2))
+}
+
+#[test]
+fn a_function_has_the_slot_type_of_its_field(rt: HostRuntime) -> Result<(), Fail> {
+    let alloc = rt.alloc();
+    for row in &SLOT_TYPES {
+        assert!(rt; gets_its_slot(alloc, row)?);
+    }
     Ok(())
 }
