@@ -1,9 +1,8 @@
 //! Inputs with faults that the checks find, and one without.
 
 use crate::common::shelf_of;
-use lx_input::{Input, read_input};
+use lx_input::{Input, InputStop, fault_text, read_input};
 use lx_outside::MemShelf;
-use lx_sources::{InputStop, fault_text};
 use lx_words::Name;
 use std::alloc::Global;
 use std::test::Fail;

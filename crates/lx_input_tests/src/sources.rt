@@ -1,8 +1,8 @@
 //! Hostile shelves, with what each comes to.
 
 use crate::common::shelf_of;
+use lx_input::{InputStop, fault_text, read_sources};
 use lx_outside::MemShelf;
-use lx_sources::{InputStop, fault_text, read_sources};
 use lx_words::Name;
 use std::alloc::Global;
 use std::test::Fail;
