@@ -20,7 +20,7 @@ use lx_opening::open_world;
 use lx_plain_runs::run_laws;
 use lx_report::{report, report_laws};
 use lx_tables::image_counts;
-use lx_words::{Items, Memory, Name};
+use lx_words::{Items, Memory, Name, Schedule};
 use lx_world::{EventFault, World};
 use std::alloc::Global;
 
@@ -111,37 +111,73 @@ fn report_of<C: CapStore + Drop>(
 /// Runs the threads one after the other, and reports.
 fn run_world<C: CapStore + Drop>(
     alloc: Global,
-    mut world: World<C>,
+    world: &mut World<C>,
     threads: u32,
     images: Items<ImageCount>,
 ) -> Result<Answer, Memory>
-    requires { (p : Program) × (script : List (List ScriptCall)) × StandsForWorld C.stands p world (opening p script)
+    requires { (p : Program) × (script : List (List ScriptCall)) × StandsForWorld C.stands p world.old (opening p script)
         × IsWellFormed p × (images ≡ images_of p) × (length script ≡ threads) × (length script ≤ 16) }
-    ensures { IfOk result (λ a. (p : Program) (script : List (List ScriptCall)) → StandsForWorld C.stands p world (opening p script)
+    ensures { IfOk result (λ a. (p : Program) (script : List (List ScriptCall)) → StandsForWorld C.stands p world.old (opening p script)
         → length script ≡ threads → TellsRun p script None a) }
 {
     run_laws();
-    run_threads(&mut world, threads)?;
-    report_of(alloc, &world, images)
+    run_threads(world, threads)?;
+    report_of(alloc, world, images)
 }
 
 /// Runs the threads in the order of a schedule, and reports where it is whole.
 fn replay_world<C: CapStore + Drop>(
     alloc: Global,
-    mut world: World<C>,
+    world: &mut World<C>,
     schedule: &[u32],
     images: Items<ImageCount>,
 ) -> Result<Answer, Memory>
-    requires { (p : Program) × (script : List (List ScriptCall)) × StandsForWorld C.stands p world (opening p script)
+    requires { (p : Program) × (script : List (List ScriptCall)) × StandsForWorld C.stands p world.old (opening p script)
         × IsWellFormed p × (images ≡ images_of p) }
-    ensures { IfOk result (λ a. (p : Program) (script : List (List ScriptCall)) → StandsForWorld C.stands p world (opening p script)
+    ensures { IfOk result (λ a. (p : Program) (script : List (List ScriptCall)) → StandsForWorld C.stands p world.old (opening p script)
         → length script ≤ 16 → TellsRun p script (Some schedule.now) a) }
 {
     run_laws();
-    match replay(&mut world, schedule)? {
+    match replay(world, schedule)? {
         Some(entry) => Ok(Answer::Broken(entry)),
-        None => report_of(alloc, &world, images),
+        None => report_of(alloc, world, images),
     }
+}
+
+/// Runs the threads under the schedule that is replayed, or else one after the other, and reports.
+fn run_asked<C: CapStore + Drop>(
+    alloc: Global,
+    world: &mut World<C>,
+    threads: u32,
+    schedule: Option<Schedule>,
+    images: Items<ImageCount>,
+) -> Result<Answer, Memory>
+    requires { (p : Program) × (script : List (List ScriptCall)) × StandsForWorld C.stands p world.old (opening p script)
+        × IsWellFormed p × (images ≡ images_of p) × (length script ≡ threads) × (length script ≤ 16) }
+    ensures { IfOk result (λ a. (p : Program) (script : List (List ScriptCall)) → StandsForWorld C.stands p world.old (opening p script)
+        → length script ≡ threads → length script ≤ 16 → TellsRun p script schedule a) }
+{
+    match schedule {
+        None => run_world(alloc, world, threads, images),
+        Some(schedule) => replay_world(alloc, world, schedule.as_slice(), images),
+    }
+}
+
+/// The same of a world that is given up behind it. A world is dropped nowhere else: each place where one is costs much to
+/// prove, and beside other code more.
+fn run_opened<C: CapStore + Drop>(
+    alloc: Global,
+    mut world: World<C>,
+    threads: u32,
+    schedule: Option<Schedule>,
+    images: Items<ImageCount>,
+) -> Result<Answer, Memory>
+    requires { (p : Program) × (script : List (List ScriptCall)) × StandsForWorld C.stands p world (opening p script)
+        × IsWellFormed p × (images ≡ images_of p) × (length script ≡ threads) × (length script ≤ 16) }
+    ensures { IfOk result (λ a. (p : Program) (script : List (List ScriptCall)) → StandsForWorld C.stands p world (opening p script)
+        → length script ≡ threads → length script ≤ 16 → TellsRun p script schedule a) }
+{
+    run_asked(alloc, &mut world, threads, schedule, images)
 }
 
 /// Runs an input over a store of capabilities, and reports.
@@ -160,10 +196,7 @@ fn run_over<C: CapStore + Drop>(alloc: Global, input: Input, caps: C) -> Result<
     let annotated = annotated.as_slice();
     let images = image_counts(alloc, &program, annotated)?;
     let world = open_world(alloc, program, script.into_vec(), annotated, caps)?;
-    match schedule {
-        None => run_world(alloc, world, threads, images),
-        Some(schedule) => replay_world(alloc, world, schedule.as_slice(), images),
-    }
+    run_opened(alloc, world, threads, schedule, images)
 }
 
 /// Runs an input, under the schedule that is replayed where there is one, and reports.

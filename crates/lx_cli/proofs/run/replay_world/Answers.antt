@@ -17,8 +17,8 @@ report_of-requires g c =
       given.4,
     )
 
-pub returns : goal.returns
-returns g c =
+pub returns-in-None : goal.returns-in-None
+returns-in-None g c =
     if_ok c.report_of.result (λ a said. λ p script stands few.
     let start = opening p script in
     let s = c.args.schedule.now in
