@@ -1,0 +1,110 @@
+-- What the programs of the tests have.
+use Rattle.std.proofs.Common.{◌≡◌, ℕ, zero, suc, ◌≤◌, true, false, None, List, [], ◌∷◌, length, map, IsTrue, refl, sym, ap, subst, arith}
+use Rattle.std.specs.Prelude.{All}
+use Rattle.std.specs.List.{list_all}
+use Rattle.std.proofs.lemmas.Bool.{and_from}
+use Rattle.lx_caps.specs.declared.Act.TheVariants.{Grant}
+use Rattle.lx_caps.specs.declared.Cap.TheVariants.{Call}
+use Rattle.lx_caps.specs.declared.Principal.TheVariants.{Shared}
+use Rattle.lx_code.specs.Reach.{IsWithinReach, CountsActions, is_sized_function, is_sized_module}
+use Rattle.lx_ir.specs.Lawful.{IsLawful}
+use Rattle.lx_ir.specs.declared.module.Function.{Function}
+use Rattle.lx_model.specs.Account.{image_count}
+use Rattle.lx_model.specs.Opening.{opening_history, with_globals}
+use Rattle.lx_model.specs.Program.{annotation_of}
+use Rattle.lx_model.specs.declared.program.Program.{Program}
+use Rattle.lx_model.specs.declared.program.ProgramModule.{ProgramModule}
+use Rattle.lx_propagate.specs.Gets.{below}
+use Rattle.lx_report.specs.Lawful.{HasLawfulModules}
+use Rattle.lx_serve.specs.Sources.{IsLinked, Knows}
+use Rattle.lx_monitor_tests.specs.Programs.{module_with, one_function, silent, one_silent, slotted}
+
+-- programs of one function
+
+sized_alone : (f : Function) → IsTrue (is_sized_function [] f) → IsTrue (is_sized_module (module_with (f ∷ [])))
+sized_alone f sized = and_from (is_sized_function [] f) true sized refl
+
+sized_modules : (f : Function) → IsTrue (is_sized_function [] f) → IsTrue (list_all (λ (m : ProgramModule). is_sized_module m.«module») (one_function f).modules)
+sized_modules f sized = and_from (is_sized_module (module_with (f ∷ []))) true (sized_alone f sized) refl
+
+within_reach : (f : Function) → IsTrue (is_sized_function [] f) → IsWithinReach (one_function f)
+within_reach f sized = record { functions = omega arith; slots = omega arith; kernel = refl; modules = sized_modules f sized }
+
+pub is_within_reach : (p : Program) (f : Function) → p ≡ one_function f → IsTrue (is_sized_function [] f) → IsWithinReach p
+is_within_reach p f is sized = subst IsWithinReach (sym is) (within_reach f sized)
+
+counted : (f : Function) → CountsActions (one_function f) []
+counted f zero true = refl
+counted f zero false = refl
+counted f (suc n) true = refl
+counted f (suc n) false = refl
+
+pub counts_none : (p : Program) (f : Function) → p ≡ one_function f → CountsActions p []
+counts_none p f is = subst (λ (q : Program). CountsActions q []) (sym is) (counted f)
+
+-- the program of a function that has no instruction
+
+pub silent_within_reach : (p : Program) → p ≡ one_silent → IsWithinReach p
+silent_within_reach p is = is_within_reach p silent is refl
+
+pub silent_counts : (p : Program) → p ≡ one_silent → CountsActions p []
+silent_counts p is = counts_none p silent is
+
+pub silent_blank : (p : Program) → p ≡ one_silent → with_globals p p.globals [] ≡ []
+silent_blank p is = ap (λ (q : Program). with_globals q q.globals []) is
+
+pub silent_owns : (p : Program) → p ≡ one_silent → opening_history p ≡ Grant (Shared 0) (Call 0x10000) ∷ []
+silent_owns p is = ap opening_history is
+
+silent_bare : (n : ℕ) → annotation_of one_silent n ≡ None
+silent_bare zero = refl
+silent_bare (suc n) = refl
+
+pub silent_known : (p : Program) → p ≡ one_silent → Knows p []
+silent_known p is = subst (λ (q : Program). Knows q []) (sym is) (λ n. sym (silent_bare n))
+
+pub silent_linked : (p : Program) → p ≡ one_silent → IsLinked p
+silent_linked p is = subst IsLinked (sym is) (record { iterators = λ k. omega arith; functions = omega arith })
+
+pub silent_images : (p : Program) → p ≡ one_silent → record { guards = 0; checks = 0; wrappers = 0 } ∷ [] ≡ map (image_count p) (below (length p.modules))
+silent_images p is = sym (ap (λ (q : Program). map (image_count q) (below (length q.modules))) is)
+
+-- the program with a slot type
+
+pub slotted_blank : (p : Program) → p ≡ slotted → with_globals p p.globals [] ≡ []
+slotted_blank p is = ap (λ (q : Program). with_globals q q.globals []) is
+
+pub slotted_owns : (p : Program) → p ≡ slotted → opening_history p ≡ []
+slotted_owns p is = ap opening_history is
+
+slotted_bare : (n : ℕ) → annotation_of slotted n ≡ None
+slotted_bare zero = refl
+slotted_bare (suc n) = refl
+
+pub slotted_known : (p : Program) → p ≡ slotted → Knows p []
+slotted_known p is = subst (λ (q : Program). Knows q []) (sym is) (λ n. sym (slotted_bare n))
+
+pub slotted_linked : (p : Program) → p ≡ slotted → IsLinked p
+slotted_linked p is = subst IsLinked (sym is) (record { iterators = λ k. omega arith; functions = omega arith })
+
+-- programs of a module that has nothing
+
+empty_is_lawful : IsLawful (module_with [])
+empty_is_lawful = record {
+  types_once = refl;
+  symbols_once = refl;
+  types = refl;
+  globals = refl;
+  functions = refl;
+  imports_first = refl;
+  few_types = omega arith;
+  few_globals = omega arith;
+  few_functions = omega arith;
+}
+
+one_lawful : (name : List ℕ) → All (λ (m : ProgramModule). IsLawful m.«module») (record { name = name; «module» = module_with [] } ∷ [])
+one_lawful name zero d below = empty_is_lawful
+one_lawful name (suc k) d below = absurd (omega (arith, below))
+
+pub has_lawful_modules : (p : Program) (name : List ℕ) → p.modules ≡ record { name = name; «module» = module_with [] } ∷ [] → HasLawfulModules p
+has_lawful_modules p name is = subst (All (λ (m : ProgramModule). IsLawful m.«module»)) (sym is) (one_lawful name)

@@ -1,0 +1,54 @@
+-- The programs of the tests: a kernel and one module, which have no types and no globals.
+use Rattle.std.specs.Prelude.{ℕ, Option, Some, None, List, [], ◌∷◌}
+use Rattle.lx_annot.specs.declared.expr.Ty.TheVariants as ty
+use Rattle.lx_annot.specs.declared.interface.Interface.{Interface}
+use Rattle.lx_annot.specs.declared.interface.Slot.{Slot}
+use Rattle.lx_ir.specs.declared.module.Function.{Function}
+use Rattle.lx_ir.specs.declared.module.Module.{Module}
+use Rattle.lx_ir.specs.declared.types.Scalar.{Scalar}
+use Rattle.lx_model.specs.Program.{no_annotation}
+use Rattle.lx_model.specs.declared.program.Program.{Program}
+use Rattle.lx_model.specs.declared.program.ProgramFunction.TheVariants.{Of}
+
+-- a function without parameters that has no instruction
+abbrev pub function_with : List ℕ → Option Scalar → Function
+function_with name ret = record { name = name; params = []; locals = []; ret = ret; blocks = Some []; line = 1 }
+
+abbrev pub silent : Function
+silent = function_with [] None
+
+-- a module of functions alone
+abbrev pub module_with : List Function → Module
+module_with fs = record { types = []; globals = []; functions = fs }
+
+-- an interface of reference types and slot types alone
+abbrev pub interface_with : List (List ℕ) → List Slot → Interface
+interface_with reftypes slots = record { reftypes = reftypes; iterators = []; slots = slots; fields = []; exports = [] }
+
+-- a program of one function, which its module defines
+abbrev pub one_function : Function → Program
+one_function f = record {
+  kernel = module_with [];
+  modules = record { name = []; «module» = module_with (f ∷ []) } ∷ [];
+  functions = Of (Some 0) 0 ∷ [];
+  globals = [];
+  interface = interface_with [] [];
+}
+
+-- a program of one function that has no instruction
+abbrev pub one_silent : Program
+one_silent = one_function silent
+
+-- a slot type of functions without parameters, and without an annotation
+abbrev pub plain_slot : Slot
+plain_slot = record { name = []; params = []; ret = ty.Void; annotation = no_annotation; line = 1 }
+
+-- a program of one function of the kernel, one slot type, and a module that has nothing
+abbrev pub slotted : Program
+slotted = record {
+  kernel = module_with (silent ∷ []);
+  modules = record { name = []; «module» = module_with [] } ∷ [];
+  functions = Of None 0 ∷ [];
+  globals = [];
+  interface = interface_with [] (plain_slot ∷ []);
+}

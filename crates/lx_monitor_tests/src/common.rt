@@ -1,0 +1,117 @@
+//! Small programs, built by hand: a kernel and one module, which have no types and no globals.
+ghost use Rattle.std.specs.Prelude.{◌≡◌, ◌∷◌, [], IfOk};
+ghost use Rattle.lx_caps.specs.History.{History};
+ghost use Rattle.lx_model.specs.Opening.{opening_history, opening_state, with_globals};
+ghost use Rattle.lx_monitor_tests.specs.Programs.{function_with, interface_with, module_with, one_function};
+ghost use Rattle.lx_serve.specs.Sources.{Knows};
+ghost use Rattle.lx_serve.specs.Stands.{StandsForState};
+ghost use Rattle.lx_writers.specs.Stands.{StandsRecorded};
+
+use lx_annot::interface::{Interface, Slot};
+use lx_caps::CapStore;
+use lx_ir::module::{Function, Module};
+use lx_ir::types::Scalar;
+use lx_memory::Space;
+use lx_model::program::{Program, ProgramFunction, ProgramModule, ScriptCall};
+use lx_serve::SharedPart;
+use lx_words::{Items, Memory, Name, Names};
+use lx_writers::Recorded;
+use std::alloc::Global;
+use std::test::Fail;
+
+/// A function without parameters that has no instruction.
+pub fn function_with(alloc: Global, name: Name, ret: Option<Scalar>) -> Function
+    ensures { result ≡ function_with name ret }
+{
+    Function {
+        name,
+        params: Items::new(alloc),
+        locals: Items::new(alloc),
+        ret,
+        blocks: Some(Items::new(alloc)),
+        line: 1,
+    }
+}
+
+/// A module of functions alone.
+pub fn module_with(alloc: Global, functions: Vec<Function>) -> Module
+    ensures { result ≡ module_with functions.items }
+{
+    Module {
+        types: Items::new(alloc),
+        globals: Items::new(alloc),
+        functions: Items::from_vec(functions),
+    }
+}
+
+/// The one module of a program.
+pub fn modules_with(
+    alloc: Global,
+    name: Name,
+    functions: Vec<Function>,
+) -> Result<Items<ProgramModule>, Memory>
+    ensures { IfOk result (λ modules. modules ≡ record { name = name; «module» = module_with functions.items } ∷ []) }
+{
+    let module = module_with(alloc, functions);
+    let modules = vec![in alloc; ProgramModule { name, module }]?;
+    Ok(Items::from_vec(modules))
+}
+
+/// An interface of reference types and slot types alone.
+pub fn interface_with(alloc: Global, reftypes: Names, slots: Items<Slot>) -> Interface
+    ensures { result ≡ interface_with reftypes slots }
+{
+    Interface {
+        reftypes,
+        iterators: Items::new(alloc),
+        slots,
+        fields: Items::new(alloc),
+        exports: Items::new(alloc),
+    }
+}
+
+/// A program of one function, which its module defines.
+pub fn one_function(alloc: Global, function: Function) -> Result<Program, Memory>
+    ensures { IfOk result (λ p. p ≡ one_function function) }
+{
+    let functions = vec![in alloc; function]?;
+    let modules = modules_with(alloc, Items::new(alloc), functions)?;
+    let first = ProgramFunction::Of {
+        module: Some(0),
+        function: 0,
+    };
+    let numbers = vec![in alloc; first]?;
+    Ok(Program {
+        kernel: module_with(alloc, Vec::new(alloc)),
+        modules,
+        functions: Items::from_vec(numbers),
+        globals: Items::new(alloc),
+        interface: interface_with(alloc, Items::new(alloc), Items::new(alloc)),
+    })
+}
+
+/// A call of function 0 with this fuel.
+pub fn call_with(alloc: Global, fuel: u32) -> ScriptCall {
+    ScriptCall {
+        function: 0,
+        args: Items::new(alloc),
+        fuel,
+    }
+}
+
+/// What threads share before the first call of a program without globals and annotations, with room for thirty events.
+#[tactic(auto, unfolding(lx_actions::specs::Shown::IsShownBy))]
+pub fn part_of<C: CapStore + Drop>(
+    alloc: Global,
+    program: &Program,
+    caps: Recorded<C>,
+) -> Result<SharedPart<C>, Fail>
+    requires written { with_globals program.now program.now.globals [] ≡ [] }
+    requires owned { StandsRecorded C.stands caps (opening_history program.now) }
+    requires known { Knows program.now [] }
+    ensures { IfOk result (λ part. StandsForState C.stands program.now part (opening_state program.now)) }
+{
+    let space = Space::new(alloc)?;
+    let part = SharedPart::open(alloc, program, space, caps, Vec::new(alloc), 30)?;
+    Ok(part)
+}

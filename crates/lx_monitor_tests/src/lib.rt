@@ -1,0 +1,17 @@
+//! Tests of what runs and watches a program: its code, its steps, its runner, its requests, its world and its report.
+#![tactic(auto)]
+
+#[cfg(test)]
+mod code;
+#[cfg(test)]
+mod common;
+#[cfg(test)]
+mod report;
+#[cfg(test)]
+mod requests;
+#[cfg(test)]
+mod runner;
+#[cfg(test)]
+mod steps;
+#[cfg(test)]
+mod world;

@@ -1,0 +1,173 @@
+//! A whole report, with ample memory.
+ghost use Rattle.std.specs.Prelude.{IfOk};
+ghost use Rattle.lx_report.specs.Lawful.{HasLawfulModules};
+
+use crate::common::{function_with, interface_with, module_with, modules_with};
+use lx_annot::interface::Interface;
+use lx_caps::{Cap, Principal};
+use lx_ir::module::Module;
+use lx_ir::types::Scalar;
+use lx_model::account::{Account, CallOutcome, ImageCount, InstanceName, Note, Owned};
+use lx_model::program::{Program, ProgramFunction};
+use lx_model::request::{Outcome, Refusal};
+use lx_report::report;
+use lx_words::{Items, Memory, Name, Width, Word};
+use std::alloc::{AllocError, Global};
+use std::test::Fail;
+
+/// Two threads race for a packet: one sends it, and the other one pokes it too late.
+const RACED: &str = "schedule 0*2 1*1 0*1\n\
+call 0.0 kernel:make returned\n\
+call 0.1 kernel:send returned -1\n\
+call 1.0 kernel:poke refused 1 m.shared write 0x2000040+1\n\
+note 0 8\n\
+image m guards 3 checks 0 wrappers 2\n\
+owns m.shared write 0x10000e0+8\n\
+owns m.shared call 0x100d0\n\
+owns m[0x1000020] ref device 0x1000020\n";
+
+const SHARED: Principal = Principal::Shared(0);
+
+/// The numbers of the kernel's functions, behind a native.
+static NUMBERS: [ProgramFunction; 4] = [
+    ProgramFunction::Native(0),
+    ProgramFunction::Of {
+        module: None,
+        function: 0,
+    },
+    ProgramFunction::Of {
+        module: None,
+        function: 1,
+    },
+    ProgramFunction::Of {
+        module: None,
+        function: 2,
+    },
+];
+
+static NOTES: [Note; 1] = [Note {
+    thread: 0,
+    value: 8,
+}];
+
+static IMAGES: [ImageCount; 1] = [ImageCount {
+    guards: 3,
+    checks: 0,
+    wrappers: 2,
+}];
+
+static OWNERS: [Owned; 3] = [
+    Owned {
+        who: SHARED,
+        cap: Cap::Write {
+            at: 0x10000e0,
+            size: 8,
+        },
+    },
+    Owned {
+        who: SHARED,
+        cap: Cap::Call { at: 0x100d0 },
+    },
+    Owned {
+        who: Principal::Inst(0, 0),
+        cap: Cap::Ref {
+            ty: 0,
+            at: 0x1000020,
+        },
+    },
+];
+
+static NAMES: [InstanceName; 1] = [InstanceName {
+    module: 0,
+    instance: 0,
+    value: 0x1000020,
+}];
+
+fn name(alloc: Global, text: &str) -> Result<Name, AllocError> {
+    Items::from_bytes(alloc, text.as_bytes())
+}
+
+fn kernel(alloc: Global) -> Result<Module, Memory> {
+    let mut functions = Vec::new(alloc);
+    for (text, ret) in [
+        ("send", Some(Scalar::Int(Width::W32))),
+        ("make", None),
+        ("poke", None),
+    ] {
+        functions.push(function_with(alloc, name(alloc, text)?, ret))?;
+    }
+    Ok(module_with(alloc, functions))
+}
+
+fn interface(alloc: Global) -> Result<Interface, Memory> {
+    let device = name(alloc, "device")?;
+    let reftypes = vec![in alloc; device]?;
+    Ok(interface_with(alloc, Items::from_vec(reftypes), Items::new(alloc)))
+}
+
+#[tactic(auto, using(crate::proofs::Programs::has_lawful_modules))]
+fn program(alloc: Global) -> Result<Program, Memory>
+    ensures { IfOk result HasLawfulModules }
+{
+    let kernel = kernel(alloc)?;
+    let m = name(alloc, "m")?;
+    let modules = modules_with(alloc, m, Vec::new(alloc))?;
+    let functions = Items::from_slice(alloc, &NUMBERS)?;
+    let interface = interface(alloc)?;
+    Ok(Program {
+        kernel,
+        modules,
+        functions,
+        globals: Items::new(alloc),
+        interface,
+    })
+}
+
+fn outcomes(alloc: Global) -> Result<Items<CallOutcome>, AllocError> {
+    let minus_one = Word {
+        width: Width::W32,
+        bits: 0xffff_ffff,
+    };
+    let late = Refusal::Write {
+        who: SHARED,
+        at: 0x2000040,
+        size: 1,
+    };
+    let calls = [
+        CallOutcome {
+            thread: 0,
+            function: 2,
+            outcome: Outcome::Returned(None),
+        },
+        CallOutcome {
+            thread: 0,
+            function: 1,
+            outcome: Outcome::Returned(Some(minus_one)),
+        },
+        CallOutcome {
+            thread: 1,
+            function: 3,
+            outcome: Outcome::Refused(late),
+        },
+    ];
+    Items::from_slice(alloc, &calls)
+}
+
+fn account(alloc: Global) -> Result<Account, AllocError> {
+    Ok(Account {
+        schedule: Items::from_slice(alloc, &[0, 0, 1, 0])?,
+        outcomes: outcomes(alloc)?,
+        notes: Items::from_slice(alloc, &NOTES)?,
+        images: Items::from_slice(alloc, &IMAGES)?,
+        owners: Items::from_slice(alloc, &OWNERS)?,
+        names: Items::from_slice(alloc, &NAMES)?,
+    })
+}
+
+#[test]
+fn a_report_of_two_threads(rt: HostRuntime) -> Result<(), Fail> {
+    let alloc = rt.alloc();
+    let text = report(alloc, &account(alloc)?, &program(alloc)?)?;
+    assert_eq!(rt; text.as_slice(), RACED.as_bytes());
+    Ok(())
+}

@@ -1,0 +1,153 @@
+//! A small world, event by event.
+ghost use Rattle.std.specs.Prelude.{◌≡◌, [], IfOk, length};
+ghost use Rattle.lx_model.specs.Opening.{opening_state};
+ghost use Rattle.lx_model.specs.World.{World as Meaning};
+ghost use Rattle.lx_monitor_tests.specs.Programs.{one_silent};
+ghost use Rattle.lx_serve.specs.Stands.{StandsForState};
+ghost use Rattle.lx_world.specs.Worlds.{StandsForWorld};
+
+use crate::common::{call_with, function_with, one_function, part_of};
+use lx_caps::{Cap, CapStore, PlainCaps, Principal};
+use lx_code::Code;
+use lx_model::account::{Account, CallOutcome, ImageCount, Owned};
+use lx_model::program::{Calls, Program};
+use lx_model::request::{Outcome, Trap};
+use lx_serve::SharedPart;
+use lx_words::{Items, Memory};
+use lx_world::{EventFault, World};
+use lx_writers::Recorded;
+use std::alloc::Global;
+use std::process::Abort;
+use std::test::Fail;
+
+/// A program of one module with one function, at 0x10000, that has no instruction, so that a call of it traps at its start.
+fn program(alloc: Global) -> Result<Program, Memory>
+    ensures { IfOk result (λ p. p ≡ one_silent) }
+{
+    let function = function_with(alloc, Items::new(alloc), None);
+    let program = one_function(alloc, function)?;
+    Ok(program)
+}
+
+/// What its threads share before the first call: the module owns the call of its function, and there is room for three
+/// calls of nine units of fuel.
+#[tactic(auto, using(crate::proofs::Programs::silent_blank, crate::proofs::Programs::silent_known))]
+fn shared<C: CapStore + Drop>(
+    alloc: Global,
+    program: &Program,
+    caps: C,
+) -> Result<SharedPart<C>, Fail>
+    requires tested { program.now ≡ one_silent }
+    requires new { C.stands caps [] }
+    ensures { IfOk result (λ part. StandsForState C.stands program.now part (opening_state program.now)) }
+{
+    let mut caps = Recorded::new(alloc, caps);
+    caps.reserve(1)?;
+    caps.grant(Principal::Shared(0), Cap::Call { at: 0x10000 });
+    let part = part_of(alloc, program, caps)?;
+    Ok(part)
+}
+
+/// A thread with two calls, and one with one.
+fn script(alloc: Global) -> Result<Vec<Calls>, Memory>
+    ensures { IfOk result (λ script. length script.items ≡ 2) }
+{
+    let first = vec![in alloc; call_with(alloc, 9), call_with(alloc, 9)]?;
+    let second = vec![in alloc; call_with(alloc, 9)]?;
+    let script = vec![in alloc; Items::from_vec(first), Items::from_vec(second)]?;
+    Ok(script)
+}
+
+#[tactic(auto, using(crate::proofs::Programs::silent_linked, crate::proofs::Programs::silent_within_reach, crate::proofs::Programs::silent_counts))]
+fn world<C: CapStore + Drop>(alloc: Global, caps: C) -> Result<World<C>, Fail>
+    requires { C.stands caps [] }
+    ensures { IfOk result (λ world. (w : Meaning) × StandsForWorld C.stands one_silent world w) }
+{
+    let program = program(alloc)?;
+    let shared = shared(alloc, &program, caps)?;
+    let code = Code::new(alloc, program, Vec::new(alloc));
+    let script = script(alloc)?;
+    let world = World::open(alloc, code, script, shared)?;
+    Ok(world)
+}
+
+/// One event.
+fn act<C: CapStore + Drop>(world: &mut World<C>, thread: u32) -> Result<(), EventFault>
+    requires { (w : Meaning) × StandsForWorld C.stands one_silent world.old w }
+    ensures { (w : Meaning) × StandsForWorld C.stands one_silent world.new w }
+{
+    match world.event(thread) {
+        Ok(()) => Ok(()),
+        Err(fault) => Err(fault),
+    }
+}
+
+/// All events that there are: of each call its start and its end.
+fn run<C: CapStore + Drop>(rt: &impl Abort, world: &mut World<C>) -> Result<(), EventFault>
+    requires { (w : Meaning) × StandsForWorld C.stands one_silent world.old w }
+    ensures { (w : Meaning) × StandsForWorld C.stands one_silent world.new w }
+{
+    act(world, 1)?;
+    act(world, 0)?;
+    act(world, 0)?;
+    act(world, 1)?;
+    let idle = act(world, 1);
+    assert!(rt; matches!(idle, Err(EventFault::NoWork { thread: 1 })));
+    assert!(rt; !world.done());
+    act(world, 0)?;
+    act(world, 0)?;
+    assert!(rt; world.done());
+    Ok(())
+}
+
+/// The call of the function, by a thread, came to its end without an instruction.
+fn is_trapped(call: &CallOutcome, thread: u32) -> bool {
+    call.thread == thread && matches!(call.outcome, Outcome::Trapped(Trap::Unreachable))
+}
+
+fn is_call(owned: &Owned) -> bool {
+    matches!(
+        *owned,
+        Owned {
+            who: Principal::Shared(0),
+            cap: Cap::Call { at: 0x10000 }
+        }
+    )
+}
+
+fn check_account(rt: &impl Abort, account: &Account) {
+    assert_eq!(rt; account.schedule.as_slice(), &[1, 0, 0, 1, 0, 0][..]);
+    let outcomes = account.outcomes.as_slice();
+    assert_eq!(rt; outcomes.len(), 3);
+    assert!(rt; is_trapped(&outcomes[0], 0) && is_trapped(&outcomes[2], 1));
+    assert_eq!(rt; account.owners.len(), 1);
+    assert!(rt; account.owners.as_slice().iter().all(|owned| is_call(owned)));
+}
+
+#[tactic(auto, using(crate::proofs::Programs::silent_images))]
+fn report<C: CapStore + Drop>(
+    rt: &impl Abort,
+    alloc: Global,
+    world: &World<C>,
+) -> Result<(), Memory>
+    requires { (w : Meaning) × StandsForWorld C.stands one_silent world.now w }
+{
+    let none = ImageCount {
+        guards: 0,
+        checks: 0,
+        wrappers: 0,
+    };
+    let images = Items::from_vec(vec![in alloc; none]?);
+    let account = world.account(alloc, images)?;
+    check_account(rt, &account);
+    Ok(())
+}
+
+#[test]
+fn events_make_the_account(rt: HostRuntime) -> Result<(), Fail> {
+    let alloc = rt.alloc();
+    let mut world = world(alloc, PlainCaps::new(alloc))?;
+    run(&rt, &mut world)?;
+    report(&rt, alloc, &world)?;
+    Ok(())
+}
