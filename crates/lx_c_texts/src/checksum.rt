@@ -1,4 +1,5 @@
-//! The checksum of the Internet protocols: `examples/c/checksum.ll`.
+//! The checksum of the Internet protocols.
+//! Written by `tools/example-texts` from `examples/c/checksum.ll`.
 
 /// The text that clang printed for `examples/c/checksum.c`.
 pub const CHECKSUM: &str = r#"; ModuleID = 'checksum.c'

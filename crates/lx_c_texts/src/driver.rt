@@ -1,4 +1,5 @@
-//! A tiny driver with a table of operations: `examples/c/driver.ll`.
+//! A tiny driver with a table of operations.
+//! Written by `tools/example-texts` from `examples/c/driver.ll`.
 
 /// The text that clang printed for `examples/c/driver.c`.
 pub const DRIVER: &str = r#"; ModuleID = 'driver.c'

@@ -1,5 +1,5 @@
-//! A kernel with one device, which calls its driver through a table of operations: `examples/driver_kernel.ll` and
-//! `examples/driver.txt`.
+//! A kernel with one device, which calls its driver through a table of operations.
+//! Written by `tools/example-texts` from `examples/driver_kernel.ll`, `examples/driver.txt`.
 
 /// The kernel.
 pub const KERNEL: &str =

@@ -1,4 +1,5 @@
-//! A ring buffer of bytes: `examples/c/ring.ll`.
+//! A ring buffer of bytes.
+//! Written by `tools/example-texts` from `examples/c/ring.ll`.
 
 /// The text that clang printed for `examples/c/ring.c`.
 pub const RING: &str = r#"; ModuleID = 'ring.c'

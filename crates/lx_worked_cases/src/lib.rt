@@ -2,8 +2,22 @@
 #![tactic(auto)]
 
 #[cfg(test)]
-mod rows;
+mod c_files;
+#[cfg(test)]
+mod files;
+#[cfg(test)]
+mod limits;
+#[cfg(test)]
+mod network_card;
+#[cfg(test)]
+mod over_kernels;
+#[cfg(test)]
+mod plain;
+#[cfg(test)]
+mod replayed;
+#[cfg(test)]
+mod row;
+#[cfg(test)]
+mod run;
 #[cfg(test)]
 mod tests;
-#[cfg(test)]
-mod texts;

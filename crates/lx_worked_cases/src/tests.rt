@@ -1,105 +1,18 @@
 //! The cases are run, and what they write and their status are compared.
 
-use crate::rows::{FAULTY, MEMORY, OWN_KERNELS, PLAIN, PRINCIPALS, REPLAYED, Row, SLOTS, Wanted};
-use crate::texts::TEXTS;
-use lx_cli::lxfi;
-use lx_outside::{MemShelf, MemSink, OpenGate};
-use std::alloc::Global;
-use std::sync::Wait;
+use crate::c_files::C_FILES;
+use crate::files::ONE_CASE;
+use crate::limits::LIMITS;
+use crate::network_card::NETWORK_CARD;
+use crate::over_kernels::{MEMORY, OWN_KERNELS, PRINCIPALS, SLOTS};
+use crate::plain::{FAULTY, PLAIN};
+use crate::replayed::REPLAYED;
+use crate::run::{first_wrong, run_words, shelf_of, sink_of};
+use lx_outside::{MemShelf, MemSink};
 use std::test::Fail;
-use std::thread::Threads;
-
-const ONE_CASE: &str =
-    "lxfi case 1\nkernel none\ninterface none\nmodule m one.ll\nthread\ncall m:main fuel 4\n";
 
 const USAGE: &str =
     "usage: lxfi_run run CASE | replay CASE SCHEDULE | instrument CASE MODULE | check CASE MODULE IMAGE | generate N\n";
-
-/// A shelf with the files that worked cases name.
-fn shelf_of(alloc: Global) -> Result<MemShelf, Fail> {
-    let mut shelf = MemShelf::new(alloc, Vec::new(alloc));
-    for (name, text) in &TEXTS {
-        shelf.put_file(alloc, name, text.as_bytes())?;
-    }
-    shelf.put_file(alloc, "one.case", ONE_CASE.as_bytes())?;
-    Ok(shelf)
-}
-
-fn sink_of(alloc: Global) -> Result<MemSink, Fail> {
-    let sink = MemSink::new(alloc, Vec::new(alloc), 4096)?;
-    Ok(sink)
-}
-
-fn run_words<R: Threads + Wait + Sync>(
-    rt: &R,
-    alloc: Global,
-    words: &[&str],
-    shelf: &mut MemShelf,
-    sink: &mut MemSink,
-) -> Result<u8, Fail> {
-    let mut texts = Vec::new(alloc);
-    for word in words {
-        texts.push(String::from_str(alloc, word)?)?;
-    }
-    Ok(lxfi(rt, alloc, &texts, shelf, sink, &OpenGate))
-}
-
-fn put_case(alloc: Global, row: &Row, shelf: &mut MemShelf) -> Result<(), Fail> {
-    let kernel = row.kernel;
-    let interface = row.interface;
-    let file = row.file;
-    let threads = row.threads;
-    let case = format!(in alloc;
-        "lxfi case 1\nkernel {kernel}\ninterface {interface}\nmodule m {file}\n{threads}"
-    )?;
-    shelf.put_file(alloc, "row.case", case.as_bytes())?;
-    shelf.put_file(alloc, "row.schedule", row.schedule.as_bytes())?;
-    Ok(())
-}
-
-/// The words of a row: it is run, or replayed under its schedule.
-fn words_of(row: &Row) -> &'static [&'static str] {
-    if row.schedule.is_empty() {
-        &["run", "row.case"]
-    } else {
-        &["replay", "row.case", "row.schedule"]
-    }
-}
-
-fn has_line(text: &str, line: &str) -> bool {
-    text.lines().any(|other| other == line)
-}
-
-fn is_wanted(text: &str, wanted: &Wanted) -> bool {
-    match wanted {
-        Wanted::Whole(whole) => text == *whole,
-        Wanted::Lines(lines, pieces) => {
-            lines.lines().all(|line| has_line(text, line))
-                && pieces.lines().all(|piece| !text.contains(piece))
-        }
-    }
-}
-
-/// What the first row writes that does not write what is wanted, behind its name and its status, or nothing.
-fn first_wrong<R: Threads + Wait + Sync>(
-    rt: &R,
-    alloc: Global,
-    rows: &[Row],
-) -> Result<String, Fail> {
-    let mut shelf = shelf_of(alloc)?;
-    for row in rows {
-        put_case(alloc, row, &mut shelf)?;
-        let mut sink = sink_of(alloc)?;
-        let status = run_words(rt, alloc, words_of(row), &mut shelf, &mut sink)?;
-        let text = String::from_utf8_lossy(alloc, sink.bytes.as_slice())?;
-        if status != row.status || !is_wanted(text.as_str(), &row.wanted) {
-            let name = row.name;
-            let line = format!(in alloc; "{name}: {status}: {text}")?;
-            return Ok(line);
-        }
-    }
-    Ok(String::new(alloc))
-}
 
 #[test]
 fn plain_cases(rt: HostRuntime) -> Result<(), Fail> {
@@ -146,6 +59,27 @@ fn replayed_cases(rt: HostRuntime) -> Result<(), Fail> {
 #[test]
 fn faulty_cases(rt: HostRuntime) -> Result<(), Fail> {
     let wrong = first_wrong(&rt, rt.alloc(), &FAULTY)?;
+    assert_eq!(rt; wrong.as_str(), "");
+    Ok(())
+}
+
+#[test]
+fn c_files_return_what_c_returns(rt: HostRuntime) -> Result<(), Fail> {
+    let wrong = first_wrong(&rt, rt.alloc(), &C_FILES)?;
+    assert_eq!(rt; wrong.as_str(), "");
+    Ok(())
+}
+
+#[test]
+fn machines_at_their_limits(rt: HostRuntime) -> Result<(), Fail> {
+    let wrong = first_wrong(&rt, rt.alloc(), &LIMITS)?;
+    assert_eq!(rt; wrong.as_str(), "");
+    Ok(())
+}
+
+#[test]
+fn a_network_card_writes_the_reports_beside_its_cases(rt: HostRuntime) -> Result<(), Fail> {
+    let wrong = first_wrong(&rt, rt.alloc(), &NETWORK_CARD)?;
     assert_eq!(rt; wrong.as_str(), "");
     Ok(())
 }

@@ -1,16 +1,12 @@
-//! The cases, and what is written of each.
+//! Modules that clang printed of C files.
 
-/// A case that is run: its file, its status, and all that it writes.
-pub struct Row {
-    pub case: &'static str,
-    pub status: u8,
-    pub written: &'static str,
-}
+use crate::row::{Row, Wanted};
 
 /// The C files of `examples/c`. What the calls return is what gcc's program of the same C prints, with a `main` that makes
 /// the same calls, and with `kmalloc`, `kfree` and `device_register` over `malloc` and `free` for the driver.
 pub static C_FILES: [Row; 2] = [
     Row {
+        name: "a ring and a checksum",
         case: "lxfi case 1
 kernel none
 interface none
@@ -55,8 +51,10 @@ call sum:checksum_of_packet fuel 10000
 call sum:checksum &sum:packet 7 fuel 10000
 call sum:checksum &sum:packet 20 fuel 10000
 ",
+        schedule: "",
         status: 0,
-        written: "schedule 0*1847
+        wanted: Wanted::Whole(
+            "schedule 0*1847
 call 0.0 ring:ring_sum returned 35
 call 0.1 ring:ring_sum returned 210
 call 0.2 ring:ring_put returned 0
@@ -105,8 +103,10 @@ owns sum.shared call 0x100a0
 owns sum.shared call 0x100b0
 owns sum.shared call 0x100c0
 ",
+        ),
     },
     Row {
+        name: "a driver behind slots",
         case: "lxfi case 1
 kernel file driver_kernel.ll
 interface file driver.txt
@@ -131,8 +131,10 @@ call kernel:written fuel 1000
 call kernel:do_close fuel 1000
 call kernel:users fuel 1000
 ",
+        schedule: "",
         status: 0,
-        written: "schedule 0*364
+        wanted: Wanted::Whole(
+            "schedule 0*364
 call 0.0 driver:driver_init returned 0
 call 0.1 driver:driver_init returned -16
 call 0.2 kernel:do_open returned 0
@@ -161,70 +163,6 @@ owns driver.shared call 0x10100
 owns driver.shared call 0x10110
 owns driver.shared call 0x10120
 ",
-    },
-];
-
-/// Modules at the limits of the machine: 256 frames and no more, a loop of a million instructions with just enough fuel,
-/// the last unit of fuel, and where the bytes of the stack of the second thread lie.
-pub static LIMITS: [Row; 3] = [
-    Row {
-        case: "lxfi case 1
-kernel none
-interface none
-module m down.ll
-thread
-call m:down 255 fuel 2000
-call m:down 256 fuel 2000
-call m:ever fuel 256
-call m:ever fuel 257
-",
-        status: 1,
-        written: "schedule 0*264
-call 0.0 m:down returned 255
-call 0.1 m:down trap 5
-call 0.2 m:ever budget
-call 0.3 m:ever trap 5
-image m guards 0 checks 0 wrappers 0
-owns m.shared call 0x10060
-owns m.shared call 0x10070
-",
-    },
-    Row {
-        case: "lxfi case 1
-kernel none
-interface none
-module m loop.ll
-thread
-call m:loop 333333 fuel 1000002
-call m:loop 2 fuel 9
-call m:loop 2 fuel 8
-",
-        status: 1,
-        written: "schedule 0*8
-call 0.0 m:loop returned 333333
-call 0.1 m:loop returned 2
-call 0.2 m:loop budget
-image m guards 0 checks 0 wrappers 0
-owns m.shared call 0x10060
-",
-    },
-    Row {
-        case: "lxfi case 1
-kernel none
-interface none
-module m stack.ll
-thread
-thread
-call m:byte fuel 100
-call m:word fuel 100
-",
-        status: 0,
-        written: "schedule 1*10
-call 1.0 m:byte returned 0x3010000
-call 1.1 m:word returned 0x3010008
-image m guards 0 checks 0 wrappers 0
-owns m.shared call 0x10060
-owns m.shared call 0x10070
-",
+        ),
     },
 ];

@@ -1,0 +1,104 @@
+//! The program is run over memory.
+
+use crate::files::{C_TEXTS, File, NETWORK_TEXTS, SMALL_TEXTS};
+use crate::row::{Row, Wanted};
+use lx_cli::lxfi;
+use lx_outside::{MemShelf, MemSink, OpenGate};
+use std::alloc::Global;
+use std::sync::Wait;
+use std::test::Fail;
+use std::thread::Threads;
+
+fn put_files(alloc: Global, shelf: &mut MemShelf, files: &[File]) -> Result<(), Fail> {
+    for (name, text) in files {
+        shelf.put_file(alloc, name, text.as_bytes())?;
+    }
+    Ok(())
+}
+
+// A table's texts are unfolded where it is named, so each has a function of its own.
+fn put_c_files(alloc: Global, shelf: &mut MemShelf) -> Result<(), Fail> {
+    put_files(alloc, shelf, &C_TEXTS)
+}
+
+fn put_network_card(alloc: Global, shelf: &mut MemShelf) -> Result<(), Fail> {
+    put_files(alloc, shelf, &NETWORK_TEXTS)
+}
+
+fn put_small_files(alloc: Global, shelf: &mut MemShelf) -> Result<(), Fail> {
+    put_files(alloc, shelf, &SMALL_TEXTS)
+}
+
+/// A shelf with the files that worked cases name.
+pub fn shelf_of(alloc: Global) -> Result<MemShelf, Fail> {
+    let mut shelf = MemShelf::new(alloc, Vec::new(alloc));
+    put_c_files(alloc, &mut shelf)?;
+    put_network_card(alloc, &mut shelf)?;
+    put_small_files(alloc, &mut shelf)?;
+    Ok(shelf)
+}
+
+pub fn sink_of(alloc: Global) -> Result<MemSink, Fail> {
+    let sink = MemSink::new(alloc, Vec::new(alloc), 4096)?;
+    Ok(sink)
+}
+
+/// The status of a run on these words.
+pub fn run_words<R: Threads + Wait + Sync>(
+    rt: &R,
+    alloc: Global,
+    words: &[&str],
+    shelf: &mut MemShelf,
+    sink: &mut MemSink,
+) -> Result<u8, Fail> {
+    let mut texts = Vec::new(alloc);
+    for word in words {
+        texts.push(String::from_str(alloc, word)?)?;
+    }
+    Ok(lxfi(rt, alloc, &texts, shelf, sink, &OpenGate))
+}
+
+/// The words of a row: it is run, or replayed under its schedule.
+fn words_of(row: &Row) -> &'static [&'static str] {
+    if row.schedule.is_empty() {
+        &["run", "row.case"]
+    } else {
+        &["replay", "row.case", "row.schedule"]
+    }
+}
+
+fn has_line(text: &str, line: &str) -> bool {
+    text.lines().any(|other| other == line)
+}
+
+fn is_wanted(text: &str, wanted: &Wanted) -> bool {
+    match wanted {
+        Wanted::Whole(whole) => text == *whole,
+        Wanted::Lines(lines, pieces) => {
+            lines.lines().all(|line| has_line(text, line))
+                && pieces.lines().all(|piece| !text.contains(piece))
+        }
+    }
+}
+
+/// What the first row writes that does not write what is wanted, behind its name and its status, or nothing.
+pub fn first_wrong<R: Threads + Wait + Sync>(
+    rt: &R,
+    alloc: Global,
+    rows: &[Row],
+) -> Result<String, Fail> {
+    let mut shelf = shelf_of(alloc)?;
+    for row in rows {
+        shelf.put_file(alloc, "row.case", row.case.as_bytes())?;
+        shelf.put_file(alloc, "row.schedule", row.schedule.as_bytes())?;
+        let mut sink = sink_of(alloc)?;
+        let status = run_words(rt, alloc, words_of(row), &mut shelf, &mut sink)?;
+        let text = String::from_utf8_lossy(alloc, sink.bytes.as_slice())?;
+        if status != row.status || !is_wanted(text.as_str(), &row.wanted) {
+            let name = row.name;
+            let line = format!(in alloc; "{name}: {status}: {text}")?;
+            return Ok(line);
+        }
+    }
+    Ok(String::new(alloc))
+}
