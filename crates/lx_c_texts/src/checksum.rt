@@ -2,7 +2,8 @@
 //! Written by `tools/example-texts` from `examples/c/checksum.ll`.
 
 /// The text that clang printed for `examples/c/checksum.c`.
-pub const CHECKSUM: &str = r#"; ModuleID = 'checksum.c'
+pub fn checksum_text() -> &'static str {
+    r#"; ModuleID = 'checksum.c'
 source_filename = "checksum.c"
 target datalayout = "e-m:e-p270:32:32-p271:32:32-p272:64:64-i64:64-f80:128-n8:16:32:64-S128"
 target triple = "x86_64-pc-linux-gnu"
@@ -131,4 +132,5 @@ attributes #0 = { noinline nounwind optnone uwtable "frame-pointer"="all" "min-l
 !6 = distinct !{!6, !7}
 !7 = !{!"llvm.loop.mustprogress"}
 !8 = distinct !{!8, !7}
-"#;
+"#
+}

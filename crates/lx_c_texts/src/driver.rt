@@ -2,7 +2,8 @@
 //! Written by `tools/example-texts` from `examples/c/driver.ll`.
 
 /// The text that clang printed for `examples/c/driver.c`.
-pub const DRIVER: &str = r#"; ModuleID = 'driver.c'
+pub fn driver_text() -> &'static str {
+    r#"; ModuleID = 'driver.c'
 source_filename = "driver.c"
 target datalayout = "e-m:e-p270:32:32-p271:32:32-p272:64:64-i64:64-f80:128-n8:16:32:64-S128"
 target triple = "x86_64-pc-linux-gnu"
@@ -172,4 +173,5 @@ attributes #1 = { "frame-pointer"="all" "no-trapping-math"="true" "stack-protect
 !5 = !{!"Debian clang version 14.0.6"}
 !6 = distinct !{!6, !7}
 !7 = !{!"llvm.loop.mustprogress"}
-"#;
+"#
+}

@@ -2,7 +2,7 @@
 //! Written by `tools/example-texts` from `examples/driver_kernel.ll`, `examples/driver.txt`.
 
 /// The kernel.
-pub const KERNEL: &str =
+pub fn kernel_text() -> &'static str {
     r#"; A kernel with one device, which calls its driver through a table of operations.
 %struct.device = type { ptr, i32, i64, [8 x i8] }
 @device = global ptr null
@@ -77,10 +77,12 @@ define i64 @last() {
   %r = load i64, ptr %p
   ret i64 %r
 }
-"#;
+"#
+}
 
 /// What its calls check, copy and transfer.
-pub const INTERFACE: &str = r#"interface 1
+pub fn interface_text() -> &'static str {
+    r#"interface 1
 slot open : i32 (ptr device)
 slot write : i64 (ptr device, ptr bytes, i64 length)
 slot close : void (ptr device)
@@ -90,4 +92,5 @@ field %struct.device_ops 2 : close
 export kmalloc : ptr (i64 size) post(if (return != 0) transfer(write, return, size))
 export kfree : void (ptr block) pre(transfer(write, block, 32))
 export device_register : i32 (ptr device)
-"#;
+"#
+}

@@ -2,7 +2,8 @@
 //! Written by `tools/example-texts` from `examples/nic_bent.ll`, `examples/nic_bent.case`, `examples/nic_bent.report`.
 
 /// The text that clang printed for `examples/nic.c` with `-DBENT`.
-pub const NIC_BENT: &str = r#"; ModuleID = 'nic.c'
+pub fn nic_bent_text() -> &'static str {
+    r#"; ModuleID = 'nic.c'
 source_filename = "nic.c"
 target datalayout = "e-m:e-p270:32:32-p271:32:32-p272:64:64-i64:64-f80:128-n8:16:32:64-S128"
 target triple = "x86_64-pc-linux-gnu"
@@ -143,7 +144,8 @@ attributes #1 = { "frame-pointer"="all" "no-trapping-math"="true" "stack-protect
 !5 = !{!"Debian clang version 14.0.6"}
 !6 = distinct !{!6, !7}
 !7 = !{!"llvm.loop.mustprogress"}
-"#;
+"#
+}
 
 /// Its case.
 pub const NIC_BENT_CASE: &str = r#"lxfi case 1

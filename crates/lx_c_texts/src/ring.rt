@@ -2,7 +2,8 @@
 //! Written by `tools/example-texts` from `examples/c/ring.ll`.
 
 /// The text that clang printed for `examples/c/ring.c`.
-pub const RING: &str = r#"; ModuleID = 'ring.c'
+pub fn ring_text() -> &'static str {
+    r#"; ModuleID = 'ring.c'
 source_filename = "ring.c"
 target datalayout = "e-m:e-p270:32:32-p271:32:32-p272:64:64-i64:64-f80:128-n8:16:32:64-S128"
 target triple = "x86_64-pc-linux-gnu"
@@ -141,4 +142,5 @@ attributes #0 = { noinline nounwind optnone uwtable "frame-pointer"="all" "min-l
 !5 = !{!"Debian clang version 14.0.6"}
 !6 = distinct !{!6, !7}
 !7 = !{!"llvm.loop.mustprogress"}
-"#;
+"#
+}

@@ -1,7 +1,5 @@
 //! The texts, and what verifying their modules finds.
 
-use lx_c_texts::{CHECKSUM, DRIVER, KERNEL, RING};
-
 /// A module's text, what it shows, and what is found in the module.
 pub struct Row {
     pub name: &'static str,
@@ -16,30 +14,6 @@ pub enum Wanted {
     /// The number of the first fault, its line, and what names it.
     Fault(u8, u32, &'static str),
 }
-
-/// What clang printed for the C files, and the driver's kernel.
-pub static C_FILES: [Row; 4] = [
-    Row {
-        name: "ring",
-        text: RING,
-        wanted: Wanted::Nothing(4),
-    },
-    Row {
-        name: "checksum",
-        text: CHECKSUM,
-        wanted: Wanted::Nothing(3),
-    },
-    Row {
-        name: "driver",
-        text: DRIVER,
-        wanted: Wanted::Nothing(7),
-    },
-    Row {
-        name: "the driver's kernel",
-        text: KERNEL,
-        wanted: Wanted::Nothing(14),
-    },
-];
 
 /// Modules that have none of the faults below, though they are near to one.
 pub static WITHOUT_A_FAULT: [Row; 2] = [

@@ -1,6 +1,7 @@
 //! Texts are read, and what verifying the modules that they say finds is compared.
 
-use crate::rows::{C_FILES, ENDS, LABELS, PHIS, REGISTERS, Row, TYPES, WITHOUT_A_FAULT, Wanted};
+use crate::rows::{ENDS, LABELS, PHIS, REGISTERS, Row, TYPES, WITHOUT_A_FAULT, Wanted};
+use lx_c_texts::{checksum_text, driver_text, kernel_text, ring_text};
 use lx_ir_read::{TextForm, read_module};
 use lx_ir_verify::{Verified, VerifyFault, verify};
 use lx_ir_whole::whole_laws;
@@ -30,11 +31,17 @@ fn told(fault: &VerifyFault) -> (u8, u32, &[u8]) {
     }
 }
 
+/// Whether no fault was found in a module of so many functions.
+fn has_none(found: &Result<Verified, VerifyFault>, functions: usize) -> bool {
+    match found {
+        Ok(verified) => verified.module().functions.len() == functions,
+        Err(_) => false,
+    }
+}
+
 fn is_wanted(found: &Result<Verified, VerifyFault>, wanted: &Wanted) -> bool {
     match (found, wanted) {
-        (Ok(verified), Wanted::Nothing(functions)) => {
-            verified.module().functions.len() == *functions
-        }
+        (found, Wanted::Nothing(functions)) => has_none(found, *functions),
         (Err(fault), Wanted::Fault(number, line, what)) => {
             told(fault) == (*number, *line, what.as_bytes())
         }
@@ -52,10 +59,19 @@ fn first_wrong(alloc: Global, rows: &[Row]) -> Result<&'static str, Fail> {
     Ok("")
 }
 
+/// What clang printed for the C files, and the driver's kernel, each with as many functions as it has.
 #[test]
 fn what_clang_prints_is_verified(rt: HostRuntime) -> Result<(), Fail> {
-    let wrong = first_wrong(rt.alloc(), &C_FILES)?;
-    assert_eq!(rt; wrong, "");
+    let texts = [
+        (ring_text(), 4),
+        (checksum_text(), 3),
+        (driver_text(), 7),
+        (kernel_text(), 14),
+    ];
+    for (text, functions) in texts {
+        let found = found(rt.alloc(), text)?;
+        assert!(rt; has_none(&found, functions));
+    }
     Ok(())
 }
 

@@ -1,7 +1,6 @@
 //! The files that worked cases name.
 
 use crate::limits::{DOWN, LOOP, PLACES};
-use lx_c_texts::{CHECKSUM, DRIVER, INTERFACE, KERNEL, NIC, NIC_AFTER, NIC_BENT, NIC_PAST, RING};
 
 /// A case of one module and one call.
 pub const ONE_CASE: &str =
@@ -9,23 +8,6 @@ pub const ONE_CASE: &str =
 
 /// A file, by its name, and its text.
 pub type File = (&'static str, &'static str);
-
-/// The C files, and what the driver among them stands on.
-pub static C_TEXTS: [File; 5] = [
-    ("ring.ll", RING),
-    ("checksum.ll", CHECKSUM),
-    ("driver.ll", DRIVER),
-    ("driver_kernel.ll", KERNEL),
-    ("driver.txt", INTERFACE),
-];
-
-/// The driver of a network card.
-pub static NETWORK_TEXTS: [File; 4] = [
-    ("examples/nic.ll", NIC),
-    ("examples/nic_past.ll", NIC_PAST),
-    ("examples/nic_after.ll", NIC_AFTER),
-    ("examples/nic_bent.ll", NIC_BENT),
-];
 
 /// Small files.
 pub static SMALL_TEXTS: [File; 33] = [

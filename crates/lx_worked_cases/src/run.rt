@@ -1,7 +1,11 @@
 //! The program is run over memory.
 
-use crate::files::{C_TEXTS, File, NETWORK_TEXTS, SMALL_TEXTS};
+use crate::files::{File, SMALL_TEXTS};
 use crate::row::{Row, Wanted};
+use lx_c_texts::{
+    checksum_text, driver_text, interface_text, kernel_text, nic_after_text, nic_bent_text,
+    nic_past_text, nic_text, ring_text,
+};
 use lx_cli::lxfi;
 use lx_outside::{MemShelf, MemSink, OpenGate};
 use std::alloc::Global;
@@ -16,13 +20,27 @@ fn put_files(alloc: Global, shelf: &mut MemShelf, files: &[File]) -> Result<(), 
     Ok(())
 }
 
-// A table's texts are unfolded where it is named, so each has a function of its own.
+/// The C files, and what the driver among them stands on.
 fn put_c_files(alloc: Global, shelf: &mut MemShelf) -> Result<(), Fail> {
-    put_files(alloc, shelf, &C_TEXTS)
+    let files = [
+        ("ring.ll", ring_text()),
+        ("checksum.ll", checksum_text()),
+        ("driver.ll", driver_text()),
+        ("driver_kernel.ll", kernel_text()),
+        ("driver.txt", interface_text()),
+    ];
+    put_files(alloc, shelf, &files)
 }
 
+/// The driver of a network card, as it is and with each of its bugs.
 fn put_network_card(alloc: Global, shelf: &mut MemShelf) -> Result<(), Fail> {
-    put_files(alloc, shelf, &NETWORK_TEXTS)
+    let files = [
+        ("examples/nic.ll", nic_text()),
+        ("examples/nic_past.ll", nic_past_text()),
+        ("examples/nic_after.ll", nic_after_text()),
+        ("examples/nic_bent.ll", nic_bent_text()),
+    ];
+    put_files(alloc, shelf, &files)
 }
 
 fn put_small_files(alloc: Global, shelf: &mut MemShelf) -> Result<(), Fail> {
