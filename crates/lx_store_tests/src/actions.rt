@@ -1,17 +1,17 @@
 //! Actions over a plain store and memory: what is moved, what is refused, and that a refused action moves nothing.
-ghost use Rattle.std.specs.Prelude.{◌≡◌, ◌≤◌, length};
+ghost use Rattle.std.specs.Prelude.{◌≡◌, ◌≤◌, length, true};
 ghost use Rattle.lx_annot.specs.Items.{list_items, list_of_action};
 
-use crate::common::{FIRST, SECOND, SHARED, is_in_memory};
+use crate::common::{self, FIRST, SECOND, SHARED};
 use lx_actions::{ActFault, SpaceLook, perform};
 use lx_annot::action::{Action, ActionNode, CapSpec};
 use lx_annot::expr::{Env, Expr, ExprNode, Ty};
 use lx_annot::interface::{CapIterator, Interface, Item};
 use lx_annot::value::Look;
-use lx_caps::{Act, Cap, CapStore, PlainCaps, Principal, cells};
+use lx_caps::{Act, Cap, PlainCaps, Principal};
 use lx_memory::Space;
 use lx_model::request::Refusal;
-use lx_words::{Items, Width, Word};
+use lx_words::{Items, Memory, Width, Word};
 use std::alloc::Global;
 use std::process::Abort;
 use std::test::Fail;
@@ -19,7 +19,7 @@ use std::test::Fail;
 const KERNEL: Principal = Principal::Kernel;
 
 /// How an action ended, in values that compare.
-#[derive(Clone, Copy, Debug, PartialEq, Eq)]
+#[derive(Clone, Copy, PartialEq, Eq)]
 enum Ending {
     Done,
     Write(Principal, u64, u64),
@@ -56,14 +56,28 @@ fn first_param() -> Expr {
     }
 }
 
-fn looked_at(alloc: Global, at: Expr) -> Result<Expr, Fail> {
+fn looked_at(alloc: Global, at: Expr) -> Result<Expr, Memory> {
     let at = Box::new(alloc, at)?;
     Ok(Expr {
         node: ExprNode::Load64(at),
     })
 }
 
-/// What a row of a table does with its range.
+/// What an action names: so many bytes at an address, or the items of the one iterator.
+#[derive(Clone, Copy)]
+enum Named {
+    Bytes(u64, u64),
+    Items,
+}
+
+fn list(named: Named) -> CapSpec {
+    match named {
+        Named::Bytes(at, size) => CapSpec::Write(number(at), number(size)),
+        Named::Items => CapSpec::Each(0, first_param()),
+    }
+}
+
+/// What an action does with what it names.
 #[derive(Clone, Copy)]
 enum Kind {
     Copy,
@@ -71,7 +85,8 @@ enum Kind {
     Check,
 }
 
-fn action(kind: Kind, list: CapSpec) -> Action {
+fn action(kind: Kind, named: Named) -> Action {
+    let list = list(named);
     let node = match kind {
         Kind::Copy => ActionNode::Copy(list),
         Kind::Transfer => ActionNode::Transfer(list),
@@ -80,12 +95,8 @@ fn action(kind: Kind, list: CapSpec) -> Action {
     Action { node }
 }
 
-fn range_action(kind: Kind, at: u64, size: u64) -> Action {
-    action(kind, CapSpec::Write(number(at), number(size)))
-}
-
 /// One argument, a 64-bit word.
-fn env(alloc: Global, bits: u64) -> Result<Env, Fail> {
+fn env(alloc: Global, bits: u64) -> Result<Env, Memory> {
     let width = Width::W64;
     let words = vec![in alloc; Word { width, bits }]?;
     Ok(Env {
@@ -94,204 +105,8 @@ fn env(alloc: Global, bits: u64) -> Result<Env, Fail> {
     })
 }
 
-/// An interface with one iterator.
-fn interface(alloc: Global, items: Vec<Item>) -> Result<Interface, Fail> {
-    let iterator = CapIterator {
-        name: Items::new(alloc),
-        items: Items::from_vec(items),
-        line: 2,
-    };
-    let iterators = vec![in alloc; iterator]?;
-    Ok(Interface {
-        reftypes: Items::new(alloc),
-        iterators: Items::from_vec(iterators),
-        slots: Items::new(alloc),
-        fields: Items::new(alloc),
-        exports: Items::new(alloc),
-    })
-}
-
-fn count_items(i: &Interface, list: &CapSpec) -> usize
-    ensures { result ≡ length (list_items i.now list.now) }
-{
-    match list {
-        CapSpec::Each(iterator, _) => match i.iterators.as_slice().get(*iterator as usize) {
-            Some(iterator) => iterator.items.len(),
-            None => 0,
-        },
-        CapSpec::Write(_, _) | CapSpec::Call(_) | CapSpec::Ref(_, _) => 0,
-    }
-}
-
-/// How many items the iterator has that the action names.
-fn items_named(i: &Interface, a: &Action) -> usize
-    ensures { result ≡ length (list_items i.now (list_of_action a.now)) }
-{
-    match &a.node {
-        ActionNode::Copy(list) | ActionNode::Transfer(list) | ActionNode::Check(list) => {
-            count_items(i, list)
-        }
-        ActionNode::If(_, a) => items_named(i, a),
-    }
-}
-
-/// What an action is tried over.
-#[derive(Clone, Copy)]
-struct Bench<'a> {
-    interface: &'a Interface,
-    env: &'a Env,
-    space: &'a Space,
-}
-
-/// Tries an action, which has to end so.
-fn assert_ends(
-    rt: &impl Abort,
-    bench: Bench,
-    caps: &mut PlainCaps,
-    a: &Action,
-    between: (Principal, Principal),
-    want: Ending,
-) {
-    let i = bench.interface;
-    assert!(rt; items_named(i, a) <= 16);
-    let ending = told(perform(i, a, bench.env, between.0, between.1, bench.space, caps));
-    assert_eq!(rt; ending, want);
-}
-
-fn grant(
-    rt: &impl Abort,
-    caps: &mut PlainCaps,
-    to: Principal,
-    at: u64,
-    size: u64,
-) -> Result<(), Fail> {
-    let cap = Cap::Write { at, size };
-    assert!(rt; is_in_memory(cap));
-    assert!(rt; to != KERNEL);
-    caps.reserve(cells(cap))?;
-    caps.grant(to, cap);
-    Ok(())
-}
-
-fn assert_acts(rt: &impl Abort, caps: &PlainCaps, want: &[Act]) {
-    assert_eq!(rt; caps.acts().as_slice(), want);
-}
-
-/// Eight bytes go out to a module and come back, and then it has them no more.
-fn go_out_and_back(rt: &impl Abort, bench: Bench, caps: &mut PlainCaps) {
-    let whole = range_action(Kind::Transfer, 0x2000000, 8);
-    let (out, back) = ((KERNEL, SHARED), (SHARED, KERNEL));
-    assert_ends(rt, bench, caps, &whole, out, Ending::Done);
-    assert_ends(rt, bench, caps, &whole, back, Ending::Done);
-    let refusal = Ending::Write(SHARED, 0x2000000, 8);
-    assert_ends(rt, bench, caps, &whole, back, refusal);
-    let cap = Cap::Write {
-        at: 0x2000000,
-        size: 8,
-    };
-    assert_acts(
-        rt,
-        caps,
-        &[Act::Strip(cap), Act::Grant(SHARED, cap), Act::Strip(cap)],
-    );
-}
-
-#[test]
-fn bytes_go_out_and_come_back(rt: HostRuntime) -> Result<(), Fail> {
-    let alloc = rt.alloc();
-    let interface = interface(alloc, Vec::new(alloc))?;
-    let env = env(alloc, 0)?;
-    let space = Space::new(alloc)?;
-    let bench = Bench {
-        interface: &interface,
-        env: &env,
-        space: &space,
-    };
-    go_out_and_back(&rt, bench, &mut PlainCaps::new(alloc));
-    Ok(())
-}
-
-/// What an instance that owns 16 bytes at 0x1000000 and 16 of a stack may not pass on, and what it may.
-static ROWS: [(Kind, u64, u64, Ending); 9] = [
-    // With one byte that is not held the whole range is refused.
-    (
-        Kind::Copy,
-        0x1000000,
-        17,
-        Ending::Write(FIRST, 0x1000000, 17),
-    ),
-    (
-        Kind::Check,
-        0x1000010,
-        1,
-        Ending::Write(FIRST, 0x1000010, 1),
-    ),
-    // A byte past the end of memory, one round the end of addresses, and one in no region.
-    (
-        Kind::Copy,
-        0x10ffff8,
-        9,
-        Ending::Outside(FIRST, 0x10ffff8, 9),
-    ),
-    (
-        Kind::Check,
-        u64::MAX,
-        2,
-        Ending::Outside(FIRST, u64::MAX, 2),
-    ),
-    // What lies outside memory is refused before bytes of a stack are.
-    (
-        Kind::Transfer,
-        0x30fffff,
-        2,
-        Ending::Outside(FIRST, 0x30fffff, 2),
-    ),
-    // A transfer of bytes of a stack is refused, held or not; a check is not.
-    (
-        Kind::Transfer,
-        0x3000000,
-        8,
-        Ending::OnStack(FIRST, 0x3000000, 8),
-    ),
-    (
-        Kind::Transfer,
-        0x3000010,
-        1,
-        Ending::OnStack(FIRST, 0x3000010, 1),
-    ),
-    (Kind::Check, 0x3000000, 16, Ending::Done),
-    // Nothing is held by everyone.
-    (Kind::Check, 0, 0, Ending::Done),
-];
-
-fn assert_rows(rt: &impl Abort, bench: Bench, caps: &mut PlainCaps) {
-    for (kind, at, size, want) in ROWS.iter() {
-        let a = range_action(*kind, *at, *size);
-        assert_ends(rt, bench, caps, &a, (FIRST, SECOND), *want);
-    }
-    assert_eq!(rt; caps.acts().as_slice().len(), 2);
-}
-
-#[test]
-fn what_is_refused(rt: HostRuntime) -> Result<(), Fail> {
-    let alloc = rt.alloc();
-    let interface = interface(alloc, Vec::new(alloc))?;
-    let env = env(alloc, 0)?;
-    let space = Space::new(alloc)?;
-    let mut caps = PlainCaps::new(alloc);
-    grant(&rt, &mut caps, FIRST, 0x1000000, 16)?;
-    grant(&rt, &mut caps, FIRST, 0x3000000, 16)?;
-    let bench = Bench {
-        interface: &interface,
-        env: &env,
-        space: &space,
-    };
-    assert_rows(&rt, bench, &mut caps);
-    Ok(())
-}
-
 /// The 8 bytes at `p`, and 8 bytes at the address that the word at `p` is.
-fn packet(alloc: Global) -> Result<Vec<Item>, Fail> {
+fn packet(alloc: Global) -> Result<Vec<Item>, Memory> {
     let at = looked_at(alloc, first_param())?;
     let own = Item {
         cond: None,
@@ -305,62 +120,256 @@ fn packet(alloc: Global) -> Result<Vec<Item>, Fail> {
     Ok(items)
 }
 
-/// The second item is not held as a whole, and then it is.
-fn move_packet(rt: &impl Abort, bench: Bench, caps: &mut PlainCaps) -> Result<(), Fail> {
-    let a = action(Kind::Transfer, CapSpec::Each(0, first_param()));
-    let between = (SHARED, FIRST);
-    let refusal = Ending::Write(SHARED, 0x2000000, 8);
-    assert_ends(rt, bench, caps, &a, between, refusal);
-    assert_eq!(rt; caps.acts().as_slice().len(), 2);
-    grant(rt, caps, SHARED, 0x2000007, 1)?;
-    assert_ends(rt, bench, caps, &a, between, Ending::Done);
-    assert_eq!(rt; caps.acts().as_slice().len(), 7);
+/// An interface with one iterator.
+fn interface(alloc: Global) -> Result<Interface, Memory> {
+    let iterator = CapIterator {
+        name: Items::new(alloc),
+        items: Items::from_vec(packet(alloc)?),
+        line: 2,
+    };
+    let iterators = vec![in alloc; iterator]?;
+    Ok(Interface {
+        reftypes: Items::new(alloc),
+        iterators: Items::from_vec(iterators),
+        slots: Items::new(alloc),
+        fields: Items::new(alloc),
+        exports: Items::new(alloc),
+    })
+}
+
+/// Whether the list names at most 16 items.
+fn is_short_list(i: &Interface, list: &CapSpec) -> bool
+    ensures { result ≡ true → length (list_items i.now list.now) ≤ 16 }
+{
+    match list {
+        CapSpec::Each(iterator, _) => match i.iterators.as_slice().get(*iterator as usize) {
+            Some(iterator) => iterator.items.len() <= 16,
+            None => true,
+        },
+        CapSpec::Write(_, _) | CapSpec::Call(_) | CapSpec::Ref(_, _) => true,
+    }
+}
+
+/// Whether the action, which has no condition, names at most 16 items.
+fn is_short(i: &Interface, a: &Action) -> bool
+    ensures { result ≡ true → length (list_items i.now (list_of_action a.now)) ≤ 16 }
+{
+    match &a.node {
+        ActionNode::Copy(list) => is_short_list(i, list),
+        ActionNode::Transfer(list) => is_short_list(i, list),
+        ActionNode::Check(list) => is_short_list(i, list),
+        ActionNode::If(_, _) => false,
+    }
+}
+
+/// What actions are tried over.
+#[derive(Drop)]
+struct Bench {
+    interface: Interface,
+    env: Env,
+    space: Space,
+    caps: PlainCaps,
+}
+
+fn new_bench(alloc: Global, bits: u64) -> Result<Bench, Fail> {
+    let interface = interface(alloc)?;
+    let env = env(alloc, bits)?;
+    let space = Space::new(alloc)?;
+    let caps = PlainCaps::new(alloc);
+    Ok(Bench {
+        interface,
+        env,
+        space,
+        caps,
+    })
+}
+
+/// How an action ends, from one principal to another.
+fn ending_of(bench: &mut Bench, a: &Action, between: (Principal, Principal)) -> Ending {
+    let i = &bench.interface;
+    if !is_short(i, a) {
+        return Ending::Other;
+    }
+    let (env, space) = (&bench.env, &bench.space);
+    told(perform(i, a, env, between.0, between.1, space, &mut bench.caps))
+}
+
+/// What is done on the bench, and what is found there.
+#[derive(Clone, Copy)]
+enum Step {
+    Grant(Principal, u64, u64),
+    /// A number of eight bytes is put at an address.
+    Put(u64, u64),
+    /// An action from one principal to another, and how it ends.
+    Act(Kind, Named, (Principal, Principal), Ending),
+    /// How many acts the store took.
+    Count(usize),
+    /// The acts that the store took.
+    Acts(&'static [Act]),
+}
+
+/// Takes a step, and says whether it went as it has to.
+fn goes_so(bench: &mut Bench, step: Step) -> Result<bool, lx_caps::Memory> {
+    match step {
+        Step::Grant(to, at, size) => {
+            common::goes_so(&mut bench.caps, common::Step::GrantBytes(to, at, size))
+        }
+        Step::Put(at, number) => Ok(bench.space.write(at, 8, number).is_ok()),
+        Step::Act(kind, named, between, want) => {
+            Ok(ending_of(bench, &action(kind, named), between) == want)
+        }
+        Step::Count(want) => Ok(bench.caps.acts().as_slice().len() == want),
+        Step::Acts(want) => Ok(bench.caps.acts().as_slice() == want),
+    }
+}
+
+/// Takes steps on a new bench with this argument, each of which has to go as it says.
+fn assert_steps(rt: &impl Abort, alloc: Global, bits: u64, steps: &[Step]) -> Result<(), Fail> {
+    let mut bench = new_bench(alloc, bits)?;
+    for (number, step) in steps.iter().enumerate() {
+        assert!(rt; goes_so(&mut bench, *step)?, "step {number}");
+    }
     Ok(())
 }
+
+/// Eight bytes go out to a module and come back, and then it has them no more.
+static OUT_AND_BACK: [Step; 4] = [
+    Step::Act(
+        Kind::Transfer,
+        Named::Bytes(0x2000000, 8),
+        (KERNEL, SHARED),
+        Ending::Done,
+    ),
+    Step::Act(
+        Kind::Transfer,
+        Named::Bytes(0x2000000, 8),
+        (SHARED, KERNEL),
+        Ending::Done,
+    ),
+    Step::Act(
+        Kind::Transfer,
+        Named::Bytes(0x2000000, 8),
+        (SHARED, KERNEL),
+        Ending::Write(SHARED, 0x2000000, 8),
+    ),
+    Step::Acts(&[
+        Act::Strip(EIGHT_BYTES),
+        Act::Grant(SHARED, EIGHT_BYTES),
+        Act::Strip(EIGHT_BYTES),
+    ]),
+];
+
+const EIGHT_BYTES: Cap = Cap::Write {
+    at: 0x2000000,
+    size: 8,
+};
+
+#[test]
+fn bytes_go_out_and_come_back(rt: HostRuntime) -> Result<(), Fail> {
+    assert_steps(&rt, rt.alloc(), 0, &OUT_AND_BACK)
+}
+
+const BETWEEN: (Principal, Principal) = (FIRST, SECOND);
+
+/// What an instance that owns 16 bytes at 0x1000000 and 16 of a stack may not pass on, and what it may.
+static REFUSED: [Step; 12] = [
+    Step::Grant(FIRST, 0x1000000, 16),
+    Step::Grant(FIRST, 0x3000000, 16),
+    // With one byte that is not held the whole range is refused.
+    Step::Act(
+        Kind::Copy,
+        Named::Bytes(0x1000000, 17),
+        BETWEEN,
+        Ending::Write(FIRST, 0x1000000, 17),
+    ),
+    Step::Act(
+        Kind::Check,
+        Named::Bytes(0x1000010, 1),
+        BETWEEN,
+        Ending::Write(FIRST, 0x1000010, 1),
+    ),
+    // A byte past the end of memory, one round the end of addresses, and one in no region.
+    Step::Act(
+        Kind::Copy,
+        Named::Bytes(0x10ffff8, 9),
+        BETWEEN,
+        Ending::Outside(FIRST, 0x10ffff8, 9),
+    ),
+    Step::Act(
+        Kind::Check,
+        Named::Bytes(u64::MAX, 2),
+        BETWEEN,
+        Ending::Outside(FIRST, u64::MAX, 2),
+    ),
+    // What lies outside memory is refused before bytes of a stack are.
+    Step::Act(
+        Kind::Transfer,
+        Named::Bytes(0x30fffff, 2),
+        BETWEEN,
+        Ending::Outside(FIRST, 0x30fffff, 2),
+    ),
+    // A transfer of bytes of a stack is refused, held or not; a check is not.
+    Step::Act(
+        Kind::Transfer,
+        Named::Bytes(0x3000000, 8),
+        BETWEEN,
+        Ending::OnStack(FIRST, 0x3000000, 8),
+    ),
+    Step::Act(
+        Kind::Transfer,
+        Named::Bytes(0x3000010, 1),
+        BETWEEN,
+        Ending::OnStack(FIRST, 0x3000010, 1),
+    ),
+    Step::Act(
+        Kind::Check,
+        Named::Bytes(0x3000000, 16),
+        BETWEEN,
+        Ending::Done,
+    ),
+    // Nothing is held by everyone.
+    Step::Act(Kind::Check, Named::Bytes(0, 0), BETWEEN, Ending::Done),
+    Step::Count(2),
+];
+
+#[test]
+fn what_is_refused(rt: HostRuntime) -> Result<(), Fail> {
+    assert_steps(&rt, rt.alloc(), 0, &REFUSED)
+}
+
+/// The second item is not held as a whole, and then it is.
+static ALL_OR_NONE: [Step; 8] = [
+    Step::Put(0x1000010, 0x2000000),
+    Step::Grant(SHARED, 0x1000000, 64),
+    Step::Grant(SHARED, 0x2000000, 7),
+    Step::Act(
+        Kind::Transfer,
+        Named::Items,
+        (SHARED, FIRST),
+        Ending::Write(SHARED, 0x2000000, 8),
+    ),
+    Step::Count(2),
+    Step::Grant(SHARED, 0x2000007, 1),
+    Step::Act(Kind::Transfer, Named::Items, (SHARED, FIRST), Ending::Done),
+    Step::Count(7),
+];
 
 #[test]
 fn all_items_are_moved_or_none(rt: HostRuntime) -> Result<(), Fail> {
-    let alloc = rt.alloc();
-    let interface = interface(alloc, packet(alloc)?)?;
-    let env = env(alloc, 0x1000010)?;
-    let mut space = Space::new(alloc)?;
-    space.write(0x1000010, 8, 0x2000000)?;
-    let mut caps = PlainCaps::new(alloc);
-    grant(&rt, &mut caps, SHARED, 0x1000000, 64)?;
-    grant(&rt, &mut caps, SHARED, 0x2000000, 7)?;
-    let bench = Bench {
-        interface: &interface,
-        env: &env,
-        space: &space,
-    };
-    move_packet(&rt, bench, &mut caps)?;
-    Ok(())
+    assert_steps(&rt, rt.alloc(), 0x1000010, &ALL_OR_NONE)
 }
+
+/// The first item is not held and the second one is looked at past the end of memory: looking comes first.
+static IN_VAIN: [Step; 1] = [Step::Act(
+    Kind::Copy,
+    Named::Items,
+    (SHARED, FIRST),
+    Ending::Unmapped(0x1100000),
+)];
 
 #[test]
 fn what_is_looked_at_in_vain(rt: HostRuntime) -> Result<(), Fail> {
-    let alloc = rt.alloc();
-    let interface = interface(alloc, packet(alloc)?)?;
-    // The first item is not held and the second one is looked at past the end of memory: looking comes first.
-    let env = env(alloc, 0x10ffffc)?;
-    let space = Space::new(alloc)?;
-    let bench = Bench {
-        interface: &interface,
-        env: &env,
-        space: &space,
-    };
-    let a = action(Kind::Copy, CapSpec::Each(0, first_param()));
-    let mut caps = PlainCaps::new(alloc);
-    let between = (SHARED, FIRST);
-    assert_ends(
-        &rt,
-        bench,
-        &mut caps,
-        &a,
-        between,
-        Ending::Unmapped(0x1100000),
-    );
-    Ok(())
+    assert_steps(&rt, rt.alloc(), 0x10ffffc, &IN_VAIN)
 }
 
 #[test]
@@ -368,7 +377,7 @@ fn a_space_is_looked_at(rt: HostRuntime) -> Result<(), Fail> {
     let mut space = Space::new(rt.alloc())?;
     space.write(0x20ffff8, 8, 0x0807_0605_0403_0201)?;
     let look = SpaceLook { space: &space };
-    assert_eq!(rt; look.load64(0x20ffff4), Some(0x0403_0201_0000_0000));
-    assert_eq!(rt; look.load64(0x20ffff9), None);
+    assert!(rt; look.load64(0x20ffff4) == Some(0x0403_0201_0000_0000));
+    assert!(rt; look.load64(0x20ffff9).is_none());
     Ok(())
 }

@@ -1,8 +1,8 @@
-//! Principals of these tests, and what several of them ask.
+//! Principals of these tests, and what several of them ask of a store.
 ghost use Rattle.std.specs.Prelude.{◌≡◌};
 ghost use Rattle.lx_caps.specs.Placed.{is_placed};
 
-use lx_caps::{Cap, Principal, mapped};
+use lx_caps::{Atom, Cap, CapStore, Memory, Principal, cells, mapped, owns_byte};
 
 pub const SHARED: Principal = Principal::Shared(0);
 
@@ -24,3 +24,62 @@ pub fn is_in_memory(cap: Cap) -> bool
 }
 
 pub fn goes_between_threads<T: Send + Sync>(_: &T) {}
+
+fn bytes(at: u64, size: u64) -> Cap {
+    Cap::Write { at, size }
+}
+
+/// Gives a capability that lies in memory to a principal that is not the kernel, and says whether it is one.
+fn grant<C: CapStore>(caps: &mut C, to: Principal, cap: Cap) -> Result<bool, Memory> {
+    if to == Principal::Kernel || !is_in_memory(cap) {
+        return Ok(false);
+    }
+    caps.reserve(cells(cap))?;
+    caps.grant(to, cap);
+    Ok(true)
+}
+
+/// Takes a capability that lies in memory from everyone, and says whether it is one.
+fn strip<C: CapStore>(caps: &mut C, cap: Cap) -> Result<bool, Memory> {
+    if !is_in_memory(cap) {
+        return Ok(false);
+    }
+    caps.reserve(1)?;
+    caps.strip(cap);
+    Ok(true)
+}
+
+fn holds<C: CapStore>(caps: &C, who: Principal, cap: Cap) -> bool {
+    is_in_memory(cap) && caps.holds(who, cap)
+}
+
+/// An act on a store, or a question with its answer. Bytes are given by their address and how many there are.
+#[derive(Clone, Copy)]
+pub enum Step {
+    Grant(Principal, Cap),
+    Strip(Cap),
+    GrantBytes(Principal, u64, u64),
+    StripBytes(u64, u64),
+    Holds(Principal, Cap, bool),
+    HoldsBytes(Principal, u64, u64, bool),
+    /// The next atom that a principal owns behind one.
+    NextOwned(Principal, Option<Atom>, Option<Atom>),
+    /// The next owner of an atom behind one.
+    NextOwner(Atom, Option<Principal>, Option<Principal>),
+    OwnsByte(Principal, u64, bool),
+}
+
+/// Takes a step, and says whether it answered as it has to. Any store will do.
+pub fn goes_so<C: CapStore>(caps: &mut C, step: Step) -> Result<bool, Memory> {
+    match step {
+        Step::Grant(to, cap) => grant(caps, to, cap),
+        Step::Strip(cap) => strip(caps, cap),
+        Step::GrantBytes(to, at, size) => grant(caps, to, bytes(at, size)),
+        Step::StripBytes(at, size) => strip(caps, bytes(at, size)),
+        Step::Holds(who, cap, want) => Ok(holds(caps, who, cap) == want),
+        Step::HoldsBytes(who, at, size, want) => Ok(holds(caps, who, bytes(at, size)) == want),
+        Step::NextOwned(who, after, want) => Ok(caps.next_owned(who, after) == want),
+        Step::NextOwner(atom, after, want) => Ok(caps.next_owner(atom, after) == want),
+        Step::OwnsByte(who, byte, want) => Ok(owns_byte(caps, who, byte) == want),
+    }
+}

@@ -1,96 +1,133 @@
 //! Writers of slots, as ranges are noted and zeroed.
 use crate::common::{FIRST, SECOND, SHARED, STRANGER};
-use lx_caps::{Cap, CapStore, PlainCaps, Principal, cells, mapped};
+use lx_caps::{Cap, CapStore, Memory, PlainCaps, Principal, cells, mapped};
 use lx_writer_sets::WriterSets;
 use std::alloc::Global;
 use std::process::Abort;
 use std::test::Fail;
 
+/// Notes a principal as a writer of bytes that lie in memory, and says whether they do.
+fn note(sets: &mut WriterSets, who: Principal, at: u64, size: u64) -> Result<bool, Memory> {
+    if who == Principal::Kernel || !mapped(at, size) {
+        return Ok(false);
+    }
+    sets.reserve(cells(Cap::Write { at, size }))?;
+    sets.note(who, at, size);
+    Ok(true)
+}
+
+/// Sets in which these were noted: who, the address, and how many bytes.
 fn noted(
     rt: &impl Abort,
     alloc: Global,
     notes: &[(Principal, u64, u64)],
 ) -> Result<WriterSets, Fail> {
     let mut sets = WriterSets::new(alloc);
-    for (who, at, size) in notes {
-        assert!(rt; mapped(*at, *size));
-        assert!(rt; *who != Principal::Kernel);
-        sets.reserve(cells(Cap::Write {
-            at: *at,
-            size: *size,
-        }))?;
-        sets.note(*who, *at, *size);
+    for (number, (who, at, size)) in notes.iter().enumerate() {
+        assert!(rt; note(&mut sets, *who, *at, *size)?, "note {number}");
     }
     Ok(sets)
 }
 
-fn assert_writers(rt: &impl Abort, sets: &WriterSets, slot: u64, wanted: &[Principal]) {
-    assert!(rt; slot < 0x3100000);
+/// Whether these are the writers of a slot, one behind the other.
+fn are_listed(sets: &WriterSets, slot: u64, wanted: &[Principal]) -> bool {
+    if slot >= 0x3100000 {
+        return false;
+    }
     let mut writer = None;
     for want in wanted {
         writer = sets.next_writer(slot, writer);
-        assert_eq!(rt; writer, Some(*want), "{slot:#x}");
-        assert!(rt; sets.is_writer(slot, *want));
+        if writer != Some(*want) || !sets.is_writer(slot, *want) {
+            return false;
+        }
     }
-    assert_eq!(rt; sets.next_writer(slot, writer), None, "{slot:#x}");
-    assert!(rt; !sets.is_writer(slot, Principal::Global(0)));
-    assert_eq!(rt; sets.is_clean(slot), wanted.is_empty(), "{slot:#x}");
+    sets.next_writer(slot, writer).is_none()
 }
+
+/// Whether a slot has these writers and no other.
+fn are_writers(sets: &WriterSets, slot: u64, wanted: &[Principal]) -> bool {
+    are_listed(sets, slot, wanted)
+        && slot < 0x3100000
+        && !sets.is_writer(slot, Principal::Global(0))
+        && sets.is_clean(slot) == wanted.is_empty()
+}
+
+fn assert_writers(rt: &impl Abort, sets: &WriterSets, slots: &[(u64, &[Principal])]) {
+    for (slot, wanted) in slots {
+        assert!(rt; are_writers(sets, *slot, wanted), "{slot:#x}");
+    }
+}
+
+static NOTES: [(Principal, u64, u64); 6] = [
+    (STRANGER, 0x1000000, 200),
+    (SECOND, 0x1000040, 1),
+    (FIRST, 0x100003c, 4),
+    (SECOND, 0x10000c8, 56),
+    (SHARED, 0x2000000, 64),
+    (SHARED, 0x2000000, 0),
+];
+
+static SLOTS: [(u64, &[Principal]); 12] = [
+    (0x1000039, &[FIRST, SECOND, STRANGER]),
+    (0x1000038, &[FIRST, STRANGER]),
+    (0x1000040, &[SECOND, STRANGER]),
+    (0x1000041, &[STRANGER]),
+    (0x10000c1, &[SECOND, STRANGER]),
+    (0x10000c8, &[SECOND]),
+    (0x10000ff, &[SECOND]),
+    (0x1000100, &[]),
+    (0x1fffff9, &[SHARED]),
+    (0x1fffff8, &[]),
+    (0x200003f, &[SHARED]),
+    (0x2000040, &[]),
+];
 
 #[test]
 fn writers_come_in_order(rt: HostRuntime) -> Result<(), Fail> {
-    let sets = noted(
-        &rt,
-        rt.alloc(),
-        &[
-            (STRANGER, 0x1000000, 200),
-            (SECOND, 0x1000040, 1),
-            (FIRST, 0x100003c, 4),
-            (SECOND, 0x10000c8, 56),
-            (SHARED, 0x2000000, 64),
-            (SHARED, 0x2000000, 0),
-        ],
-    )?;
-    assert_writers(&rt, &sets, 0x1000039, &[FIRST, SECOND, STRANGER]);
-    assert_writers(&rt, &sets, 0x1000038, &[FIRST, STRANGER]);
-    assert_writers(&rt, &sets, 0x1000040, &[SECOND, STRANGER]);
-    assert_writers(&rt, &sets, 0x1000041, &[STRANGER]);
-    assert_writers(&rt, &sets, 0x10000c1, &[SECOND, STRANGER]);
-    assert_writers(&rt, &sets, 0x10000c8, &[SECOND]);
-    assert_writers(&rt, &sets, 0x10000ff, &[SECOND]);
-    assert_writers(&rt, &sets, 0x1000100, &[]);
-    assert_writers(&rt, &sets, 0x1fffff9, &[SHARED]);
-    assert_writers(&rt, &sets, 0x1fffff8, &[]);
-    assert_writers(&rt, &sets, 0x200003f, &[SHARED]);
-    assert_writers(&rt, &sets, 0x2000040, &[]);
+    let sets = noted(&rt, rt.alloc(), &NOTES)?;
+    assert_writers(&rt, &sets, &SLOTS);
     Ok(())
+}
+
+static NOTES_TO_ZERO: [(Principal, u64, u64); 2] = [
+    (FIRST, 0x1000000, 256),
+    (SHARED, 0x1000030, 0x60),
+];
+
+/// The slots about the bytes that are zeroed, of which the first principal owns eight.
+static SLOTS_ZEROED: [(u64, &[Principal]); 9] = [
+    (0x1000009, &[FIRST]),
+    (0x1000010, &[]),
+    (0x1000040, &[]),
+    (0x1000048, &[]),
+    (0x1000049, &[FIRST]),
+    (0x1000057, &[FIRST]),
+    (0x1000058, &[]),
+    (0x1000088, &[]),
+    (0x1000089, &[FIRST]),
+];
+
+/// A store in which the first principal owns eight bytes.
+fn owned(rt: &impl Abort, alloc: Global) -> Result<PlainCaps, Fail> {
+    let mut caps = PlainCaps::new(alloc);
+    caps.reserve(4)?;
+    assert!(rt; mapped(0x1000050, 8));
+    caps.grant(
+        FIRST,
+        Cap::Write {
+            at: 0x1000050,
+            size: 8,
+        },
+    );
+    Ok(caps)
 }
 
 #[test]
 fn owners_stay_writers_of_zeroed_bytes(rt: HostRuntime) -> Result<(), Fail> {
-    let mut sets = noted(
-        &rt,
-        rt.alloc(),
-        &[(FIRST, 0x1000000, 256), (SHARED, 0x1000030, 0x60)],
-    )?;
-    let mut caps = PlainCaps::new(rt.alloc());
-    let owned = Cap::Write {
-        at: 0x1000050,
-        size: 8,
-    };
-    caps.reserve(4)?;
-    assert!(rt; mapped(0x1000050, 8));
-    caps.grant(FIRST, owned);
+    let mut sets = noted(&rt, rt.alloc(), &NOTES_TO_ZERO)?;
+    let caps = owned(&rt, rt.alloc())?;
     assert!(rt; mapped(0x1000010, 0x80));
     sets.zero(0x1000010, 0x80, &caps);
-    assert_writers(&rt, &sets, 0x1000009, &[FIRST]);
-    assert_writers(&rt, &sets, 0x1000010, &[]);
-    assert_writers(&rt, &sets, 0x1000040, &[]);
-    assert_writers(&rt, &sets, 0x1000048, &[]);
-    assert_writers(&rt, &sets, 0x1000049, &[FIRST]);
-    assert_writers(&rt, &sets, 0x1000057, &[FIRST]);
-    assert_writers(&rt, &sets, 0x1000058, &[]);
-    assert_writers(&rt, &sets, 0x1000088, &[]);
-    assert_writers(&rt, &sets, 0x1000089, &[FIRST]);
+    assert_writers(&rt, &sets, &SLOTS_ZEROED);
     Ok(())
 }
