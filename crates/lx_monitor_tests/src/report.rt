@@ -164,10 +164,20 @@ fn account(alloc: Global) -> Result<Account, AllocError> {
     })
 }
 
+fn report_of(alloc: Global, account: &Account) -> Result<Vec<u8>, Memory> {
+    let program = program(alloc)?;
+    let text = report(alloc, account, &program);
+    drop(program);
+    text
+}
+
 #[test]
 fn a_report_of_two_threads(rt: HostRuntime) -> Result<(), Fail> {
     let alloc = rt.alloc();
-    let text = report(alloc, &account(alloc)?, &program(alloc)?)?;
+    let account = account(alloc)?;
+    let reported = report_of(alloc, &account);
+    drop(account);
+    let text = reported?;
     assert_eq!(rt; text.as_slice(), RACED.as_bytes());
     Ok(())
 }

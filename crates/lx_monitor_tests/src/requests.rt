@@ -244,16 +244,39 @@ fn serve(
     Ok(reply_seen(reply))
 }
 
-/// Serves each row, one after the other, from the state before the first call.
-#[tactic(auto, using(crate::proofs::Programs::slotted_linked))]
-fn serve_all(rt: &impl Abort, alloc: Global, rows: &[Row]) -> Result<(), Fail> {
-    let program = program(alloc)?;
-    let mut part = part(alloc, &program)?;
+/// Serves each row, one after the other.
+fn serve_each(
+    rt: &impl Abort,
+    alloc: Global,
+    program: &Program,
+    part: &mut SharedPart<PlainCaps>,
+    rows: &[Row],
+) -> Result<(), Fail>
+    requires { IsLinked program.now }
+{
     for (thread, who, asked, answer) in rows {
-        let seen = serve(alloc, &program, &mut part, *thread, *who, *asked)?;
+        let seen = serve(alloc, program, part, *thread, *who, *asked)?;
         assert_eq!(rt; seen, *answer);
     }
     Ok(())
+}
+
+/// Serves the rows from the state before the first call.
+#[tactic(auto, using(crate::proofs::Programs::slotted_linked))]
+fn serve_rows(rt: &impl Abort, alloc: Global, program: &Program, rows: &[Row]) -> Result<(), Fail>
+    requires { program.now ≡ slotted }
+{
+    let mut part = part(alloc, program)?;
+    let served = serve_each(rt, alloc, program, &mut part, rows);
+    drop(part);
+    served
+}
+
+fn serve_all(rt: &impl Abort, alloc: Global, rows: &[Row]) -> Result<(), Fail> {
+    let program = program(alloc)?;
+    let served = serve_rows(rt, alloc, &program, rows);
+    drop(program);
+    served
 }
 
 #[test]

@@ -121,15 +121,17 @@ fn ending(runner: &Runner) -> Option<Outcome> {
 /// How the call ends with this fuel.
 fn ended(code: &Code, alloc: Global, fuel: u32) -> Result<Option<Outcome>, Memory> {
     let mut runner = runner_of(alloc, fuel)?;
-    run(code, &mut runner)?;
-    Ok(ending(&runner))
+    let ran = run(code, &mut runner);
+    let ending = ending(&runner);
+    drop(runner);
+    ran?;
+    Ok(ending)
 }
 
 /// The start and 255 calls cost 256 units and stand in 256 frames; a further call traps, where there is a unit for it.
-fn endings(alloc: Global) -> Result<(bool, bool), Memory> {
-    let code = code_of(alloc)?;
-    let deep = ended(&code, alloc, 257)?;
-    let short = ended(&code, alloc, 256)?;
+fn endings(code: &Code, alloc: Global) -> Result<(bool, bool), Memory> {
+    let deep = ended(code, alloc, 257)?;
+    let short = ended(code, alloc, 256)?;
     Ok((
         matches!(deep, Some(Outcome::Trapped(Trap::TooDeep))),
         matches!(short, Some(Outcome::Budget)),
@@ -138,7 +140,11 @@ fn endings(alloc: Global) -> Result<(bool, bool), Memory> {
 
 #[test]
 fn a_frame_too_many_traps(rt: HostRuntime) -> Result<(), Memory> {
-    let (traps, budget) = endings(rt.alloc())?;
+    let alloc = rt.alloc();
+    let code = code_of(alloc)?;
+    let ended = endings(&code, alloc);
+    drop(code);
+    let (traps, budget) = ended?;
     assert!(rt; traps);
     assert!(rt; budget);
     Ok(())

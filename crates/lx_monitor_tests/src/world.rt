@@ -63,12 +63,19 @@ fn world<C: CapStore + Drop>(alloc: Global, caps: C) -> Result<World<C>, Fail>
     requires { C.stands caps [] }
     ensures { IfOk result (λ world. (w : Meaning) × StandsForWorld C.stands one_silent world w) }
 {
-    let program = program(alloc)?;
-    let shared = shared(alloc, &program, caps)?;
-    let code = Code::new(alloc, program, Vec::new(alloc));
     let script = script(alloc)?;
-    let world = World::open(alloc, code, script, shared)?;
-    Ok(world)
+    let program = program(alloc)?;
+    match shared(alloc, &program, caps) {
+        Ok(shared) => {
+            let code = Code::new(alloc, program, Vec::new(alloc));
+            let world = World::open(alloc, code, script, shared)?;
+            Ok(world)
+        }
+        Err(fault) => {
+            drop(program);
+            Err(fault)
+        }
+    }
 }
 
 /// One event.
@@ -143,11 +150,23 @@ fn report<C: CapStore + Drop>(
     Ok(())
 }
 
+fn run_and_report<C: CapStore + Drop>(
+    rt: &impl Abort,
+    alloc: Global,
+    world: &mut World<C>,
+) -> Result<(), Fail>
+    requires { (w : Meaning) × StandsForWorld C.stands one_silent world.old w }
+{
+    run(rt, world)?;
+    report(rt, alloc, world)?;
+    Ok(())
+}
+
 #[test]
 fn events_make_the_account(rt: HostRuntime) -> Result<(), Fail> {
     let alloc = rt.alloc();
     let mut world = world(alloc, PlainCaps::new(alloc))?;
-    run(&rt, &mut world)?;
-    report(&rt, alloc, &world)?;
-    Ok(())
+    let ended = run_and_report(&rt, alloc, &mut world);
+    drop(world);
+    ended
 }
