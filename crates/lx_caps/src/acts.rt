@@ -51,12 +51,6 @@ impl Acts {
         self.acts.as_slice()
     }
 
-    pub(crate) fn room(&self) -> u64
-        ensures { result ≡ self.now.room }
-    {
-        (self.acts.capacity() - self.acts.len()) as u64
-    }
-
     pub(crate) fn reserve(&mut self, n: u64) -> Result<(), Memory>
         ensures room { OnOk result (n ≤ self.new.room) }
         ensures grows { self.old.room ≤ self.new.room }
