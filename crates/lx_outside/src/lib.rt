@@ -1,5 +1,6 @@
 //! The world outside: a shelf of files that are read by name, a sink that takes bytes, and a gate
 //! that threads pass. Each is a trait, with one implementation in memory and one over the system.
+//! The words of the command line are read here too.
 //!
 //! ```text
 //! let mut shelf = MemShelf::new(alloc, fails);
@@ -20,6 +21,7 @@ mod put;
 mod real;
 mod shelf;
 mod sink;
+mod words;
 
 pub use file_text::{FileText, Files};
 pub use gate::{Gate, GatePlace, OpenGate};
@@ -28,6 +30,7 @@ pub use mem_shelf::MemShelf;
 pub use mem_sink::MemSink;
 pub use memory::Memory;
 pub use put::put_all;
-pub use real::{FileShelf, StdSink};
+pub use real::{FileShelf, MOST_BYTES, StdSink};
 pub use shelf::{Shelf, ShelfFault};
 pub use sink::{Sink, SinkFault};
+pub use words::command_words;

@@ -1,16 +1,37 @@
 //! The files of the system and standard output. They tell no content: what they gave and took is
 //! trusted.
-ghost use Rattle.std.specs.Prelude.{◌≡◌, [], None};
+ghost use Rattle.std.specs.Prelude.{◌≡◌, ◌+◌, [], None, take, IfOk, IfSome};
+ghost use Rattle.lx_outside.specs.Reads.{most_bytes};
 
 use crate::lists::Name;
 use crate::shelf::{Shelf, ShelfFault};
 use crate::sink::{Sink, SinkFault};
 use std::alloc::Global;
-use std::io::{ErrorKind, Write};
+use std::io::{ErrorKind, Read, Write};
 use std::rt::Files;
 use std::{fs, io};
 
-/// The files of the system, by their paths.
+/// The bytes that a file may have.
+pub const MOST_BYTES: u64 = 1_048_576;
+
+/// The bytes of a file that is within its limit, and of a longer one the first bytes, one more than
+/// the limit: whoever gets them sees that it is too long, and no more of it is read.
+fn read_front<F: Read + Drop>(alloc: Global, file: F) -> io::Result<Vec<u8>>
+    ensures { IfOk result (λ bytes. IfSome (F.remaining file) (λ all. bytes.items ≡ take (most_bytes + 1) all)) }
+{
+    let mut bytes = Vec::new(alloc);
+    let mut front = file.take(MOST_BYTES + 1);
+    front.read_to_end(&mut bytes)?;
+    Ok(bytes)
+}
+
+fn read_file<R: Files>(rt: &R, alloc: Global, name: &str) -> io::Result<Vec<u8>> {
+    let file = fs::open(rt, name)?;
+    read_front(alloc, file)
+}
+
+/// The files of the system, by their paths. Of a file that is longer than `MOST_BYTES` it gives the
+/// first `MOST_BYTES + 1` bytes.
 #[derive(Drop)]
 pub struct FileShelf<'a, R: Files + AllocGlobal> {
     rt: &'a R,
@@ -40,7 +61,7 @@ impl<R: Files + AllocGlobal> Shelf for FileShelf<'_, R> {
     fn read(&mut self, alloc: Global, name: &str) -> Result<Vec<u8>, ShelfFault> {
         let kept = Name::new(alloc, name)?;
         self.faults.reserve(1)?;
-        match fs::read(self.rt, name) {
+        match read_file(self.rt, alloc, name) {
             Ok(bytes) => Ok(bytes),
             Err(error) if error.kind() == ErrorKind::OutOfMemory => Err(ShelfFault::Memory),
             Err(_) => {

@@ -46,7 +46,7 @@ pub trait Shelf {
     /// The names whose reads failed, the oldest first.
     ghost faults: { Self → List (List ℕ) };
 
-    /// Reads a file whole. After `Memory` the shelf has no new fault.
+    /// Reads a file, whole where the shelf tells it. After `Memory` the shelf has no new fault.
     fn read(&mut self, alloc: Global, name: &str) -> Result<Vec<u8>, ShelfFault>
         ensures files { files self.new ≡ files self.old }
         // A name that a told shelf lacks is never Ok.
