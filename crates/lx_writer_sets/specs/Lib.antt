@@ -1,3 +1,4 @@
+pub mod Room
 pub mod Bits
 pub mod Sets
 pub mod Stands

@@ -1,5 +1,5 @@
 //! Lists of entries.
-ghost use Rattle.std.specs.Prelude.{◌≡◌, ◌+◌, ◌*◌, ◌/◌, ◌%◌, ◌^◌, ◌<◌, ◌≤◌, ℕ, ◌&&◌, ◌||◌, not, length, nat_eq, get_or, IfSome, OnOk, true};
+ghost use Rattle.std.specs.Prelude.{◌≡◌, ◌+◌, ◌*◌, ◌/◌, ◌%◌, ◌^◌, ◌<◌, ◌≤◌, ℕ, ◌&&◌, ◌||◌, not, length, nat_eq, get_or, position, IfSome, OnOk, true};
 ghost use Rattle.lx_caps.specs.declared.Principal.{Principal};
 ghost use Rattle.lx_caps.specs.declared.Atom.TheVariants.{Byte};
 ghost use Rattle.lx_caps.specs.History.{History, owns, same_principal};
@@ -7,19 +7,12 @@ ghost use Rattle.lx_caps.specs.Precedence.{follows, IsFirstPrincipal};
 ghost use Rattle.lx_caps.specs.Regions.{covers};
 ghost use Rattle.lx_writer_sets.specs.Bits.{is_set};
 ghost use Rattle.lx_writer_sets.specs.Sets.{has_byte, is_of, is_recorded, lies_in, no_entry, writes_slot};
-ghost use Rattle.lx_writer_sets.specs.Stands.{room_of};
+ghost use Rattle.lx_writer_sets.specs.Room.{room_of};
 
 use crate::bits::with;
 use crate::entry::{Entry, entry_of, is_by, kept, writer_by};
 use crate::piece::{PART, Piece, piece_of};
 use lx_caps::{CapStore, Memory, Principal, earlier, is_same};
-
-/// How many more entries there is room for.
-pub(crate) fn room(entries: &Vec<Entry>) -> u64
-    ensures { result ≡ room_of entries.now }
-{
-    (entries.capacity() - entries.len()) as u64
-}
 
 pub(crate) fn reserve(entries: &mut Vec<Entry>, n: u64) -> Result<(), Memory>
     ensures room { OnOk result (n ≤ room_of entries.new) }
@@ -36,16 +29,12 @@ fn is_of(entry: Entry, writer: Principal, part: u64) -> bool
     is_same(writer, entry.writer) && entry.part == part
 }
 
-/// The place of an entry of this writer and this part.
+/// The first place of an entry of this writer and this part. The answer is `None` exactly where there is none.
 fn place_of(entries: &[Entry], writer: Principal, part: u64) -> Option<usize>
-    ensures { IfSome result (λ i. (i < length entries.now) × (is_of writer part (get_or entries.now i no_entry) ≡ true)) }
+    ensures first { result ≡ position (is_of writer part) entries.now }
+    ensures found { IfSome result (λ i. (i < length entries.now) × (is_of writer part (get_or entries.now i no_entry) ≡ true)) }
 {
-    for i in 0..entries.len() {
-        if is_of(entries[i], writer, part) {
-            return Some(i);
-        }
-    }
-    None
+    entries.iter().position(|entry| is_of(*entry, writer, part))
 }
 
 /// Adds bytes to an entry.

@@ -3,7 +3,7 @@ use Rattle.std.proofs.Common.{◌≡◌, ℕ, ◌+◌, ◌-◌, ◌/◌, ◌≤�
 use Rattle.lx_caps.specs.declared.Principal.{Principal}
 use Rattle.lx_caps.specs.History.{same_principal}
 use Rattle.lx_writer_sets.specs.Sets.{is_recorded}
-use Rattle.lx_writer_sets.specs.Stands.{room_of}
+use Rattle.lx_writer_sets.specs.Room.{room_of}
 use Rattle.lx_writer_sets.proofs.Ranges.{covered}
 use Rattle.lx_writer_sets.proofs.entries.note_range.Given as goal
 

@@ -4,7 +4,7 @@ use Rattle.lx_caps.specs.declared.Principal.{Principal}
 use Rattle.lx_caps.specs.declared.Atom.TheVariants.{Byte}
 use Rattle.lx_caps.specs.History.{History, owns}
 use Rattle.lx_writer_sets.specs.Sets.{is_recorded}
-use Rattle.lx_writer_sets.specs.Stands.{room_of}
+use Rattle.lx_writer_sets.specs.Room.{room_of}
 use Rattle.lx_writer_sets.proofs.Ranges.{covered}
 use Rattle.lx_writer_sets.proofs.entries.zero_range.Given as goal
 
