@@ -141,6 +141,7 @@ pub made : (names new_names firsts new_firsts : List Entry) (counts new_counts :
 made names new_names firsts new_firsts counts new_counts m v k kept there next put distinct firsts_put counts_put =
     let acts = ap namings put ∙ namings_more names ((m, v), k) in
     let act = naming ((m, v), k) in record {
+      few = (let lengths = ap length counts_put ∙ length-set counts m (suc k) in omega (arith, lengths, kept.few));
       distinct = distinct;
       numbered = subst IsNumbered (sym acts) (omega (arith, next), kept.numbered);
       counted = λ n within.
@@ -169,6 +170,7 @@ pub named_further : (names new_names firsts : List Entry) (counts : List ℕ) (m
     → new_names ≡ names ++ ((m, v), k) ∷ [] → IsDistinct same_pair (keys_of new_names) → IsKept new_names firsts counts
 named_further names new_names firsts counts m v k kept there put distinct =
     let acts = ap namings put ∙ namings_more names ((m, v), k) in record {
+      few = kept.few;
       distinct = distinct;
       numbered = subst IsNumbered (sym acts) (omega (arith, there), kept.numbered);
       counted = λ n within.

@@ -22,8 +22,9 @@ abbrev pub namings : List Entry → Namings
 namings es = reverse (map naming es)
 
 -- a table of the names in the order in which they were given, each once; a table of first names; and how many
--- instances each module has
+-- instances each module has; a number of 32 bits counts the modules
 pub record IsKept (names firsts : List Entry) (counts : List ℕ) : Type 0 where
+  pub few : length counts < 0x100000000
   pub distinct : IsDistinct same_pair (keys_of names)
   pub numbered : IsNumbered (namings names)
   pub counted : (m : ℕ) → m < length counts → slice_index counts m ≡ instance_count (namings names) m

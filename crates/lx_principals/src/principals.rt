@@ -19,7 +19,7 @@ pub struct Principals {
     /// The first name of each module's instance.
     firsts: IndexMap<(u32, u32), u64>,
     /// How many instances each module has.
-    counts: Vec<u64>,
+    counts: Vec<u32>,
 }
 
 impl Model for Principals {
@@ -50,28 +50,31 @@ fn put_name(
 }
 
 /// No instance of so many modules.
-fn no_counts(alloc: Global, modules: u32) -> Result<Vec<u64>, AllocError>
+fn no_counts(alloc: Global, modules: u32) -> Result<Vec<u32>, AllocError>
     ensures { IfOk result (λ counts. (length counts.items ≡ modules) × ((m : ℕ) → m < modules → slice_index counts.items m ≡ 0)) }
 {
     let counts = vec![in alloc; 0; modules as usize]?;
     Ok(counts)
 }
 
-/// The number of a module's next instance, which is how many it has.
-fn next_number(counts: &[u64], home: u32) -> Result<u32, Memory>
+/// The number of a module's next instance, which is how many it has, where one more can be counted.
+fn next_number(counts: &[u32], home: u32) -> Result<u32, Memory>
     requires { home < length counts.now }
-    ensures { IfOk result (λ n. n ≡ slice_index counts.now home) }
+    ensures number { IfOk result (λ n. n ≡ slice_index counts.now home) }
+    ensures small { IfOk result (λ n. n < 0xffffffff) }
 {
-    match u32::try_from(counts[home as usize]) {
-        Ok(number) => Ok(number),
-        Err(_) => Err(Memory),
+    let number = counts[home as usize];
+    if number < u32::MAX {
+        Ok(number)
+    } else {
+        Err(Memory)
     }
 }
 
 /// Counts one more instance of a module.
-fn count_one(counts: &mut Vec<u64>, home: u32)
+fn count_one(counts: &mut Vec<u32>, home: u32)
     requires there { home < length counts.old.items }
-    requires small { slice_index counts.old.items home < 0x100000000 }
+    requires small { slice_index counts.old.items home < 0xffffffff }
     ensures { counts.new.items ≡ slice_set counts.old.items home (suc (slice_index counts.old.items home)) }
 {
     counts[home as usize] += 1;
@@ -100,13 +103,14 @@ impl Principals {
 
     /// How many modules there are.
     pub fn modules(&self) -> usize
-        ensures { result ≡ self.now.modules }
+        ensures modules { result ≡ self.now.modules }
+        ensures small { result < 0x100000000 }
     {
         self.counts.len()
     }
 
     /// How many instances a module has.
-    pub fn count(&self, home: u32) -> u64
+    pub fn count(&self, home: u32) -> u32
         requires { home < self.now.modules }
         ensures { result ≡ instance_count self.now.names home }
     {
@@ -141,7 +145,7 @@ impl Principals {
     /// this is its first name.
     ///
     /// # Errors
-    /// Want of memory, which changes nothing. An instance whose number is no `u32` is want of memory too.
+    /// Want of memory, which changes nothing. More instances of a module than a `u32` counts are want of memory too.
     pub fn named(&mut self, home: u32, value: u64) -> Result<Principal, Memory>
         requires { home < self.old.modules }
         ensures principal { IfOk result (λ p. p ≡ Inst home (number_named self.old.names home value)) }

@@ -1,11 +1,11 @@
 -- What a function's annotation says, and what actions name.
-use Rattle.std.proofs.Common.{◌≡◌, ◌∙◌, refl, ap, ℕ, ◌≤◌, Bool, true, false, Option, Some, None, List, [], ◌∷◌, length, arith}
+use Rattle.std.proofs.Common.{◌≡◌, ap, ℕ, ◌≤◌, Bool, true, false, Option, Some, None, length, arith}
 use Rattle.std.specs.Prelude.{slice_get, unwrap_or}
 use Rattle.lx_annot.specs.declared.action.Annotation.{Annotation}
 use Rattle.lx_annot.specs.declared.action.CapSpec.{CapSpec}
 use Rattle.lx_annot.specs.declared.action.CapSpec.TheVariants as spec
 use Rattle.lx_annot.specs.Action.{Action}
-use Rattle.lx_annot.specs.Items.{items_of, list_items, list_of_action}
+use Rattle.lx_annot.specs.Items.{list_items, list_of_action}
 use Rattle.lx_model.specs.declared.program.Program.{Program}
 use Rattle.lx_model.specs.Program.{annotation_of, no_annotation}
 use Rattle.lx_model.specs.Next.{actions_of}

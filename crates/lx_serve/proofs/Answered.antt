@@ -1,5 +1,5 @@
 -- What is tried is what is served.
-use Rattle.std.proofs.Common.{◌≡◌, ◌∙◌, refl, sym, ap, subst, ℕ, zero, suc, Option, Some, None, Result, Ok, Err, List, [], ◌∷◌, ◌++◌, map}
+use Rattle.std.proofs.Common.{◌≡◌, ◌∙◌, refl, sym, ap, subst, ℕ, zero, suc, Option, Some, None, Ok, Err, List, [], ◌∷◌, ◌++◌, map}
 use Rattle.lx_words.specs.Word.{Word}
 use Rattle.lx_caps.specs.declared.Principal.{Principal}
 use Rattle.lx_caps.specs.History.{History}
@@ -90,7 +90,7 @@ entered stands p s t r old new answer st pushed gives =
     record {
       reply = gives.reply;
       state = record {
-        keeps = record { memory = k.memory; blocks = k.blocks; names = k.names; history = k.history; notes = k.notes; sources = k.sources };
+        keeps = record { memory = k.memory; blocks = k.blocks; names = k.names; history = k.history; notes = k.notes; sources = k.sources; texts = k.texts };
         journal =
             pushed
             ∙ ap (λ l. l ++ t ∷ []) (st.journal ∙ ap (map (λ e. e.thread)) (sym (served_journal p s t r (decide p s t r))))

@@ -1,9 +1,9 @@
 -- What is entered, and as whom.
-use Rattle.std.proofs.Common.{◌≡◌, ◌∙◌, refl, sym, ap, subst, ℕ, Bool, true, false, IsTrue, Option, Some, None, Result, Ok, Err, List}
+use Rattle.std.proofs.Common.{◌≡◌, ◌∙◌, refl, sym, ap, subst, ℕ, Bool, true, IsTrue, Option, Some, None, Result, Ok, Err, List}
 use Rattle.std.specs.Prelude.{unwrap_or}
 use Rattle.lx_words.specs.Word.{Word}
 use Rattle.lx_caps.specs.declared.Principal.{Principal}
-use Rattle.lx_caps.specs.declared.Principal.TheVariants.{Kernel, Shared, Global, Inst}
+use Rattle.lx_caps.specs.declared.Principal.TheVariants.{Kernel, Inst}
 use Rattle.lx_caps.specs.History.{History}
 use Rattle.lx_caps.specs.Names.{Namings, named, instance_count}
 use Rattle.lx_caps.specs.Memory.{load64}
@@ -14,16 +14,14 @@ use Rattle.lx_annot.specs.declared.action.Annotation.{Annotation}
 use Rattle.lx_annot.specs.Value.{Found, and_then, value}
 use Rattle.lx_principals.specs.Instances.{number_named, with_name, with_instance}
 use Rattle.lx_model.specs.declared.program.Program.{Program}
-use Rattle.lx_model.specs.declared.request.Outcome.{Outcome}
 use Rattle.lx_model.specs.declared.request.Reply.TheVariants.{Entered}
 use Rattle.lx_model.specs.declared.request.Way.TheVariants.{Script, Direct}
 use Rattle.lx_model.specs.declared.request.What.TheVariants as what
-use Rattle.lx_model.specs.Program.{Home, home_of, is_home, is_in, is_module_function, annotation_of, annotation_or_none, no_annotation}
+use Rattle.lx_model.specs.Program.{Home, home_of, is_home, is_in, is_module_function, annotation_of, no_annotation}
 use Rattle.lx_model.specs.State.{State}
-use Rattle.lx_model.specs.Act.{unmapped}
 use Rattle.lx_model.specs.Enter.{Running, runs_in, runs_by, found_nothing, instance_named, instance_of}
 use Rattle.lx_model.specs.Serve.{entering_as}
-use Rattle.lx_serve.specs.Entering.{IsValue, IsNamed, IsInstance, RunsAs}
+use Rattle.lx_serve.specs.Entering.{IsValue, IsNamed, RunsAs}
 use Rattle.lx_serve.specs.Stands.{Keeps, Gives, Tries}
 use Rattle.lx_serve.specs.declared.halt.Halt.{Halt}
 use Rattle.lx_serve.specs.declared.halt.Halt.TheVariants.{Ended, Memory}
@@ -49,7 +47,7 @@ script_enters stands p m s t by n args q crosses same run = (
 pub script_halts : {C : Type 0} (stands : C → History → Type 0) (p : Program) (m : Monitor C) (s : State) (t : ℕ) (by : Principal) (n : ℕ) (args : List Word) (e : Halt)
     → RunsAs stands p m s (runs_in p s n args (home_of p n)) (Err e) → Tries stands p m s t by (what.Enter (Script n) args) (Err e)
 script_halts stands p m s t by n args (Ended o) run = (ap found_nothing run.1 ∙ ap Some (sym run.2), run.3)
-script_halts stands p m s t by n args Memory run = run
+script_halts stands p m s t by n args Memory run = (refl, run)
 
 kernel_home : (home : Option Home) → is_home None home ≡ true → home ≡ Some None
 kernel_home None is = absurd cc
@@ -64,7 +62,7 @@ pub kernel_enters : {C : Type 0} (stands : C → History → Type 0) (p : Progra
 kernel_enters stands p m s t by n args is k = (
   refl,
   subst (λ (found : Found Running). Gives stands p m (Entered n Kernel true) (entering_as p s by (Direct n) n found)) (sym (kernel_runs p s n args is))
-      (record { reply = refl; state = record { memory = k.memory; blocks = k.blocks; names = k.names; history = k.history; notes = k.notes; sources = k.sources } }),
+      (record { reply = refl; state = record { memory = k.memory; blocks = k.blocks; names = k.names; history = k.history; notes = k.notes; sources = k.sources; texts = k.texts } }),
 )
 
 -- a principal's expression that has no value
@@ -90,5 +88,5 @@ pub runs_plain : {C : Type 0} (stands : C → History → Type 0) (p : Program) 
 runs_plain stands p m s found q k is = (
   record { principal = q; names = s.names },
   is,
-  record { principal = refl; keeps = record { memory = k.memory; blocks = k.blocks; names = k.names; history = k.history; notes = k.notes; sources = k.sources } },
+  record { principal = refl; keeps = record { memory = k.memory; blocks = k.blocks; names = k.names; history = k.history; notes = k.notes; sources = k.sources; texts = k.texts } },
 )

@@ -1,5 +1,6 @@
 pub mod Annotated
 pub mod Answered
+pub mod Compared
 pub mod Entered
 pub mod Places
 pub mod Stacked

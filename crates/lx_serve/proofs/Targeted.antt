@@ -16,14 +16,13 @@ use Rattle.lx_model.specs.declared.program.Program.{Program}
 use Rattle.lx_model.specs.declared.request.Outcome.{Outcome}
 use Rattle.lx_model.specs.declared.request.Outcome.TheVariants.{Refused, Trapped}
 use Rattle.lx_model.specs.declared.request.Refusal.TheVariants as refusal
-use Rattle.lx_model.specs.declared.request.Reply.{Reply}
 use Rattle.lx_model.specs.declared.request.Reply.TheVariants.{Entered}
 use Rattle.lx_model.specs.declared.request.Trap.TheVariants.{Signature}
 use Rattle.lx_model.specs.declared.request.Way.{Way}
 use Rattle.lx_model.specs.declared.request.Way.TheVariants.{Indirect, Slot}
 use Rattle.lx_model.specs.declared.request.What.TheVariants as what
 use Rattle.lx_model.specs.Act.{or_else, unless, unmapped}
-use Rattle.lx_model.specs.Enter.{Running, by_writers, clean_target, crosses, decide_enter, decide_target, entered_function, fits_params, found_nothing, has_signature, nobody, not_annotated, runs_as, runs_in, same_annotation, slot_signature, slot_target, slot_writers, text_of_principal, writer_refusal, written_target}
+use Rattle.lx_model.specs.Enter.{Running, by_writers, clean_target, crosses, decide_enter, decide_target, entered_function, fits_params, found_nothing, nobody, not_annotated, runs_as, runs_in, slot_signature, slot_target, slot_writers, text_of_principal, writer_refusal, written_target}
 use Rattle.lx_model.specs.Program.{Home, function_at, home_of, is_annotated, is_in, is_module_function}
 use Rattle.lx_model.specs.Serve.{entering, entering_as}
 use Rattle.lx_model.specs.State.{State, module_principals}
@@ -32,7 +31,7 @@ use Rattle.lx_targets.specs.declared.writers.SlotWriters.{SlotWriters}
 use Rattle.lx_targets.specs.declared.writers.SlotWriters.TheVariants.{Nobody, AllHold, Lacks}
 use Rattle.lx_serve.specs.Entering.{RunsAs, runs_called}
 use Rattle.lx_serve.specs.Stands.{Keeps, Gives, Tries, instances}
-use Rattle.lx_serve.specs.Targets.{Finds, nobody_at, unless_allowed, unless_called, unless_fitting, unless_known, unless_passed, unless_same, unless_slot, unless_target}
+use Rattle.lx_serve.specs.Targets.{Finds, nobody_at, unless_allowed, unless_called, unless_fitting, unless_known, unless_slot, unless_target}
 use Rattle.lx_serve.specs.declared.halt.Halt.{Halt}
 use Rattle.lx_serve.specs.declared.halt.Halt.TheVariants.{Ended, Memory}
 use Rattle.lx_serve.specs.declared.monitor.Monitor.{Monitor}
@@ -171,14 +170,14 @@ module _ {C : Type 0} (stands : C → History → Type 0) (p : Program) (m : Mon
     (parts : decide_enter p s who way args ≡ or_else before (nobody_at p s who way args found)) (same : entered_function p s way ≡ found) where
   stops : (e : Halt) → Keeps stands p m s → Finds found before (Err e) → Tries stands p m s t who (what.Enter way args) (Err e)
   stops (Ended o) k finds = (parts ∙ ap (λ d. or_else d (nobody_at p s who way args found)) finds, k)
-  stops Memory k finds = k
+  stops Memory k finds = absurd finds
 
   halts : (n : ℕ) (e : Halt) → Finds found before (Ok n) → RunsAs stands p m s (runs_as p s who way n args) (Err e) → Tries stands p m s t who (what.Enter way args) (Err e)
   halts n (Ended o) finds run = (
     decided_by _ before found (nobody_at p s who way args) n parts finds ∙ ap found_nothing run.1 ∙ ap Some (sym run.2),
     run.3,
   )
-  halts n Memory finds run = run
+  halts n Memory finds run = (decided_by _ before found (nobody_at p s who way args) n parts finds ∙ ap (nobody_at p s who way args) (sym (same ∙ finds.0)), run)
 
   enters : (n : ℕ) (q : Principal) (over : Bool) → Finds found before (Ok n) → over ≡ crosses p who way n → RunsAs stands p m s (runs_as p s who way n args) (Ok q)
       → Tries stands p m s t who (what.Enter way args) (Ok (Entered n q over))

@@ -1,5 +1,6 @@
 -- Natives by their numbers.
-use Rattle.std.proofs.Common.{◌≡◌, ◌≢◌, refl, sym, subst, ℕ, zero, suc, Result, Ok, Err, List}
+use Rattle.std.proofs.Common.{◌≡◌, ◌≢◌, ◌+◌, ◌≤◌, refl, sym, subst, ℕ, zero, suc, Result, Ok, Err, List, arith}
+use Rattle.std.specs.Prelude.{IfOk}
 use Rattle.lx_words.specs.Word.{Word}
 use Rattle.lx_caps.specs.declared.Principal.{Principal}
 use Rattle.lx_caps.specs.History.{History}
@@ -9,6 +10,7 @@ use Rattle.lx_model.specs.declared.request.What.TheVariants as what
 use Rattle.lx_model.specs.Program.{NativeCall, AliasPrincipal, native_call}
 use Rattle.lx_model.specs.State.{State}
 use Rattle.lx_serve.specs.NativeCalls.{TriesNative}
+use Rattle.lx_serve.specs.Room.{taken_by}
 use Rattle.lx_serve.specs.Stands.{Tries}
 use Rattle.lx_serve.specs.declared.halt.Halt.{Halt}
 use Rattle.lx_serve.specs.declared.halt.Halt.TheVariants.{Ended, Memory}
@@ -34,3 +36,8 @@ pub native_tried : {C : Type 0} (stands : C → History → Type 0) (p : Program
     → native_call k ≡ n → TriesNative stands p m s t by n args result → Tries stands p m s t by (what.Native k args) result
 native_tried stands p m s t by k n args result is tries =
     as_native stands p m s t by k args result (subst (λ (c : NativeCall). TriesNative stands p m s t by c args result) (sym is) tries)
+
+-- what leaves all the room leaves what the reply may take
+pub leaves_all : (result : Result Reply Halt) (before now : ℕ) → before ≤ now → IfOk result (λ reply. before ≤ now + taken_by reply)
+leaves_all (Ok reply) before now all = omega arith
+leaves_all (Err e) before now all = tt

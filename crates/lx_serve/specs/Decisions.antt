@@ -1,5 +1,5 @@
 -- Decisions that are made in parts.
-use Rattle.std.specs.Prelude.{ℕ, zero, suc, Option, Some, None}
+use Rattle.std.specs.Prelude.{ℕ, zero, suc, Option, None}
 use Rattle.lx_caps.specs.declared.Principal.{Principal}
 use Rattle.lx_caps.specs.declared.Principal.TheVariants.{Kernel}
 use Rattle.lx_model.specs.declared.request.Outcome.{Outcome}

@@ -7,4 +7,5 @@ pub mod Performed
 pub mod Entering
 pub mod Served
 pub mod Targets
+pub mod Texts
 pub mod Room

@@ -18,4 +18,4 @@ use Rattle.lx_serve.specs.declared.monitor.Monitor.{Monitor}
 abbrev pub TriesNative : {C : Type 0} → (C → History → Type 0) → Program → Monitor C → State → ℕ → Principal → NativeCall → List Word → Result Reply Halt → Type 0
 TriesNative stands p m s t by native args (Ok answer) = (decide_native s by native args ≡ None) × Gives stands p m answer (after_native s t by native args)
 TriesNative stands p m s t by native args (Err (Ended o)) = (decide_native s by native args ≡ Some o) × Keeps stands p m s
-TriesNative stands p m s t by native args (Err Memory) = Keeps stands p m s
+TriesNative stands p m s t by native args (Err Memory) = (decide_native s by native args ≡ None) × Keeps stands p m s

@@ -1,10 +1,10 @@
 -- Where the annotations of functions stand in an interface.
-use Rattle.std.specs.Prelude.{◌≡◌, ℕ, ◌<◌, ◌≤◌, Option, Some, None, List, length, option_and_then, option_map, slice_get}
+use Rattle.std.specs.Prelude.{◌≡◌, ℕ, ◌≤◌, Option, Some, None, List, length, option_and_then, option_map, slice_get}
 use Rattle.lx_annot.specs.declared.action.Annotation.{Annotation}
 use Rattle.lx_annot.specs.declared.interface.Interface.{Interface}
 use Rattle.lx_annot.specs.Items.{items_of}
 use Rattle.lx_model.specs.declared.program.Program.{Program}
-use Rattle.lx_model.specs.Program.{annotation_of, home_of, slot_annotation}
+use Rattle.lx_model.specs.Program.{annotation_of, slot_annotation}
 use Rattle.lx_serve.specs.declared.source.Source.{Source}
 use Rattle.lx_serve.specs.declared.source.Source.TheVariants.{Slot, Export}
 

@@ -19,11 +19,11 @@ use Rattle.lx_model.specs.State.{State}
 use Rattle.lx_serve.specs.declared.halt.Halt.{Halt}
 use Rattle.lx_serve.specs.declared.halt.Halt.TheVariants.{Ended, Memory}
 
--- the function was found, and nothing was decided against it; or the outcome is what was decided
+-- the function was found, and nothing was decided against it; or the outcome is what was decided; memory is never wanted
 abbrev pub Finds : Option ℕ → Option Outcome → Result ℕ Halt → Type 0
 Finds found decided (Ok n) = (found ≡ Some n) × (decided ≡ None)
 Finds found decided (Err (Ended o)) = decided ≡ Some o
-Finds found decided (Err Memory) = Unit {0}
+Finds found decided (Err Memory) = ⊥
 
 -- a function may be entered from a text that is of the text, or annotated
 abbrev pub unless_known : Program → Home → Principal → ℕ → Option ℕ → Option Outcome

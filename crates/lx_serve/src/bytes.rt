@@ -1,5 +1,5 @@
 //! Requests that read, write and take bytes.
-ghost use Rattle.std.specs.Prelude.{◌≡◌, ◌<◌, ◌≤◌, ◌-◌, ℕ, OnErr, true, false};
+ghost use Rattle.std.specs.Prelude.{◌≡◌, ◌<◌, ◌≤◌, ◌-◌, ℕ, true, false};
 ghost use Rattle.lx_caps.specs.Regions.{mapped, stack_end, stack_start};
 ghost use Rattle.lx_caps.specs.declared.Principal.{Principal};
 ghost use Rattle.lx_model.specs.declared.program.Program.{Program};
@@ -98,13 +98,13 @@ impl<C: CapStore + Drop> Monitor<C> {
         requires low { stack_start thread ≤ at }
         ensures tries { (p : Program) (s : State) → Keeps C.stands p self.old s
             → Tries C.stands p self.new s thread who (what.Alloca at size) result }
-        ensures spare { OnErr result (spare_of C.spare self.old.caps ≤ spare_of C.spare self.new.caps) }
+        ensures spare { spare_of C.spare self.old.caps ≤ spare_of C.spare self.new.caps }
     {
         if let Some(outcome) = unless_room(thread, at, size) {
             return Err(Halt::Ended(outcome));
         }
         let cap = Cap::Write { at, size };
-        self.caps.reserve(cells(cap) + 1)?;
+        self.make_more_room(cells(cap) + 1)?;
         fill(&mut self.space, at, 0, size);
         self.caps.strip(cap);
         give(&mut self.caps, who, cap);
@@ -114,13 +114,13 @@ impl<C: CapStore + Drop> Monitor<C> {
     /// The bytes of a function that returns are taken from everyone.
     #[tactic(auto, using(crate::proofs::Places::stack_mapped))]
     pub(crate) fn give_back(&mut self, thread: u32, low: u64, high: u64) -> Result<Reply, Halt>
-        requires room { 0 < spare_of C.spare self.old.caps }
         requires thread { thread < 16 }
         requires stack { FitsStack thread low high }
         ensures tries { (p : Program) (s : State) (by : Principal) → Keeps C.stands p self.old s
             → Tries C.stands p self.new s thread by (what.Return low high) result }
-        ensures spare { OnErr result (spare_of C.spare self.old.caps ≤ spare_of C.spare self.new.caps) }
+        ensures spare { spare_of C.spare self.old.caps ≤ spare_of C.spare self.new.caps }
     {
+        self.make_more_room(1)?;
         self.strip(low, high - low);
         Ok(Reply::Done)
     }

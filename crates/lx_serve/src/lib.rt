@@ -18,6 +18,7 @@ mod source;
 mod space;
 mod targets;
 mod terms;
+mod texts;
 
 pub use lx_caps::Memory;
 pub use shared::SharedPart;

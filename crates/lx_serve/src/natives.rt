@@ -1,5 +1,5 @@
 //! Calls of natives.
-ghost use Rattle.std.specs.Prelude.{◌≡◌, ◌<◌, ◌≤◌, ℕ, OnErr, true};
+ghost use Rattle.std.specs.Prelude.{◌≡◌, ℕ};
 ghost use Rattle.lx_caps.specs.declared.Principal.{Principal};
 ghost use Rattle.lx_model.specs.declared.program.Program.{Program};
 ghost use Rattle.lx_model.specs.declared.request.What.TheVariants as what;
@@ -45,10 +45,9 @@ impl<C: CapStore + Drop> Monitor<C> {
     }
 
     fn zero(&mut self, args: &[Word]) -> Result<Reply, Halt>
-        requires { 0 < spare_of C.spare self.old.caps }
         ensures tries { (p : Program) (s : State) (t : ℕ) (by : Principal) → Keeps C.stands p self.old s
             → TriesNative C.stands p self.new s t by ZeroBytes args.now result }
-        ensures spare { OnErr result (spare_of C.spare self.old.caps ≤ spare_of C.spare self.new.caps) }
+        ensures spare { spare_of C.spare self.new.caps ≡ spare_of C.spare self.old.caps }
     {
         let (at, size) = (arg(args, 0), arg(args, 1));
         if let Some(outcome) = unless_mapped(at, size) {
@@ -114,10 +113,9 @@ impl<C: CapStore + Drop> Monitor<C> {
         native: u32,
         args: &[Word],
     ) -> Result<Reply, Halt>
-        requires { 0 < spare_of C.spare self.old.caps }
         ensures tries { (p : Program) (s : State) → Keeps C.stands p self.old s
             → Tries C.stands p self.new s thread who (what.Native native args.now) result }
-        ensures spare { OnErr result (spare_of C.spare self.old.caps ≤ spare_of C.spare self.new.caps) }
+        ensures spare { spare_of C.spare self.new.caps ≡ spare_of C.spare self.old.caps }
     {
         match native {
             0 => self.alloc(args),

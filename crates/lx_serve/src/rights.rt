@@ -75,6 +75,7 @@ pub(crate) fn give<C: CapStore>(caps: &mut C, to: Principal, cap: Cap)
     requires room { cells cap ≤ C.spare caps.old }
     requires placed { is_placed cap ≡ true }
     ensures grants { (h : History) → C.stands caps.old h → C.stands caps.new (with_grant to cap h) }
+    ensures takes { C.spare caps.old ≤ C.spare caps.new + cells cap }
 {
     match to {
         Principal::Kernel => {}

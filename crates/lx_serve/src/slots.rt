@@ -40,11 +40,11 @@ impl<C: CapStore + Drop> Monitor<C> {
         ensures { (s : State) → Keeps C.stands program.now self.now s
             → Finds (function_at program.now at) (by_writers program.now s who slot ty at (function_at program.now at) (slot_writers program.now s slot)) result }
     {
-        let seen = slot_writers(&self.caps, &self.names, slot, at)?;
+        let seen = slot_writers(&self.caps, &self.names, slot, at);
         match seen {
             SlotWriters::Nobody => clean_target(program, &self.sources, who, at),
             SlotWriters::AllHold => {
-                written_target(self.alloc, program, &self.sources, who, at, ty)
+                written_target(program, &self.texts, &self.sources, who, at, ty)
             }
             SlotWriters::Lacks(writer) => Err(Halt::Ended(Outcome::Refused(Refusal::Writer {
                 who: writer,

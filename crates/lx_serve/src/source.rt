@@ -1,16 +1,16 @@
 //! Where annotations stand, and what they say.
-ghost use Rattle.std.specs.Prelude.{◌≡◌, option_copied, option_and_then, slice_get, IfOk};
+ghost use Rattle.std.specs.Prelude.{◌≡◌, option_copied, option_and_then, slice_get};
 ghost use Rattle.lx_model.specs.Enter.{same_annotation};
 ghost use Rattle.lx_model.specs.Next.{actions_of};
 ghost use Rattle.lx_model.specs.Program.{annotation_of, is_annotated, slot_annotation};
+ghost use Rattle.lx_model.specs.declared.program.Program.{Program};
 ghost use Rattle.lx_serve.specs.Sources.{annotation_at, export_at, Knows, source_of};
+ghost use Rattle.lx_serve.specs.Texts.{HasTexts};
 
+use crate::texts::Texts;
 use lx_annot::action::{Action, Annotation};
 use lx_annot::interface::Interface;
-use lx_caps::Memory;
 use lx_model::program::Program;
-use lx_targets::same_annotation;
-use std::alloc::Global;
 
 /// Where the annotation of a function stands in the interface.
 #[derive(Clone, Copy, Debug, PartialEq, Eq)]
@@ -30,7 +30,7 @@ fn source_of(sources: &[Option<Source>], function: u32) -> Option<Source>
     }
 }
 
-pub(crate) fn slot_annotation(i: &Interface, slot: u32) -> Option<&Annotation>
+fn slot_annotation(i: &Interface, slot: u32) -> Option<&Annotation>
     ensures { option_copied result ≡ slot_annotation i.now slot }
 {
     match i.slots.items.get(slot as usize) {
@@ -80,20 +80,16 @@ pub(crate) fn is_annotated(program: &Program, sources: &[Option<Source>], functi
 }
 
 /// Whether a function has the annotation of a slot type, by their canonical texts.
+#[tactic(auto, using(crate::proofs::Compared::same_told))]
 pub(crate) fn has_annotation(
-    alloc: Global,
-    program: &Program,
+    texts: &Texts,
     sources: &[Option<Source>],
     ty: u32,
     function: u32,
-) -> Result<bool, Memory>
-    ensures { IfOk result (λ same. Knows program.now sources.now → same ≡ same_annotation program.now ty function) }
+) -> bool
+    ensures { (p : Program) → HasTexts p.interface texts.now → Knows p sources.now → result ≡ same_annotation p ty function }
 {
-    let i = &program.interface;
-    let wanted = slot_annotation(i, ty);
-    let annotation = annotation_of(program, sources, function);
-    let same = same_annotation(alloc, i, wanted, annotation)?;
-    Ok(same)
+    texts.is_of_slot(ty, source_of(sources, function))
 }
 
 fn nth(actions: &[Action], index: u32) -> Option<&Action>

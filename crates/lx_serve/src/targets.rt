@@ -2,18 +2,20 @@
 ghost use Rattle.std.specs.Prelude.{◌≡◌, ◌≤◌, ◌||◌, Some, length};
 ghost use Rattle.lx_model.specs.Enter.{clean_target, not_annotated, text_of_principal, written_target};
 ghost use Rattle.lx_model.specs.Program.{function_at, is_annotated, is_in};
+ghost use Rattle.lx_model.specs.declared.program.Program.{Program};
 ghost use Rattle.lx_serve.specs.Sources.{Knows};
+ghost use Rattle.lx_serve.specs.Texts.{HasTexts};
 ghost use Rattle.lx_serve.specs.Targets.{Finds, unless_fitting, unless_known, unless_same, unless_target};
 ghost use Rattle.lx_serve.specs.declared.halt.Halt.TheVariants.{Ended};
 
 use crate::halt::Halt;
 use crate::source::{Source, has_annotation, is_annotated};
+use crate::texts::Texts;
 use lx_caps::Principal;
 use lx_model::program::Program;
 use lx_model::request::{Outcome, Refusal, Trap};
 use lx_targets::{fits_params, function_at, has_signature, is_in};
 use lx_words::Word;
-use std::alloc::Global;
 
 /// Whose text a principal runs.
 pub(crate) fn text_of(who: Principal) -> Option<u32>
@@ -99,17 +101,16 @@ pub(crate) fn clean_target(
 
 /// The function at an address, where it has the annotation of a slot type.
 fn annotated_as(
-    alloc: Global,
-    program: &Program,
+    texts: &Texts,
     sources: &[Option<Source>],
     who: Principal,
     at: u64,
     ty: u32,
     function: u32,
 ) -> Result<u32, Halt>
-    ensures { Knows program.now sources.now → Finds (Some function) (unless_same program.now who at ty function) result }
+    ensures { (p : Program) → HasTexts p.interface texts.now → Knows p sources.now → Finds (Some function) (unless_same p who at ty function) result }
 {
-    if has_annotation(alloc, program, sources, ty, function)? {
+    if has_annotation(texts, sources, ty, function) {
         Ok(function)
     } else {
         Err(Halt::Ended(Outcome::Refused(Refusal::OtherAnnotation {
@@ -123,20 +124,20 @@ fn annotated_as(
 
 /// The function at the address in a slot that has writers.
 pub(crate) fn written_target(
-    alloc: Global,
     program: &Program,
+    texts: &Texts,
     sources: &[Option<Source>],
     who: Principal,
     at: u64,
     ty: u32,
 ) -> Result<u32, Halt>
     requires { length program.now.functions ≤ 0x100000000 }
-    ensures { Knows program.now sources.now → Finds (function_at program.now at) (written_target program.now who at ty (function_at program.now at)) result }
+    ensures { HasTexts program.now.interface texts.now → Knows program.now sources.now → Finds (function_at program.now at) (written_target program.now who at ty (function_at program.now at)) result }
 {
     match function_at(program, at) {
         Some(function) => {
             if is_annotated(program, sources, function) {
-                annotated_as(alloc, program, sources, who, at, ty, function)
+                annotated_as(texts, sources, who, at, ty, function)
             } else {
                 Err(not_annotated(who, at))
             }

@@ -9,4 +9,4 @@ use Rattle.lx_targets.proofs.writers.with_modules.Goals as goal
 
 pub loop-home-preserved : goal.loop-home-preserved
 loop-home-preserved g c = λ h stands.
-    lists_more (with_writer h c.args.slot c.args.at) (module_principals c.args.names.now.names) c.loop-home.home _ _ _ (c.loop-home.invariant h stands) (c.in_ok-seen.ensures h stands)
+    lists_more (with_writer h c.args.slot c.args.at) (module_principals c.args.names.now.names) c.loop-home.home _ _ _ (c.loop-home.invariant h stands) (c.with_module-seen.ensures h stands)

@@ -17,7 +17,7 @@ put_name-requires c =
 pub invariant_of-self-2 : goal.invariant_of-self-2
 invariant_of-self-2 c =
     let there : c.args.home < length c.self.inside.counts.items = subst (λ (i : Instances). c.args.home < i.modules) (sym c.self.view_is) c.requires.there in
-    let read : c.in_ok-number.number ≡ slice_index c.self.inside.counts.items c.args.home = c.in_ok-number.ensures ∙ ap (λ (l : List ℕ). slice_index l c.args.home) c.deref.ensures.value in
+    let read : c.in_ok-number.number ≡ slice_index c.self.inside.counts.items c.args.home = c.in_ok-number.ensures.number ∙ ap (λ (l : List ℕ). slice_index l c.args.home) c.deref.ensures.value in
     let put = c.count_one.ensures ∙ ap (λ (n : ℕ). slice_set c.self.inside.counts.items c.args.home (suc n)) (sym read) in
     made c.self.inside.names.entries c.put_name.new.names.entries c.self.inside.firsts.entries c.insert.new.self.entries c.self.inside.counts.items
     c.count_one.new.counts.items c.args.home c.args.value c.in_ok-number.number c.self.invariant there

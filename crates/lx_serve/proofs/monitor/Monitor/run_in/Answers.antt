@@ -1,5 +1,5 @@
 -- The kernel's functions run as the kernel.
-use Rattle.std.proofs.Common.{◌≡◌, ap, refl, Some, None}
+use Rattle.std.proofs.Common.{◌≡◌, ap, Some, None}
 use Rattle.lx_caps.specs.declared.Principal.TheVariants.{Kernel}
 use Rattle.lx_model.specs.Enter.{runs_in}
 use Rattle.lx_model.specs.Program.{home_of}
