@@ -1,13 +1,14 @@
 //! The slot type of a function, and whether all that it gets agree.
 
-ghost use Rattle.std.specs.Prelude.{◌≡◌, ◌++◌, ◌<◌, ◌&&◌, IfOk, OnOk, None, Some, bytes_eq, find, if◌then◌else◌, length, nat_eq, option_to_list};
+ghost use Rattle.std.specs.Prelude.{◌≡◌, ◌++◌, ◌<◌, ◌&&◌, IfOk, MatchResult, OnOk, None, Some, bytes_eq, find, if◌then◌else◌, length, nat_eq, option_to_list};
 ghost use Rattle.lx_annot.specs.Canonical.{canonical};
-ghost use Rattle.lx_slot_types.specs.Answers.{Gives};
+ghost use Rattle.lx_slot_types.specs.Answers.{GivesOr, IsAnswerOr};
 ghost use Rattle.lx_slot_types.specs.Marks.{conflict_among, conflict_in, first_conflict, first_in, has_slot, mark_in, marked_in, other_in, slots_in};
 ghost use Rattle.lx_slot_types.specs.Slots.{conflict, differ, slot_name, slot_text};
 
 use crate::fault::PropagateFault;
 use crate::marks::{push_mark, slots_in};
+use crate::means::Means;
 use lx_annot::action::Annotation;
 use lx_annot::canonical::canonical;
 use lx_annot::interface::Interface;
@@ -47,7 +48,7 @@ fn slot_text(alloc: Global, i: &Interface, slot: u32) -> Result<Vec<u8>, Memory>
 }
 
 /// Whether the annotations of two slot types are not the same.
-fn differ(alloc: Global, i: &Interface, a: u32, b: u32) -> Result<bool, Memory>
+pub fn differ(alloc: Global, i: &Interface, a: u32, b: u32) -> Result<bool, Memory>
     ensures { IfOk result (λ other. other ≡ differ i.now a b) }
 {
     let first = slot_text(alloc, i, a)?;
@@ -89,30 +90,35 @@ fn some_if(holds: bool, slot: u32) -> Option<u32>
 }
 
 /// The slot type with this number, if it is among some and differs from another.
-fn other_among(
-    alloc: Global,
+fn other_among<M: Means>(
+    means: &M,
     i: &Interface,
     got: &[u32],
     first: u32,
     number: usize,
 ) -> Result<Option<u32>, Memory>
-    ensures { IfOk result (λ other. other ≡ (if has_slot got.now number && differ i.now first number then Some number else None)) }
+    ensures { MatchResult result (λ other. other ≡ (if has_slot got.now number && differ i.now first number then Some number else None)) (λ _. M.lacks means.now) }
 {
     match slot_among(got, number) {
         None => Ok(None),
         Some(slot) => {
-            let other = differ(alloc, i, first, slot)?;
+            let other = means.differ(i, first, slot)?;
             Ok(some_if(other, slot))
         }
     }
 }
 
 /// The first slot type in interface order among some that differs from another.
-fn other_in(alloc: Global, i: &Interface, got: &[u32], first: u32) -> Result<Option<u32>, Memory>
-    ensures { IfOk result (λ other. other ≡ other_in i.now got.now first) }
+fn other_in<M: Means>(
+    means: &M,
+    i: &Interface,
+    got: &[u32],
+    first: u32,
+) -> Result<Option<u32>, Memory>
+    ensures { MatchResult result (λ other. other ≡ other_in i.now got.now first) (λ _. M.lacks means.now) }
 {
     for number in 0..i.slots.len() {
-        let found = other_among(alloc, i, got, first, number)?;
+        let found = other_among(means, i, got, first, number)?;
         match found {
             Some(slot) => return Ok(Some(slot)),
             None => {}
@@ -135,19 +141,19 @@ fn slot_name(alloc: Global, i: &Interface, slot: u32) -> Result<Name, Memory>
 }
 
 /// The conflict of two slot types of a function.
-fn conflict(
+pub fn conflict(
     alloc: Global,
     i: &Interface,
     f: &Function,
     first: u32,
     second: u32,
-) -> Result<(), PropagateFault>
-    ensures { Gives (Some (conflict i.now f.now first second)) result }
+) -> Result<PropagateFault, Memory>
+    ensures { IfOk result (IsAnswerOr ⊥ (Some (conflict i.now f.now first second))) }
 {
     let function = Name::from_bytes(alloc, f.name.as_slice())?;
     let first = slot_name(alloc, i, first)?;
     let second = slot_name(alloc, i, second)?;
-    Err(PropagateFault::Conflict {
+    Ok(PropagateFault::Conflict {
         line: f.line,
         function,
         first,
@@ -155,68 +161,81 @@ fn conflict(
     })
 }
 
+/// The same, or want of memory for its names.
+#[tactic(auto, using(crate::proofs::Passes::is_answer))]
+fn told<M: Means>(means: &M, i: &Interface, f: &Function, first: u32, second: u32) -> PropagateFault
+    ensures { IsAnswerOr (M.lacks means.now) (Some (conflict i.now f.now first second)) result }
+{
+    match means.conflict(i, f, first, second) {
+        Ok(fault) => fault,
+        Err(_) => PropagateFault::Memory,
+    }
+}
+
 /// Finds a slot type of a function that differs from its first one.
-fn check_others(
-    alloc: Global,
+#[tactic(auto, using(crate::proofs::Passes::wanted))]
+fn check_others<M: Means>(
+    means: &M,
     i: &Interface,
     f: &Function,
     got: &[u32],
     first: u32,
 ) -> Result<(), PropagateFault>
-    ensures { Gives (conflict_among i.now f.now got.now (Some first)) result }
+    ensures { GivesOr (M.lacks means.now) (conflict_among i.now f.now got.now (Some first)) result }
 {
-    let other = other_in(alloc, i, got, first)?;
+    let other = other_in(means, i, got, first)?;
     match other {
         None => Ok(()),
-        Some(second) => conflict(alloc, i, f, first, second),
+        Some(second) => Err(told(means, i, f, first, second)),
     }
 }
 
 /// Finds a conflict of a function that gets these slot types.
-fn check_slots(
-    alloc: Global,
+fn check_slots<M: Means>(
+    means: &M,
     i: &Interface,
     f: &Function,
     got: &[u32],
 ) -> Result<(), PropagateFault>
-    ensures { Gives (conflict_in i.now f.now got.now) result }
+    ensures { GivesOr (M.lacks means.now) (conflict_in i.now f.now got.now) result }
 {
     if f.blocks.is_none() {
         return Ok(());
     }
     match first_in(i, got) {
         None => Ok(()),
-        Some(first) => check_others(alloc, i, f, got, first),
+        Some(first) => check_others(means, i, f, got, first),
     }
 }
 
 /// Finds a conflict of the function with this number.
-fn check_function(
-    alloc: Global,
+#[tactic(auto, using(crate::proofs::Passes::wanted))]
+fn check_function<M: Means>(
+    means: &M,
     i: &Interface,
     f: &Function,
     number: usize,
     marks: &[Marked],
 ) -> Result<(), PropagateFault>
-    ensures { Gives (conflict_in i.now f.now (slots_in number marks.now)) result }
+    ensures { GivesOr (M.lacks means.now) (conflict_in i.now f.now (slots_in number marks.now)) result }
 {
-    let got = slots_in(alloc, number, marks)?;
-    check_slots(alloc, i, f, &got)?;
+    let got = means.slots_in(number, marks)?;
+    check_slots(means, i, f, &got)?;
     Ok(())
 }
 
 /// Finds the first function with a conflict.
 #[tactic(auto, using(crate::proofs::Passes::conflict_step, crate::proofs::Passes::conflict_end, crate::proofs::Passes::first_answer))]
-pub fn check_functions(
-    alloc: Global,
+pub fn check_functions<M: Means>(
+    means: &M,
     i: &Interface,
     functions: &[Function],
     marks: &[Marked],
 ) -> Result<(), PropagateFault>
-    ensures { Gives (first_conflict i.now marks.now 0 functions.now) result }
+    ensures { GivesOr (M.lacks means.now) (first_conflict i.now marks.now 0 functions.now) result }
 {
     for (k, f) in functions.iter().enumerate() {
-        check_function(alloc, i, f, k, marks)?;
+        check_function(means, i, f, k, marks)?;
     }
     Ok(())
 }

@@ -6,6 +6,7 @@ mod decide;
 mod fault;
 mod fields;
 mod marks;
+mod means;
 mod module;
 mod parts;
 mod rows;

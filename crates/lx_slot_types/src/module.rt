@@ -2,7 +2,7 @@
 
 ghost use Rattle.std.specs.Prelude.{◌≡◌, IfOk};
 ghost use Rattle.lx_ir.specs.Lawful.{IsLawful};
-ghost use Rattle.lx_slot_types.specs.Answers.{Gives, Propagates};
+ghost use Rattle.lx_slot_types.specs.Answers.{GivesOr, Propagates, PropagatesOr};
 ghost use Rattle.lx_slot_types.specs.Marks.{marks_of};
 ghost use Rattle.lx_propagate.specs.Gets.{slot_of};
 ghost use Rattle.lx_slot_types.specs.Slots.{annotated_of, conflict_of};
@@ -10,6 +10,7 @@ ghost use Rattle.lx_slot_types.specs.Slots.{annotated_of, conflict_of};
 use crate::decide::{check_functions, first_in, marked_in};
 use crate::fault::PropagateFault;
 use crate::marks::{marks_of, slots_in};
+use crate::means::Means;
 use lx_annot::interface::Interface;
 use lx_ir::module::Module;
 use lx_propagate::{Annotated, Marked};
@@ -17,20 +18,20 @@ use lx_words::Memory;
 use std::alloc::Global;
 
 /// Finds the first function of a module with a conflict.
-fn check_module(
-    alloc: Global,
+fn check_module<M: Means>(
+    means: &M,
     i: &Interface,
     m: &Module,
     marks: &[Marked],
 ) -> Result<(), PropagateFault>
     requires { marks.now ≡ marks_of i.now m.now }
-    ensures { Gives (conflict_of i.now m.now) result }
+    ensures { GivesOr (M.lacks means.now) (conflict_of i.now m.now) result }
 {
-    check_functions(alloc, i, m.functions.as_slice(), marks)
+    check_functions(means, i, m.functions.as_slice(), marks)
 }
 
 /// The functions of a module with their slot types.
-fn annotated_of(
+pub fn annotated_of(
     alloc: Global,
     i: &Interface,
     m: &Module,
@@ -44,24 +45,38 @@ fn annotated_of(
     Ok(Annotated::from_vec(list))
 }
 
-/// The functions that a module defines and that get a slot type, in order, each with the first slot type in
-/// interface order that it gets. A function gets a slot type where it stands as the value of a field that the
-/// interface types: in an initialiser, or as the value of a store to the field.
-///
-/// `PropagateFault::Conflict` comes exactly where some function gets two slot types whose annotations have not the
-/// same canonical text; it names the first such function.
-pub fn propagate(alloc: Global, i: &Interface, m: &Module) -> Result<Annotated, PropagateFault>
+/// Hands on slot types over any means.
+#[tactic(auto, using(crate::proofs::Passes::wanted))]
+fn propagate_by<M: Means>(means: &M, i: &Interface, m: &Module) -> Result<Annotated, PropagateFault>
     requires { IsLawful m.now }
-    ensures { Propagates i.now m.now result }
+    ensures { PropagatesOr (M.lacks means.now) i.now m.now result }
 {
-    let marks = marks_of(alloc, i, m)?;
-    match check_module(alloc, i, m, &marks) {
+    let marks = means.marks_of(i, m)?;
+    match check_module(means, i, m, &marks) {
         Ok(()) => {
-            let list = annotated_of(alloc, i, m, &marks)?;
+            let list = means.annotated_of(i, m, &marks)?;
             Ok(list)
         }
         Err(fault) => Err(fault),
     }
+}
+
+/// The functions that a module defines and that get a slot type, in order, each with the first slot type in
+/// interface order that it gets. A function gets a slot type where it stands as the value of a field that the
+/// interface types: in an initialiser, or as the value of a store to the field.
+///
+/// # Errors
+/// `PropagateFault::Conflict` comes exactly where some function gets two slot types whose annotations have not the
+/// same canonical text; it names the first such function. `PropagateFault::Memory` comes only where there was no memory
+/// for the lists of sites, for the texts of annotations or for the names in the fault: a conflict is looked for in
+/// those lists and texts, so that one may go unseen for want of them, but none that was found is told as want of memory.
+#[tactic(auto, using(crate::proofs::Passes::any_want))]
+pub fn propagate(alloc: Global, i: &Interface, m: &Module) -> Result<Annotated, PropagateFault>
+    requires { IsLawful m.now }
+    ensures { Propagates i.now m.now result }
+{
+    let list = propagate_by(&alloc, i, m)?;
+    Ok(list)
 }
 
 /// The first slot type in interface order that a function of a module gets, if it gets one. Want of memory is the only error.

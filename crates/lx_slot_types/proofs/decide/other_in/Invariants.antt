@@ -6,4 +6,4 @@ use Rattle.lx_slot_types.specs.Slots.{differ}
 use Rattle.lx_slot_types.proofs.decide.other_in.Given as goal
 
 abbrev pub invariant-loop-number : goal.invariant-loop-number
-invariant-loop-number l = find (λ t. has_slot l.got t && differ l.i l.first t) (below l.number) ≡ None
+invariant-loop-number g l = find (λ t. has_slot l.got t && differ l.i l.first t) (below l.number) ≡ None
