@@ -4,4 +4,5 @@ pub mod Passes
 pub mod Names
 pub mod Entries
 pub mod Places
+pub mod Counts
 pub mod Sound

@@ -1,13 +1,14 @@
 -- Lemmas on passes: a first fault in a list, and what a pass answers.
-use Rattle.std.proofs.Common.{◌≡◌, ℕ, zero, suc, ◌+◌, ◌<◌, ◌≤◌, Bool, ◌||◌, Option, Some, None, List, [], ◌∷◌, ◌++◌, length, get_or, drop, map, refl, sym, ap, ◌∙◌, arith, true, false}
+use Rattle.std.proofs.Common.{◌≡◌, ℕ, zero, suc, ◌+◌, ◌<◌, ◌≤◌, Bool, ◌||◌, Option, Some, None, List, [], ◌∷◌, ◌++◌, length, get_or, drop, map, refl, sym, ap, ◌∙◌, arith, nat_le, true, false}
 use Rattle.std.specs.Prelude.{flat_map}
 use Rattle.std.specs.List.{list_any}
 use Rattle.std.specs.Option.{option_or}
+use Rattle.std.proofs.lemmas.Bool.Decides.{nat_tests}
 use Rattle.std.proofs.lemmas.List.{drop_all, length-map}
 use Rattle.lx_ir.specs.declared.module.Module.{Module}
 use Rattle.lx_ir.specs.Faults.{first_some}
 use Rattle.lx_model.specs.declared.program.ProgramModule.{ProgramModule}
-use Rattle.lx_link_texts.specs.Faults.{Fault, first_module}
+use Rattle.lx_link_texts.specs.Faults.{Fault, fault_unless, first_module}
 use Rattle.lx_link_texts.proofs.Pairs.{rest_at}
 
 pub first_step : {A B : Type 0} (f : A → Option B) (xs : List A) (i : ℕ) (x : A) → i < length xs → x ≡ get_or xs i x → first_some f (drop i xs) ≡ option_or (f x) (first_some f (drop (i + 1) xs))
@@ -56,3 +57,17 @@ map_at f xs ys i x y e h p q =
 
 pub map_long : {A B : Type 0} (f : A → B) (xs : List A) (ys : List B) (i : ℕ) → ys ≡ map f xs → i < length xs → i < length ys
 map_long f xs ys i e h = let n : length ys ≡ length xs = ap length e ∙ length-map xs f in omega arith
+
+-- limits
+
+pub at_most : (n m : ℕ) → n ≤ m → nat_le n m ≡ true
+at_most n m h = grind (arith, nat_tests)
+
+pub not_at_most : (n m : ℕ) → m < n → nat_le n m ≡ false
+not_at_most n m h = grind (arith, nat_tests)
+
+pub is_within : (n m : ℕ) (x : Fault) → n ≤ m → fault_unless (nat_le n m) x ≡ None
+is_within n m x h = ap (λ b. fault_unless b x) (at_most n m h)
+
+pub is_past : (n m : ℕ) (x : Fault) → m < n → fault_unless (nat_le n m) x ≡ Some x
+is_past n m x h = ap (λ b. fault_unless b x) (not_at_most n m h)

@@ -12,9 +12,7 @@ use Rattle.lx_ir.specs.Layout.{size_of, is_lawful_type, is_type_within, names_st
 use Rattle.lx_model.specs.declared.program.ProgramModule.{ProgramModule}
 use Rattle.lx_model.specs.declared.program.ProgramGlobal.{ProgramGlobal}
 use Rattle.lx_model.specs.Program.{Home}
-use Rattle.lx_link_texts.specs.declared.globals.PlaceError.{PlaceError}
-use Rattle.lx_link_texts.specs.declared.globals.PlaceError.TheVariants as errors
-use Rattle.lx_link_texts.specs.Placing.{IsPast, end_behind, end_of, global_size, last_end, module_places, modules_end, place, places_from, start_behind}
+use Rattle.lx_link_texts.specs.Placing.{end_behind, end_of, global_size, last_end, module_places, modules_end, place, places_from, start_behind}
 use Rattle.lx_link_texts.proofs.Pairs.{rest_at}
 use Rattle.lx_link_texts.proofs.Entries.{goes_on, ends}
 
@@ -75,16 +73,20 @@ farther_modules end (m ∷ ms) =
     omega (arith, a, b)
 
 -- what is past the region stays past it
-pub still_past : (a b : ℕ) (e : PlaceError) → a ≤ b → IsPast a e → IsPast b e
-still_past a b errors.Past h p = omega (arith, h, p)
-still_past a b errors.Memory h p = tt
-
-pub past_step : (types : List NamedType) (gs : List GlobalVar) (i : ℕ) (g : GlobalVar) (end size all : ℕ) (e : PlaceError) → i < length gs → g ≡ get_or gs i g
-    → size ≡ global_size types g → end_behind types end (drop i gs) ≡ all → IsPast (start_behind end + size) e → IsPast all e
-past_step types gs i g end size all e h d s k p =
+pub past_step : (types : List NamedType) (gs : List GlobalVar) (i : ℕ) (g : GlobalVar) (end size all : ℕ) → i < length gs → g ≡ get_or gs i g
+    → size ≡ global_size types g → end_behind types end (drop i gs) ≡ all → last_end < start_behind end + size → last_end < all
+past_step types gs i g end size all h d s k p =
     let next = end_step types gs i g end (start_behind end + size) size all h d s refl k in
     let far = farther types (start_behind end + size) (drop (i + 1) gs) in
-    still_past (start_behind end + size) all e (subst (λ z. start_behind end + size ≤ z) next far) p
+    omega (arith, far, next, p)
+
+-- where the last end is within the region, those before it are
+pub next_within : (types : List NamedType) (gs : List GlobalVar) (i : ℕ) (g : GlobalVar) (end next size all : ℕ) → i < length gs → g ≡ get_or gs i g
+    → size ≡ global_size types g → next ≡ start_behind end + size → end_behind types end (drop i gs) ≡ all → all ≤ last_end → next ≤ last_end
+next_within types gs i g end next size all h d s n k fits =
+    let last = end_step types gs i g end next size all h d s n k in
+    let far = farther types next (drop (i + 1) gs) in
+    omega (arith, far, last, fits)
 
 -- one module more
 
@@ -108,13 +110,23 @@ modules_end_step ms i m end next all h e n k =
 pub modules_end_all : (ms : List ProgramModule) (i end all : ℕ) → length ms ≤ i → modules_end end (drop i ms) ≡ all → end ≡ all
 modules_end_all ms i end all h k = sym (ap (modules_end end) (drop_all i ms h)) ∙ k
 
-pub past_modules : (ms : List ProgramModule) (i : ℕ) (m : ProgramModule) (end all : ℕ) (e : PlaceError) → i < length ms → m ≡ get_or ms i m
-    → modules_end end (drop i ms) ≡ all → IsPast (end_behind m.«module».types end m.«module».globals) e → IsPast all e
-past_modules ms i m end all e h d k p =
+pub past_modules : (ms : List ProgramModule) (i : ℕ) (m : ProgramModule) (end all : ℕ) → i < length ms → m ≡ get_or ms i m
+    → modules_end end (drop i ms) ≡ all → last_end < end_behind m.«module».types end m.«module».globals → last_end < all
+past_modules ms i m end all h d k p =
     let next = modules_end_step ms i m end (end_behind m.«module».types end m.«module».globals) all h d refl k in
     let far = farther_modules (end_behind m.«module».types end m.«module».globals) (drop (i + 1) ms) in
-    still_past (end_behind m.«module».types end m.«module».globals) all e (subst (λ z. end_behind m.«module».types end m.«module».globals ≤ z) next far) p
+    omega (arith, far, next, p)
 
 -- what is past the region behind the kernel
-pub past_kernel : (ms : List ProgramModule) (end : ℕ) (e : PlaceError) → IsPast end e → IsPast (modules_end end ms) e
-past_kernel ms end e p = still_past end (modules_end end ms) e (farther_modules end ms) p
+pub past_kernel : (ms : List ProgramModule) (end : ℕ) → last_end < end → last_end < modules_end end ms
+past_kernel ms end p = let far = farther_modules end ms in omega (arith, far, p)
+
+pub module_within : (ms : List ProgramModule) (i : ℕ) (m : ProgramModule) (end all : ℕ) → i < length ms → m ≡ get_or ms i m
+    → modules_end end (drop i ms) ≡ all → all ≤ last_end → end_behind m.«module».types end m.«module».globals ≤ last_end
+module_within ms i m end all h d k fits =
+    let next = modules_end_step ms i m end (end_behind m.«module».types end m.«module».globals) all h d refl k in
+    let far = farther_modules (end_behind m.«module».types end m.«module».globals) (drop (i + 1) ms) in
+    omega (arith, far, next, fits)
+
+pub kernel_within : (ms : List ProgramModule) (end : ℕ) → modules_end end ms ≤ last_end → end ≤ last_end
+kernel_within ms end fits = let far = farther_modules end ms in omega (arith, far, fits)

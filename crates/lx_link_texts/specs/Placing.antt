@@ -1,5 +1,5 @@
 -- The program of a kernel, an interface and modules: numbers of functions and addresses of globals.
-use Rattle.std.specs.Prelude.{ℕ, ◌+◌, ◌<◌, ◌^◌, Bool, true, false, All, IsTrue, Option, Some, None, List, [], ◌∷◌, ◌++◌, length, ⊤}
+use Rattle.std.specs.Prelude.{ℕ, ◌+◌, ◌<◌, ◌≤◌, ◌^◌, Bool, true, false, All, IsTrue, Option, Some, None, List, [], ◌∷◌, ◌++◌, length}
 use Rattle.lx_caps.specs.Regions.{globals_start, region_size, align_up}
 use Rattle.lx_ir.specs.declared.types.NamedType.{NamedType}
 use Rattle.lx_ir.specs.declared.module.GlobalVar.{GlobalVar}
@@ -92,10 +92,10 @@ globals_end s = modules_end (kernel_end s) s.modules
 abbrev pub last_end : ℕ
 last_end = globals_start + region_size
 
--- globals have no place: their end is past the region, or there was not enough memory
+-- globals have no place: their end is past the region, or it is not and there was not enough memory
 abbrev pub IsPast : ℕ → PlaceError → Type 0
 IsPast end errors.Past = last_end < end
-IsPast end errors.Memory = ⊤
+IsPast end errors.Memory = end ≤ last_end
 
 -- What numbers and sizes are within limits.
 

@@ -1,20 +1,18 @@
 //! The globals of a program by address.
 ghost use Rattle.std.specs.Prelude.{◌≡◌, ◌+◌, ◌<◌, ◌≤◌, ◌^◌, ◌++◌, ◌∷◌, [], All, IfErr, IfOk, IsTrue, OnOk, length};
 ghost use Rattle.lx_ir.specs.Layout.{is_lawful_type};
-ghost use Rattle.lx_link_texts.specs.Placing.{HasGlobals, HasLawfulGlobals, HasLimits, IsPast, end_behind, end_of, global_size, globals_end, globals_of, last_end, module_places, modules_end, place, places_from, start_behind};
+ghost use Rattle.lx_link_texts.specs.Placing.{HasGlobals, HasLawfulGlobals, HasLimits, IsPast, end_behind, global_size, globals_end, globals_of, last_end, module_places, modules_end, place, places_from, start_behind};
 
+use crate::limits::do_globals_fit;
 use crate::sources::Sources;
 use lx_ir::module::{GlobalVar, Module};
 use lx_ir::size_of;
 use lx_model::program::{ProgramGlobal, ProgramModule};
 use lx_words::{Items, Memory};
-use std::alloc::{AllocFailed, Global};
+use std::alloc::Global;
 
 /// Where the region of globals begins.
-const GLOBALS_START: u64 = 0x1000000;
-
-/// Where it ends.
-const LAST_END: u64 = 0x1100000;
+pub const GLOBALS_START: u64 = 0x1000000;
 
 /// Why globals have no place.
 #[derive(Clone, Copy, Debug, PartialEq, Eq)]
@@ -25,20 +23,9 @@ pub enum PlaceError {
     Memory,
 }
 
-impl<T: Drop> From<AllocFailed<T>> for PlaceError {
-    ghost use Rattle.std.specs.Prelude.{◌≡◌};
-    ghost use Rattle.lx_link_texts.specs.declared.globals.PlaceError.TheVariants.{Memory as no_memory};
-
-    ghost from_gives = { λ _ e. e ≡ no_memory };
-
-    fn from(_want: AllocFailed<T>) -> Self {
-        PlaceError::Memory
-    }
-}
-
 /// How many bytes a global takes.
 #[tactic(auto, using(crate::proofs::Places::size_within), unfolding(crate::specs::Placing::global_size))]
-fn global_size(m: &Module, global: &GlobalVar) -> u64
+pub fn global_size(m: &Module, global: &GlobalVar) -> u64
     requires { IsTrue (is_lawful_type m.now.types global.now.ty) }
     ensures value { result ≡ global_size m.now.types global.now }
     ensures small { result ≤ 4294967296 }
@@ -47,7 +34,7 @@ fn global_size(m: &Module, global: &GlobalVar) -> u64
 }
 
 /// The next address divisible by 16.
-fn start_behind(end: u64) -> u64
+pub fn start_behind(end: u64) -> u64
     requires { end ≤ last_end }
     ensures value { result ≡ start_behind end }
     ensures near { result ≤ last_end }
@@ -62,16 +49,12 @@ fn push_place(
     number: u32,
     end: u64,
     size: u64,
-) -> Result<u64, PlaceError>
+) -> Result<u64, Memory>
     requires end { end ≤ last_end }
     requires size { size ≤ 4294967296 }
-    ensures ok { IfOk result (λ next. (next ≡ start_behind end + size) × (next ≤ last_end) × (places.new ≡ places.old ++ place home number (start_behind end) ∷ [])) }
-    ensures err { IfErr result (λ e. IsPast (start_behind end + size) e) }
+    ensures { IfOk result (λ next. (next ≡ start_behind end + size) × (places.new ≡ places.old ++ place home number (start_behind end) ∷ [])) }
 {
     let at = start_behind(end);
-    if at + size > LAST_END {
-        return Err(PlaceError::Past);
-    }
     places.push(ProgramGlobal {
         module: home,
         global: number,
@@ -81,17 +64,17 @@ fn push_place(
 }
 
 /// Adds the globals of a text behind an end, and answers where they end.
-#[tactic(auto, using(crate::proofs::Places::places_step, crate::proofs::Places::places_end, crate::proofs::Places::end_step, crate::proofs::Places::end_all, crate::proofs::Places::past_step))]
+#[tactic(auto, using(crate::proofs::Places::places_step, crate::proofs::Places::places_end, crate::proofs::Places::end_step, crate::proofs::Places::end_all, crate::proofs::Places::next_within))]
 fn push_places(
     places: &mut Items<ProgramGlobal>,
     home: Option<u32>,
     m: &Module,
     from: u64,
-) -> Result<u64, PlaceError>
+) -> Result<u64, Memory>
     requires lawful { HasLawfulGlobals m.now }
     requires end { from ≤ last_end }
-    ensures ok { IfOk result (λ next. (next ≡ end_behind m.now.types from m.now.globals) × (next ≤ last_end) × (places.new ≡ places.old ++ places_from m.now.types home 0 from m.now.globals)) }
-    ensures err { IfErr result (λ e. IsPast (end_behind m.now.types from m.now.globals) e) }
+    requires fits { end_behind m.now.types from m.now.globals ≤ last_end }
+    ensures { IfOk result (λ next. (next ≡ end_behind m.now.types from m.now.globals) × (places.new ≡ places.old ++ places_from m.now.types home 0 from m.now.globals)) }
 {
     let mut end = from;
     for (number, global) in m.globals.as_slice().iter().enumerate() {
@@ -102,17 +85,17 @@ fn push_places(
 }
 
 /// Adds the globals of modules behind an end.
-#[tactic(auto, using(crate::proofs::Places::module_places_step, crate::proofs::Places::module_places_end, crate::proofs::Places::modules_end_step, crate::proofs::Places::modules_end_all, crate::proofs::Places::past_modules))]
+#[tactic(auto, using(crate::proofs::Places::module_places_step, crate::proofs::Places::module_places_end, crate::proofs::Places::modules_end_step, crate::proofs::Places::module_within))]
 fn push_module_places(
     places: &mut Items<ProgramGlobal>,
     modules: &[ProgramModule],
     from: u64,
-) -> Result<(), PlaceError>
+) -> Result<(), Memory>
     requires few { length modules.now < 2 ^ 32 }
     requires lawful { All HasGlobals modules.now }
     requires end { from ≤ last_end }
-    ensures ok { OnOk result ((modules_end from modules.now ≤ last_end) × (places.new ≡ places.old ++ module_places 0 from modules.now)) }
-    ensures err { IfErr result (λ e. IsPast (modules_end from modules.now) e) }
+    requires fits { modules_end from modules.now ≤ last_end }
+    ensures { OnOk result (places.new ≡ places.old ++ module_places 0 from modules.now) }
 {
     let mut end = from;
     for (number, entry) in modules.iter().enumerate() {
@@ -121,16 +104,34 @@ fn push_module_places(
     Ok(())
 }
 
-/// The globals of the texts by address: the kernel's, then those of each module, each at the next address divisible by
-/// 16. An error where they end past the region of globals.
-#[tactic(auto, using(crate::proofs::Places::past_kernel), unfolding(crate::specs::Placing::globals_of, crate::specs::Placing::globals_end))]
-pub fn globals_of(alloc: Global, sources: &Sources) -> Result<Items<ProgramGlobal>, PlaceError>
-    requires { HasLimits sources.now }
-    ensures ok { IfOk result (λ places. (globals_end sources.now ≤ last_end) × (places ≡ globals_of sources.now)) }
-    ensures err { IfErr result (λ e. IsPast (globals_end sources.now) e) }
+/// The places of globals that end within their region.
+#[tactic(auto, using(crate::proofs::Places::kernel_within), unfolding(crate::specs::Placing::globals_of, crate::specs::Placing::globals_end))]
+fn places_of(alloc: Global, sources: &Sources) -> Result<Items<ProgramGlobal>, Memory>
+    requires limits { HasLimits sources.now }
+    requires fits { globals_end sources.now ≤ last_end }
+    ensures { IfOk result (λ places. places ≡ globals_of sources.now) }
 {
     let mut places = Items::new(alloc);
     let end = push_places(&mut places, None, &sources.kernel, GLOBALS_START)?;
     push_module_places(&mut places, sources.modules.as_slice(), end)?;
     Ok(places)
+}
+
+/// The globals of the texts by address: the kernel's, then those of each module, each at the next address divisible by
+/// 16.
+///
+/// # Errors
+/// `Past` where they end past the region of globals, whatever memory there is; `Memory` only where they do not.
+pub fn globals_of(alloc: Global, sources: &Sources) -> Result<Items<ProgramGlobal>, PlaceError>
+    requires { HasLimits sources.now }
+    ensures ok { IfOk result (λ places. (globals_end sources.now ≤ last_end) × (places ≡ globals_of sources.now)) }
+    ensures err { IfErr result (λ e. IsPast (globals_end sources.now) e) }
+{
+    if !do_globals_fit(sources) {
+        return Err(PlaceError::Past);
+    }
+    match places_of(alloc, sources) {
+        Ok(places) => Ok(places),
+        Err(_) => Err(PlaceError::Memory),
+    }
 }

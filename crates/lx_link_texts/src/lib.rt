@@ -8,6 +8,7 @@ mod functions;
 mod globals;
 mod imports;
 mod kernel;
+mod limits;
 mod lookup;
 mod signatures;
 mod slots;
@@ -16,6 +17,7 @@ mod texts;
 
 pub use functions::functions_of;
 pub use globals::{PlaceError, globals_of};
+pub use limits::check_limits;
 pub use texts::check_texts;
 
 /// Sound texts without a fault make a well-formed program, and verified ones are within what is numbered.
