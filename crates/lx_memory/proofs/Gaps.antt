@@ -209,6 +209,13 @@ found-gap size kept g some ascending is = subst (Found size heap_start kept) (sy
 pub address-given : HeapLaws → (kept : List Block) (bs : Blocks) (size : ℕ) (g : Gap) → 0 < size → IsAscending heap_start kept → Some g ≡ first_gap size 0 heap_start kept → KeepsBlocks kept bs → g.at ≡ alloc_address bs size
 address-given laws kept bs size g some ascending is keeps = gap-address laws kept bs size g some keeps (found-gap size kept (Some g) some ascending is)
 
+-- where there is a gap, the address is none that stands for want of one
+pub some-given : HeapLaws → (kept : List Block) (bs : Blocks) (size : ℕ) (g : Gap) → 0 < size → IsAscending heap_start kept → Some g ≡ first_gap size 0 heap_start kept → KeepsBlocks kept bs → alloc_address bs size ≢ 0
+some-given laws kept bs size g some ascending is keeps = λ none.
+    let low = (found-gap size kept (Some g) some ascending is).from in
+    let same = address-given laws kept bs size g some ascending is keeps in
+    omega (arith, low, same, none)
+
 pub none-given : HeapLaws → (kept : List Block) (bs : Blocks) (size : ℕ) → 0 < size → IsAscending heap_start kept → None ≡ first_gap size 0 heap_start kept → KeepsBlocks kept bs → 0 ≡ alloc_address bs size
 none-given laws kept bs size some ascending is keeps = no-address laws kept bs size keeps (found-gap size kept None some ascending is)
 

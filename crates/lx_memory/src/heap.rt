@@ -112,7 +112,7 @@ fn take(blocks: &mut Vec<Block>, place: usize)
 }
 
 impl KHeap {
-    ghost use Rattle.std.specs.Prelude.{◌≡◌, ℕ, IfOk, OnOk, OnErr, IsOk, IfErr, true, false, []};
+    ghost use Rattle.std.specs.Prelude.{◌≡◌, ◌≢◌, ℕ, IfOk, OnOk, OnErr, IsOk, IfErr, true, false, []};
     ghost use Rattle.lx_caps.specs.Heap.{Blocks, alloc_address, is_live, without_block};
     ghost use Rattle.lx_memory.specs.Heaps.{KeepsBlocks, with_block};
 
@@ -129,11 +129,13 @@ impl KHeap {
     /// free or none are asked for.
     ///
     /// # Errors
-    /// `Memory`, and then nothing is changed.
+    /// `Memory`, and then nothing is changed. It comes only where there is such an address: what no heap can hold is
+    /// answered by 0, whatever memory there is.
     pub fn alloc(&mut self, size: u64) -> Result<u64, Memory>
         ensures given { IfOk result (λ at. (bs : Blocks) → KeepsBlocks self.old bs → at ≡ alloc_address bs size) }
         ensures live { IfOk result (λ at. (bs : Blocks) → KeepsBlocks self.old bs → KeepsBlocks self.new (with_block at size bs)) }
         ensures err { OnErr result (self.new ≡ self.old) }
+        ensures held { OnErr result ((bs : Blocks) → KeepsBlocks self.old bs → alloc_address bs size ≢ 0) }
     {
         heap_laws();
         if size == 0 {
