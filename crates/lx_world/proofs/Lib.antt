@@ -1,6 +1,7 @@
 pub mod Accounting
-pub mod Gathered
+pub mod Calls
 pub mod Counted
+pub mod Gathered
 pub mod Numbered
 pub mod Standing
 pub mod Turns

@@ -169,3 +169,12 @@ open_more p rs new ys r c t number is stand fresh =
     subst (λ (zs : List Runner). AllStand p 0 zs (map fresh_thread (ys ++ c ∷ []))) (sym is)
     (subst (AllStand p 0 (rs ++ r ∷ [])) (sym (map-append fresh_thread ys (c ∷ [])))
     (stand_push p 0 rs (map fresh_thread ys) r (fresh_thread c) stand (subst (λ (n : ℕ). StandsFor p n r (fresh_thread c)) at (record { runs = fresh; stack = tt }))))
+
+-- what holds of each state and each thread that the part and a runner stand for
+pub at_thread : {C : Type 0} (stands : C → History → Type 0) (old : World C) (p : Program) (w : Meaning) (t : ℕ) (r : Runner) (Holds : Type 0) → r ≡ slice_index_or old.runners.list.items t r
+    → t < length old.runners.list.items → ((s : State) (x : Thread) → StandsForState stands old.linked.code old.shared s → StandsFor old.linked.code t r x → Holds)
+    → StandsForWorld stands p old w → Holds
+at_thread stands old p w t r Holds is there holds st =
+    let threads = subst (λ (q : Program). AllStand q 0 old.runners.list.items w.threads) (sym st.program) st.threads in
+    let at = standing old.linked.code 0 t t old.runners.list.items w.threads r threads (omega arith) there is in
+    holds w.state at.0 (subst (λ (q : Program). StandsForState stands q old.shared w.state) (sym st.program) st.shared) at.2

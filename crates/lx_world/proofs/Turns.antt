@@ -1,5 +1,5 @@
 -- What a thread asks is served, and what it is served answers it.
-use Rattle.std.proofs.Common.{◌≡◌, ℕ, ◌+◌, ◌<◌, Bool, true, false, Option, Some, None, List, IsTrue, refl, sym, ap, subst, ◌∙◌, arith}
+use Rattle.std.proofs.Common.{◌≡◌, ℕ, ◌+◌, ◌*◌, ◌<◌, ◌≤◌, Bool, true, false, Option, Some, None, List, length, IsTrue, refl, sym, ap, subst, ◌∙◌, arith}
 use Rattle.std.specs.Prelude.{nat_le}
 use Rattle.std.proofs.lemmas.Bool.Decides.{nat_tests}
 use Rattle.lx_words.specs.Word.{Word}
@@ -7,6 +7,7 @@ use Rattle.lx_caps.specs.Regions.{stack_end}
 use Rattle.lx_caps.specs.History.{History}
 use Rattle.lx_caps.specs.declared.Principal.{Principal}
 use Rattle.lx_model.specs.declared.program.Program.{Program}
+use Rattle.lx_model.specs.declared.program.ScriptCall.{ScriptCall}
 use Rattle.lx_model.specs.declared.request.Outcome.{Outcome}
 use Rattle.lx_model.specs.declared.request.Outcome.TheVariants.{Trapped}
 use Rattle.lx_model.specs.declared.request.Reply.{Reply}
@@ -29,9 +30,11 @@ use Rattle.lx_interp.specs.declared.runner.Runner.{Runner}
 use Rattle.lx_interp.specs.Runner.{may_answer, is_spent, IsAsking, calls_left}
 use Rattle.lx_interp.specs.Runner.{StandsFor as Runs}
 use Rattle.lx_serve.specs.declared.shared.SharedPart.{SharedPart}
+use Rattle.lx_serve.specs.Room.{taken_by}
 use Rattle.lx_serve.specs.Served.{is_ended}
 use Rattle.lx_serve.specs.Stands.{StandsForState, Serves}
 use Rattle.lx_world.specs.Worlds.{HasTurned, StandsFor}
+use Rattle.lx_world.proofs.Calls.{room_of_ends}
 
 never : false ≡ true → ⊥
 never e = cc
@@ -133,6 +136,21 @@ turned stands laws p t s x old new mid after q answer st few on asks is serves a
         stack = laws.stays p s t x on;
       };
     }
+
+-- and it leaves room for the ends of the calls that are left
+pub turned_ends : {C : Type 0} (stands : C → History → Type 0) (laws : RequestLaws) (p : Program) (t : ℕ) (s : State) (x : Thread) (old new : SharedPart C) (mid after : Runner) (q : Request) (answer : Reply)
+    → StandsForState stands p old s → t < 16 → AreOnStack t x.frames → IsAsking p t mid (next p t x) → Some q ≡ Some (next p t x).request
+    → (is_servable p t q ≡ true → Serves stands p new answer (serve p s t q))
+    → (IsTrue (may_answer (next p t x).request.what answer) → Runs p t after (absorb p t (next p t x).thread (next p t x).request answer))
+    → (before : List ScriptCall) (room left : ℕ) → has_call before ≡ true → calls_left mid ≡ before → room ≤ left + taken_by answer
+    → 2 * length (calls_left after) + room ≤ 2 * length before + left
+turned_ends stands laws p t s x old new mid after q answer st few on asks is serves absorbs before room left work same leaves =
+    let r = (next p t x).request in
+    let asked : q ≡ r = some_same q r is in
+    let sv = subst (λ (z : Request). is_servable p t z ≡ true → Serves stands p new answer (serve p s t z)) asked serves (laws.asks p t x few on) in
+    let h = turned stands laws p t s x old new mid after q answer st few on asks is serves absorbs in
+    room_of_ends p t (next p t x).thread r (serve p s t r).reply answer before (calls_left mid) (calls_left after) room left work same (ap (λ (y : Thread). y.calls) asks.thread)
+    h.runner.runs.calls sv.reply leaves
 
 pub has_work_of : (p : Program) (t : ℕ) (r : Runner) (x : Thread) → StandsFor p t r x → IsTrue (has_call (calls_left r)) → IsTrue (has_work x)
 has_work_of p t r x st work = ap has_call (sym st.runs.calls) ∙ work

@@ -1,5 +1,5 @@
 -- The world stands for a world of the monitor.
-use Rattle.std.specs.Prelude.{◌≡◌, ◌≤◌, ℕ, suc, Bool, true, not, Option, Some, None, List, [], ◌∷◌, option_map, unwrap_or, slice_get}
+use Rattle.std.specs.Prelude.{◌≡◌, ◌≤◌, ◌*◌, ℕ, suc, Bool, true, not, Option, Some, None, List, [], ◌∷◌, length, option_map, unwrap_or, slice_get}
 use Rattle.std.specs.List.{sum_by}
 use Rattle.lx_requests.specs.OnStack.{AreOnStack}
 use Rattle.lx_caps.specs.History.{History}
@@ -12,7 +12,7 @@ use Rattle.lx_model.specs.Serve.{serve}
 use Rattle.lx_model.specs.World.{World as Meaning}
 use Rattle.lx_interp.specs.declared.runner.Runner.{Runner}
 use Rattle.lx_interp.specs.Runner.{StandsFor as Runs, calls_left, events_left, events_of}
-use Rattle.lx_serve.specs.Room.{journal_room}
+use Rattle.lx_serve.specs.Room.{journal_room, store_room}
 use Rattle.lx_serve.specs.Stands.{StandsForState}
 use Rattle.lx_serve.specs.declared.shared.SharedPart.{SharedPart}
 use Rattle.lx_world.specs.declared.world.World.{World}
@@ -60,6 +60,18 @@ script_events script = sum_by events_of script
 -- the journal has room for all events that the world may still have
 abbrev pub HasRoom : {C : Type 0} → World C → Type 0
 HasRoom w = events_in w ≤ journal_room w.shared
+
+-- how many calls a world has that have not ended
+abbrev pub calls_in : {C : Type 0} → World C → ℕ
+calls_in w = sum_by (λ r. length (calls_left r)) w.runners.list.items
+
+-- how many calls a script has
+abbrev pub script_calls : List (List ScriptCall) → ℕ
+script_calls script = sum_by length script
+
+-- the store has room for the end of each call that has not ended, which is two acts
+abbrev pub HasEndsRoom : {C : Type 0} → (C → ℕ) → World C → Type 0
+HasEndsRoom spare w = 2 * calls_in w ≤ store_room spare w.shared
 
 -- the runner has no call left
 abbrev pub is_idle : Runner → Bool

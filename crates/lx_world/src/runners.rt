@@ -1,7 +1,7 @@
 //! The runners of a world.
 ghost use Rattle.std.specs.Prelude.{◌≡◌, ◌≤◌, length, map, IfOk};
 ghost use Rattle.std.specs.List.{sum_by};
-ghost use Rattle.lx_interp.specs.Runner.{events_left};
+ghost use Rattle.lx_interp.specs.Runner.{calls_left, events_left};
 ghost use Rattle.lx_model.specs.Thread.{fresh_thread};
 
 use lx_interp::{Code, Runner};
@@ -17,13 +17,14 @@ pub struct Runners {
 }
 
 impl Runners {
-    ghost use Rattle.lx_world.specs.Worlds.{AllStand, script_events};
+    ghost use Rattle.lx_world.specs.Worlds.{AllStand, script_calls, script_events};
 
     /// A runner for each list of calls.
     pub(crate) fn open(alloc: Global, code: &Code, script: Vec<Calls>) -> Result<Self, Memory>
         requires { length script.items ≤ 16 }
         ensures stand { IfOk result (λ runners. AllStand code.now 0 runners.list.items (map fresh_thread script.items)) }
         ensures events { IfOk result (λ runners. sum_by events_left runners.list.items ≡ script_events script.items) }
+        ensures calls { IfOk result (λ runners. sum_by (λ r. length (calls_left r)) runners.list.items ≡ script_calls script.items) }
     {
         let mut list = Vec::with_capacity(alloc, script.len())?;
         for calls in script {

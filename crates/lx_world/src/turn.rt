@@ -1,13 +1,13 @@
 //! One event of a thread.
-ghost use Rattle.std.specs.Prelude.{◌≡◌, ◌<◌, ◌≤◌, ◌+◌, true, OnOk, OnErr, IfOk, IsTrue};
+ghost use Rattle.std.specs.Prelude.{◌≡◌, ◌<◌, ◌≤◌, ◌+◌, ◌*◌, true, length, OnOk, OnErr, IfOk, IsTrue};
 ghost use Rattle.lx_model.specs.State.{State};
 ghost use Rattle.lx_model.specs.Serve.{serve};
 ghost use Rattle.lx_model.specs.Thread.{Thread, has_call};
 ghost use Rattle.lx_interp.specs.Runner.{calls_left, events_left, is_spent};
 ghost use Rattle.lx_requests.specs.Servable.{is_servable};
-ghost use Rattle.lx_serve.specs.Room.{journal_room};
+ghost use Rattle.lx_serve.specs.Room.{journal_room, store_room, taken_by};
 ghost use Rattle.lx_serve.specs.Sources.{IsLinked};
-ghost use Rattle.lx_serve.specs.Stands.{Serves, StandsForState};
+ghost use Rattle.lx_serve.specs.Stands.{IsUndecided, Serves, StandsForState};
 ghost use Rattle.lx_world.specs.Worlds.{StandsFor, HasTurned, HasStayed};
 
 use crate::linked::LinkedCode;
@@ -33,6 +33,10 @@ fn answer<C: CapStore + Drop>(
     ensures memory { OnErr result ((s : State) → StandsForState C.stands code.now shared.old s → StandsForState C.stands code.now shared.new s) }
     ensures room { OnOk result (journal_room shared.old ≤ journal_room shared.new + 1) }
     ensures room_stays { OnErr result (journal_room shared.old ≤ journal_room shared.new) }
+    ensures leaves { IfOk result (λ reply. store_room C.spare shared.old ≤ store_room C.spare shared.new + taken_by reply) }
+    ensures store_stays { OnErr result (store_room C.spare shared.old ≤ store_room C.spare shared.new) }
+    ensures undecided { OnErr result (0 < journal_room shared.old → 2 ≤ store_room C.spare shared.old → (s : State) → StandsForState C.stands code.now shared.old s
+        → IsUndecided code.now s thread request.now.who request.now.what) }
 {
     match shared.serve(code.program(), thread, request) {
         Ok(reply) => Ok(reply),
@@ -57,6 +61,8 @@ pub(crate) fn turn<C: CapStore + Drop>(
     ensures no_more { OnErr result (events_left runner.new ≤ events_left runner.old) }
     ensures room { OnOk result (journal_room shared.old ≤ journal_room shared.new + 1) }
     ensures room_stays { OnErr result (journal_room shared.old ≤ journal_room shared.new) }
+    ensures ends { (s : State) (x : Thread) → StandsForState C.stands linked.now.code shared.old s → StandsFor linked.now.code thread runner.old x
+        → 2 * length (calls_left runner.new) + store_room C.spare shared.old ≤ 2 * length (calls_left runner.old) + store_room C.spare shared.new }
 {
     request_laws();
     let code = &linked.code;

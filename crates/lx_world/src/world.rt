@@ -1,7 +1,11 @@
 //! The world: what threads share, and a runner for each thread.
-ghost use Rattle.std.specs.Prelude.{◌≡◌};
+ghost use Rattle.std.specs.Prelude.{◌≡◌, ◌≤◌, ◌+◌, ◌*◌, length, IfOk, IfSome};
 ghost use Rattle.std.specs.List.{list_all};
-ghost use Rattle.lx_world.specs.Worlds.{is_idle};
+ghost use Rattle.lx_model.specs.declared.program.Program.{Program};
+ghost use Rattle.lx_model.specs.State.{State};
+ghost use Rattle.lx_serve.specs.Room.{journal_room, store_room};
+ghost use Rattle.lx_serve.specs.Stands.{StandsForState};
+ghost use Rattle.lx_world.specs.Worlds.{is_idle, script_calls};
 
 use crate::fault::EventFault;
 use crate::linked::LinkedCode;
@@ -22,6 +26,53 @@ pub struct World<C: CapStore + Drop> {
     pub(crate) linked: LinkedCode,
 }
 
+/// The sum of two counts, if a number can tell it.
+fn sum(first: u64, second: u64) -> Option<u64>
+    ensures { IfSome result (λ n. n ≡ first + second) }
+{
+    first.checked_add(second)
+}
+
+/// How many calls a thread has.
+fn count_of(calls: &Calls) -> u64
+    ensures { result ≡ length calls.now }
+{
+    calls.len() as u64
+}
+
+/// How many calls a script has, if a number can tell it.
+fn script_calls(script: &[Calls]) -> Option<u64>
+    ensures { IfSome result (λ n. n ≡ script_calls script.now) }
+{
+    let mut count = 0u64;
+    for calls in script {
+        count = sum(count, count_of(calls))?;
+    }
+    Some(count)
+}
+
+/// The part with room in its store for the ends of a script's calls, two acts of each.
+fn with_ends<C: CapStore + Drop>(
+    shared: SharedPart<C>,
+    script: &[Calls],
+) -> Result<SharedPart<C>, Memory>
+    ensures room { IfOk result (λ part. 2 * script_calls script.now ≤ store_room C.spare part) }
+    ensures journal { IfOk result (λ part. journal_room part ≡ journal_room shared) }
+    ensures stands { IfOk result (λ part. (p : Program) (s : State) → StandsForState C.stands p shared s → StandsForState C.stands p part s) }
+{
+    let mut shared = shared;
+    let Some(calls) = script_calls(script) else {
+        return Err(Memory);
+    };
+    let Some(acts) = sum(calls, calls) else {
+        return Err(Memory);
+    };
+    match shared.reserve(acts) {
+        Ok(()) => Ok(shared),
+        Err(_) => Err(Memory),
+    }
+}
+
 fn are_done(runners: &[Runner]) -> bool
     ensures { result ≡ list_all is_idle runners.now }
 {
@@ -34,14 +85,15 @@ impl<C: CapStore + Drop> World<C> {
     ghost use Rattle.lx_model.specs.World.{World as Meaning, event, can_act, is_done, opening};
     ghost use Rattle.lx_model.specs.Account.{schedule_of};
     ghost use Rattle.lx_model.specs.Opening.{opening_state};
-    ghost use Rattle.lx_world.specs.Worlds.{HasRoom, StandsForWorld, program_of, events_in, is_idle_at, script_events};
+    ghost use Rattle.lx_world.specs.Worlds.{HasEndsRoom, HasRoom, StandsForWorld, program_of, events_in, is_idle_at, script_events};
     ghost use Rattle.lx_serve.specs.Room.{journal_room};
     ghost use Rattle.lx_serve.specs.Sources.{IsLinked};
     ghost use Rattle.lx_serve.specs.Stands.{StandsForState};
     ghost use Rattle.lx_world.specs.declared.fault.EventFault.{EventFault};
 
-    /// The opening of a script, a list of calls for each thread, over what threads share before the first call. Where the
-    /// shared journal has room for the events of the script, the world has room for all its events.
+    /// The opening of a script, a list of calls for each thread, over what threads share before the first call. The store
+    /// gets room for the end of each call. Where the shared journal has room for the events of the script, the world has
+    /// room for all its events.
     ///
     /// # Errors
     /// Want of memory.
@@ -58,7 +110,9 @@ impl<C: CapStore + Drop> World<C> {
         ensures program { IfOk result (λ world. program_of world ≡ code) }
         ensures events { IfOk result (λ world. events_in world ≡ script_events script.items) }
         ensures room { IfOk result (λ world. script_events script.items ≤ journal_room shared → HasRoom world) }
+        ensures ends { IfOk result (λ world. HasEndsRoom C.spare world) }
     {
+        let shared = with_ends(shared, script.as_slice())?;
         let runners = Runners::open(alloc, &code, script)?;
         let linked = LinkedCode { code };
         Ok(World {
@@ -87,7 +141,8 @@ impl<C: CapStore + Drop> World<C> {
 
     /// One event of a thread: its next request is served, and it takes in the reply. `NoWork` exactly where there is no
     /// such thread or it has no call left, which changes nothing. After `Memory` only register steps of that thread may
-    /// have gone on. Room for all events stays room for all that are left.
+    /// have gone on. Room for all events stays room for all that are left, and room for the ends of all calls stays room
+    /// for the ends of those that are left.
     pub fn event(&mut self, thread: u32) -> Result<(), EventFault>
         ensures event { OnOk result ((p : Program) (w : Meaning) → StandsForWorld C.stands p self.old w → StandsForWorld C.stands p self.new (event p thread w)) }
         ensures fault { OnErr result ((p : Program) (w : Meaning) → StandsForWorld C.stands p self.old w → StandsForWorld C.stands p self.new w) }
@@ -97,6 +152,7 @@ impl<C: CapStore + Drop> World<C> {
         ensures program { program_of self.new ≡ program_of self.old }
         ensures fewer { OnOk result (events_in self.new < events_in self.old) }
         ensures room { HasRoom self.old → HasRoom self.new }
+        ensures ends { (p : Program) (w : Meaning) → StandsForWorld C.stands p self.old w → HasEndsRoom C.spare self.old → HasEndsRoom C.spare self.new }
     {
         let place = thread as usize;
         if self.is_idle(place) {

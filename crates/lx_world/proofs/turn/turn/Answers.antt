@@ -1,6 +1,9 @@
+use Rattle.std.proofs.Common.{ap, arith, length}
 use Rattle.std.proofs.lemmas.Result.{err_from_is_err_and}
+use Rattle.lx_interp.specs.Runner.{calls_left}
+use Rattle.lx_serve.specs.Room.{store_room}
 use Rattle.lx_model.specs.Next.{next}
-use Rattle.lx_world.proofs.Turns.{turned, has_work_of}
+use Rattle.lx_world.proofs.Turns.{turned, turned_ends, has_work_of}
 use Rattle.lx_world.proofs.turn.turn.Goals as goal
 
 pub returns-in_err-reply-in-Some-clause-memory : goal.returns-in_err-reply-in-Some-clause-memory
@@ -17,3 +20,13 @@ returns-clause-turns g c = λ s x st r.
     turned g.C.CapStore.stands c.request_laws.ensures p t s x c.args.shared.now c.answer.new.shared c.local.new.self c.absorb.new.self c.in-Some.request.now c.in_ok-reply-in-Some.reply
     st c.requires.thread r.stack asks (c.in-Some.ensures.asked p t (next p t x) asks)
     (c.in_ok-reply-in-Some.ensures.served s st) (c.absorb.ensures.stands t (next p t x) asks)
+
+pub returns-clause-ends : goal.returns-clause-ends
+returns-clause-ends g c = λ s x st r.
+    let p = c.args.linked.now.code in
+    let t = c.args.thread in
+    let asks = c.in_ok-local.ensures.asks t x r.runs (has_work_of p t c.args.runner.now x r c.requires.work) in
+    turned_ends g.C.CapStore.stands c.request_laws.ensures p t s x c.args.shared.now c.answer.new.shared c.local.new.self c.absorb.new.self c.in-Some.request.now c.in_ok-reply-in-Some.reply
+    st c.requires.thread r.stack asks (c.in-Some.ensures.asked p t (next p t x) asks)
+    (c.in_ok-reply-in-Some.ensures.served s st) (c.absorb.ensures.stands t (next p t x) asks)
+    (calls_left c.args.runner.now) (store_room g.C.CapStore.spare c.args.shared.now) (store_room g.C.CapStore.spare c.answer.new.shared) c.requires.work c.local.ensures.calls c.in_ok-reply-in-Some.ensures.leaves

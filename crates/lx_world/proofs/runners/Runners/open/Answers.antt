@@ -2,7 +2,7 @@ use Rattle.std.proofs.Common.{arith, ℕ, ◌≡◌, ◌≤◌, length}
 use Rattle.std.proofs.lemmas.Iterator.Consumers.{YieldsList-end}
 use Rattle.std.proofs.lemmas.Iterator.Adapters.{YieldsList-from_vec}
 use Rattle.std.proofs.lemmas.Grind.{common_steps}
-use Rattle.lx_world.proofs.Counted.{events_more}
+use Rattle.lx_world.proofs.Counted.{calls_more, events_more}
 use Rattle.lx_world.proofs.Standing.{open_more}
 use Rattle.lx_world.proofs.runners.Runners.open.Goals as goal
 
@@ -15,6 +15,7 @@ loop-calls-preserved c = record {
   stand = open_more c.args.code.now c.loop-calls.list.items c.push.new.self.items c.loop-calls.yielded c.in_ok-runner.runner c.in-Some.calls c.len-thread.result (grind (arith, common_steps)) c.in_ok-push.ensures.items
       c.loop-calls.invariant.stand (c.in_ok-runner.ensures.fresh c.args.code.now);
   events = events_more c.loop-calls.list.items c.push.new.self.items c.loop-calls.yielded c.in_ok-runner.runner c.in-Some.calls c.in_ok-push.ensures.items c.in_ok-runner.ensures.events c.loop-calls.invariant.events;
+  calls = calls_more c.loop-calls.list.items c.push.new.self.items c.loop-calls.yielded c.in_ok-runner.runner c.in-Some.calls c.in_ok-push.ensures.items (c.in_ok-runner.ensures.fresh c.args.code.now).calls c.loop-calls.invariant.calls;
 }
 
 pub invariant_of-result : goal.invariant_of-result

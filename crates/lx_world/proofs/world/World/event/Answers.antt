@@ -1,8 +1,8 @@
 use Rattle.std.proofs.Common.{◌≡◌, Bool, true, false, not, refl, sym, ◌∙◌}
 use Rattle.std.proofs.lemmas.Result.{err_from_is_err_and}
-use Rattle.lx_serve.specs.Room.{journal_room}
-use Rattle.lx_world.proofs.Counted.{room_behind, room_still}
-use Rattle.lx_world.proofs.Standing.{busy, event_stands, fault_stands, idle_is}
+use Rattle.lx_serve.specs.Room.{journal_room, store_room}
+use Rattle.lx_world.proofs.Counted.{ends_behind, room_behind, room_still}
+use Rattle.lx_world.proofs.Standing.{at_thread, busy, event_stands, fault_stands, idle_is}
 use Rattle.lx_world.proofs.world.World.event.Goals as goal
 
 idle_off : (x y : Bool) → x ≡ not y → x ≡ true → y ≡ false
@@ -60,3 +60,19 @@ pub returns-in_err-turn-clause-room : goal.returns-in_err-turn-clause-room
 returns-in_err-turn-clause-room g c = λ room.
     room_still c.args.self.now.runners.list.items _ c.args.thread c.index_mut.result.now c.turn.new.runner (journal_room c.args.self.now.shared) (journal_room c.turn.new.shared) refl c.index_mut.ensures.value
     (c.is_idle.ensures.there c.if-is_idle.false) c.in_err-turn.ensures.no_more c.in_err-turn.ensures.room_stays room
+
+pub returns-clause-ends : goal.returns-clause-ends
+returns-clause-ends g c = λ p w st room.
+    let is = c.index_mut.ensures.value in
+    let there = c.is_idle.ensures.there c.if-is_idle.false in
+    ends_behind c.args.self.now.runners.list.items _ c.args.thread c.index_mut.result.now c.turn.new.runner (store_room g.C.CapStore.spare c.args.self.now.shared)
+    (store_room g.C.CapStore.spare c.turn.new.shared) refl is there
+    (at_thread g.C.CapStore.stands c.args.self.now p w c.args.thread c.index_mut.result.now _ is there c.turn.ensures.ends st) room
+
+pub returns-in_err-turn-clause-ends : goal.returns-in_err-turn-clause-ends
+returns-in_err-turn-clause-ends g c = λ p w st room.
+    let is = c.index_mut.ensures.value in
+    let there = c.is_idle.ensures.there c.if-is_idle.false in
+    ends_behind c.args.self.now.runners.list.items _ c.args.thread c.index_mut.result.now c.turn.new.runner (store_room g.C.CapStore.spare c.args.self.now.shared)
+    (store_room g.C.CapStore.spare c.turn.new.shared) refl is there
+    (at_thread g.C.CapStore.stands c.args.self.now p w c.args.thread c.index_mut.result.now _ is there c.turn.ensures.ends st) room
