@@ -1,5 +1,5 @@
 -- The world stands for a world of the monitor.
-use Rattle.std.specs.Prelude.{◌≡◌, ◌≤◌, ◌*◌, ℕ, suc, Bool, true, not, Option, Some, None, List, [], ◌∷◌, length, option_map, unwrap_or, slice_get}
+use Rattle.std.specs.Prelude.{◌≡◌, ◌≤◌, ◌*◌, ℕ, suc, Bool, true, not, List, [], ◌∷◌, length, option_map, unwrap_or, slice_get}
 use Rattle.std.specs.List.{sum_by}
 use Rattle.lx_requests.specs.OnStack.{AreOnStack}
 use Rattle.lx_caps.specs.History.{History}

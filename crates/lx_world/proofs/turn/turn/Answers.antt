@@ -1,4 +1,3 @@
-use Rattle.std.proofs.Common.{ap, arith, length}
 use Rattle.std.proofs.lemmas.Result.{err_from_is_err_and}
 use Rattle.lx_interp.specs.Runner.{calls_left}
 use Rattle.lx_serve.specs.Room.{store_room}
