@@ -42,6 +42,10 @@ sources_of kernel i modules = record { kernel = kernel; interface = i; modules =
 abbrev pub link_fault : Sources → Case → Option Fault
 link_fault s c = option_or (text_fault s) (option_or (limit_fault s) (script_fault (program_of s) c.threads))
 
+-- the first fault of the texts and of the limits: what is reckoned before there is a program
+abbrev pub source_fault : Sources → Option Fault
+source_fault s = option_or (text_fault s) (limit_fault s)
+
 -- the program, and the calls of each thread
 abbrev pub linked_of : Sources → Case → LinkedParts
 linked_of s c = record { program = program_of s; calls = calls_of (program_of s) c.threads }
@@ -92,3 +96,15 @@ IsFault c x e = (e ≡ Memory) ⊎ ((f : Fault) × (x ≡ Some f) × (e ≡ answ
 
 abbrev pub Stops : {T : Type 0} → Case → Option Fault → Result T LinkFault → Type 0
 Stops c x r = MatchResult r (λ _. x ≡ None) (IsFault c x)
+
+-- the same, where want of memory has this reason
+
+abbrev pub IsFaultOr : Type 0 → Case → Option Fault → LinkFault → Type 0
+IsFaultOr want c x e = ((e ≡ Memory) × want) ⊎ ((f : Fault) × (x ≡ Some f) × (e ≡ answered c f))
+
+abbrev pub StopsOr : {T : Type 0} → Type 0 → Case → Option Fault → Result T LinkFault → Type 0
+StopsOr want c x r = MatchResult r (λ _. x ≡ None) (IsFaultOr want c x)
+
+-- memory was wanted for the names of a fault or, where neither the texts nor the limits have one, for a table
+abbrev pub IsWanted : Type 0 → Type 0 → Sources → Type 0
+IsWanted names tables s = names ⊎ (tables × (source_fault s ≡ None))

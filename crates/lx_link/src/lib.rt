@@ -3,11 +3,13 @@
 
 ghost use Rattle.lx_link.specs.Laws.{AreWellLinked, CallsFit};
 
+mod answers;
 mod arguments;
 mod calls;
 mod fault;
 mod linked;
 mod linking;
+mod means;
 mod names;
 
 pub use fault::LinkFault;

@@ -1,0 +1,102 @@
+//! What linking makes that takes memory.
+ghost use Rattle.std.specs.Prelude.{◌≡◌, ◌≤◌, IfOk, OnErr, length, ⊤};
+ghost use Rattle.lx_link_texts.specs.Faults.{most_functions};
+ghost use Rattle.lx_link_texts.specs.Placing.{HasLimits, functions_of, globals_end, globals_of, last_end};
+ghost use Rattle.lx_link.specs.Answers.{AreVerified, answered, named_modules};
+ghost use Rattle.lx_link.specs.Calls.{calls_of};
+
+use crate::answers::answered;
+use crate::calls::resolve;
+use crate::fault::LinkFault;
+use crate::linking::named_modules;
+use lx_ir_verify::Verified;
+use lx_link_texts::fault::Found;
+use lx_link_texts::sources::Sources;
+use lx_link_texts::{functions_of, globals_of};
+use lx_model::program::{Calls, Program, ProgramFunction, ProgramGlobal, ProgramModule};
+use lx_script::{Case, CaseModule, CaseThread};
+use lx_words::{Items, Memory};
+use std::alloc::Global;
+
+/// What linking makes that takes memory. Linking is written over any means, so that its contracts can say where want of
+/// memory comes: only where the means lacked it, and never in the place of a fault that is reckoned without memory.
+pub trait Means {
+    /// There was no memory for the names of a fault.
+    ghost unnamed: { Self → Type 0 };
+
+    /// There was no memory for modules, tables or calls.
+    ghost lacks: { Self → Type 0 };
+
+    /// The fault that is answered for one that was found.
+    fn answered(&self, case: &Case, found: &Found<'_>) -> Result<LinkFault, Memory>
+        ensures ok { IfOk result (λ fault. fault ≡ answered case.now found.now) }
+        ensures err { OnErr result (unnamed self.now) };
+
+    /// The modules with the names that the case gives them.
+    fn named_modules(
+        &self,
+        names: &[CaseModule],
+        modules: Vec<Verified>,
+    ) -> Result<Items<ProgramModule>, Memory>
+        requires { length modules.items ≡ length names.now }
+        ensures list { IfOk result (λ list. list ≡ named_modules names.now modules.items) }
+        ensures verified { IfOk result AreVerified }
+        ensures err { OnErr result (lacks self.now) };
+
+    /// The functions of texts by number.
+    fn functions(&self, sources: &Sources) -> Result<Items<ProgramFunction>, Memory>
+        requires { HasLimits sources.now }
+        ensures ok { IfOk result (λ functions. functions ≡ functions_of sources.now) }
+        ensures err { OnErr result (lacks self.now) };
+
+    /// The globals of texts by address.
+    fn globals(&self, sources: &Sources) -> Result<Items<ProgramGlobal>, Memory>
+        requires limits { HasLimits sources.now }
+        requires fits { globals_end sources.now ≤ last_end }
+        ensures ok { IfOk result (λ globals. globals ≡ globals_of sources.now) }
+        ensures err { OnErr result (lacks self.now) };
+
+    /// The calls of each thread by numbers and words.
+    fn resolve(&self, program: &Program, threads: &[CaseThread]) -> Result<Items<Calls>, Memory>
+        requires { length program.now.functions ≤ most_functions }
+        ensures ok { IfOk result (λ list. list ≡ calls_of program.now threads.now) }
+        ensures err { OnErr result (lacks self.now) };
+}
+
+impl Means for Global {
+    ghost unnamed = { λ _. ⊤ };
+
+    ghost lacks = { λ _. ⊤ };
+
+    fn answered(&self, case: &Case, found: &Found<'_>) -> Result<LinkFault, Memory> {
+        let fault = answered(*self, case, found)?;
+        Ok(fault)
+    }
+
+    fn named_modules(
+        &self,
+        names: &[CaseModule],
+        modules: Vec<Verified>,
+    ) -> Result<Items<ProgramModule>, Memory> {
+        let list = named_modules(*self, names, modules)?;
+        Ok(list)
+    }
+
+    fn functions(&self, sources: &Sources) -> Result<Items<ProgramFunction>, Memory> {
+        let functions = functions_of(*self, sources)?;
+        Ok(functions)
+    }
+
+    /// The globals end within their region, so that no other error than want of memory comes.
+    fn globals(&self, sources: &Sources) -> Result<Items<ProgramGlobal>, Memory> {
+        match globals_of(*self, sources) {
+            Ok(globals) => Ok(globals),
+            Err(_) => Err(Memory),
+        }
+    }
+
+    fn resolve(&self, program: &Program, threads: &[CaseThread]) -> Result<Items<Calls>, Memory> {
+        let calls = resolve(*self, program, threads)?;
+        Ok(calls)
+    }
+}
