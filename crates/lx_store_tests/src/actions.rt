@@ -2,7 +2,7 @@
 ghost use Rattle.std.specs.Prelude.{◌≡◌, ◌≤◌, length, true};
 ghost use Rattle.lx_annot.specs.Items.{list_items, list_of_action};
 
-use crate::common::{self, FIRST, SECOND, SHARED};
+use crate::common::{self, FIRST, SECOND, SHARED, STRANGER};
 use lx_actions::{ActFault, SpaceLook, perform};
 use lx_annot::action::{Action, ActionNode, CapSpec};
 use lx_annot::expr::{Env, Expr, ExprNode, Ty};
@@ -12,7 +12,7 @@ use lx_caps::{Act, Cap, PlainCaps, Principal};
 use lx_memory::Space;
 use lx_model::request::Refusal;
 use lx_words::{Items, Memory, Width, Word};
-use std::alloc::Global;
+use std::alloc::{AllocError, Global};
 use std::process::Abort;
 use std::test::Fail;
 
@@ -25,6 +25,7 @@ enum Ending {
     Write(Principal, u64, u64),
     OnStack(Principal, u64, u64),
     Outside(Principal, u64, u64),
+    Borrowed(Principal, Cap),
     Unmapped(u64),
     Other,
 }
@@ -39,6 +40,7 @@ fn told(answer: Result<(), ActFault>) -> Ending {
         Err(ActFault::Refused(Refusal::Outside { who, at, size })) => {
             Ending::Outside(who, at, size)
         }
+        Err(ActFault::Refused(Refusal::Borrowed { who, cap })) => Ending::Borrowed(who, cap),
         Err(ActFault::Unmapped { at }) => Ending::Unmapped(at),
         Err(_) => Ending::Other,
     }
@@ -83,6 +85,7 @@ enum Kind {
     Copy,
     Transfer,
     Check,
+    Lend,
 }
 
 fn action(kind: Kind, named: Named) -> Action {
@@ -91,8 +94,26 @@ fn action(kind: Kind, named: Named) -> Action {
         Kind::Copy => ActionNode::Copy(list),
         Kind::Transfer => ActionNode::Transfer(list),
         Kind::Check => ActionNode::Check(list),
+        Kind::Lend => ActionNode::Lend(list),
     };
     Action { node }
+}
+
+/// A lend behind a condition that is 0.
+fn no_lend(alloc: Global, named: Named) -> Result<Action, lx_caps::Memory> {
+    match Box::new(alloc, action(Kind::Lend, named)) {
+        Ok(lend) => Ok(Action {
+            node: ActionNode::If(number(0), lend),
+        }),
+        Err(e) => Err(AllocError::from(e).into()),
+    }
+}
+
+/// An end of so many loans.
+fn end(count: u32) -> Action {
+    Action {
+        node: ActionNode::End(count),
+    }
 }
 
 /// One argument, a 64-bit word.
@@ -150,7 +171,7 @@ fn is_short_list(i: &Interface, list: &CapSpec) -> bool
     }
 }
 
-/// Whether the action, which has no condition, names at most 16 items.
+/// Whether the action names at most 16 items.
 fn is_short(i: &Interface, a: &Action) -> bool
     ensures { result ≡ true → length (list_items i.now (list_of_action a.now)) ≤ 16 }
 {
@@ -158,40 +179,59 @@ fn is_short(i: &Interface, a: &Action) -> bool
         ActionNode::Copy(list) => is_short_list(i, list),
         ActionNode::Transfer(list) => is_short_list(i, list),
         ActionNode::Check(list) => is_short_list(i, list),
-        ActionNode::If(_, _) => false,
+        ActionNode::Lend(list) => is_short_list(i, list),
+        ActionNode::End(_) => true,
+        ActionNode::If(_, a) => is_short(i, a),
     }
 }
 
 /// What actions are tried over.
 #[derive(Drop)]
 struct Bench {
+    alloc: Global,
     interface: Interface,
     env: Env,
     space: Space,
     caps: PlainCaps,
 }
 
-fn new_bench(alloc: Global, bits: u64) -> Result<Bench, Fail> {
-    let interface = interface(alloc)?;
-    let env = env(alloc, bits)?;
-    let space = Space::new(alloc)?;
-    let caps = PlainCaps::new(alloc);
-    Ok(Bench {
-        interface,
-        env,
-        space,
-        caps,
-    })
+/// What an action looks at: an interface, the values of names, and memory.
+fn bench_over(alloc: Global, interface: Interface, env: Env) -> Result<Bench, Fail> {
+    match Space::new(alloc) {
+        Ok(space) => Ok(Bench {
+            alloc,
+            interface,
+            env,
+            space,
+            caps: PlainCaps::new(alloc),
+        }),
+        Err(error) => {
+            drop(interface);
+            drop(env);
+            Err(error.into())
+        }
+    }
 }
 
-/// How an action ends, from one principal to another.
+fn new_bench(alloc: Global, bits: u64) -> Result<Bench, Fail> {
+    let env = env(alloc, bits)?;
+    match interface(alloc) {
+        Ok(interface) => bench_over(alloc, interface, env),
+        Err(error) => {
+            drop(env);
+            Err(error.into())
+        }
+    }
+}
+
+/// How an action of thread 0 ends, from one principal to another.
 fn ending_of(bench: &mut Bench, a: &Action, between: (Principal, Principal)) -> Ending {
     let i = &bench.interface;
     if !is_short(i, a) {
         return Ending::Other;
     }
     let (env, space) = (&bench.env, &bench.space);
-    told(perform(i, a, env, between.0, between.1, space, &mut bench.caps))
+    told(perform(i, a, env, 0, between.0, between.1, space, &mut bench.caps))
 }
 
 /// What is done on the bench, and what is found there.
@@ -202,6 +242,10 @@ enum Step {
     Put(u64, u64),
     /// An action from one principal to another, and how it ends.
     Act(Kind, Named, (Principal, Principal), Ending),
+    /// A lend behind a condition that is 0, from one principal to another.
+    NoLend(Named, (Principal, Principal), Ending),
+    /// An end of so many loans.
+    End(u32, (Principal, Principal), Ending),
     /// How many acts the store took.
     Count(usize),
     /// The acts that the store took.
@@ -218,6 +262,11 @@ fn goes_so(bench: &mut Bench, step: Step) -> Result<bool, lx_caps::Memory> {
         Step::Act(kind, named, between, want) => {
             Ok(ending_of(bench, &action(kind, named), between) == want)
         }
+        Step::NoLend(named, between, want) => {
+            let lend = no_lend(bench.alloc, named)?;
+            Ok(ending_of(bench, &lend, between) == want)
+        }
+        Step::End(count, between, want) => Ok(ending_of(bench, &end(count), between) == want),
         Step::Count(want) => Ok(bench.caps.acts().as_slice().len() == want),
         Step::Acts(want) => Ok(bench.caps.acts().as_slice() == want),
     }
@@ -267,6 +316,63 @@ const EIGHT_BYTES: Cap = Cap::Write {
 #[test]
 fn bytes_go_out_and_come_back(rt: HostRuntime) -> Result<(), Fail> {
     assert_steps(&rt, rt.alloc(), 0, &OUT_AND_BACK)
+}
+
+const LENT_BYTES: Cap = Cap::Write {
+    at: 0x1000000,
+    size: 8,
+};
+
+const FOUR_OF_THEM: Cap = Cap::Write {
+    at: 0x1000000,
+    size: 4,
+};
+
+const OUT: (Principal, Principal) = (SHARED, STRANGER);
+
+const BACK: (Principal, Principal) = (STRANGER, SHARED);
+
+/// Bytes are lent to another module, which may use them and may not give them away, until the loan ends. A lend that is
+/// not done opens a loan all the same, which the first end ends.
+static OUT_ON_LOAN: [Step; 11] = [
+    Step::Grant(SHARED, 0x1000000, 8),
+    Step::Act(Kind::Lend, Named::Bytes(0x1000000, 8), OUT, Ending::Done),
+    Step::Act(Kind::Check, Named::Bytes(0x1000000, 8), BACK, Ending::Done),
+    Step::Act(
+        Kind::Transfer,
+        Named::Bytes(0x1000000, 8),
+        BACK,
+        Ending::Borrowed(STRANGER, LENT_BYTES),
+    ),
+    Step::Act(
+        Kind::Lend,
+        Named::Bytes(0x1000000, 4),
+        BACK,
+        Ending::Borrowed(STRANGER, FOUR_OF_THEM),
+    ),
+    Step::NoLend(Named::Bytes(0x1000000, 8), OUT, Ending::Done),
+    Step::End(1, BACK, Ending::Done),
+    Step::Act(Kind::Check, Named::Bytes(0x1000000, 8), BACK, Ending::Done),
+    Step::End(1, BACK, Ending::Done),
+    Step::Act(
+        Kind::Check,
+        Named::Bytes(0x1000000, 8),
+        BACK,
+        Ending::Write(STRANGER, 0x1000000, 8),
+    ),
+    Step::Acts(&[
+        Act::Grant(SHARED, LENT_BYTES),
+        Act::Loan(0),
+        Act::Lend(0, STRANGER, LENT_BYTES),
+        Act::Loan(0),
+        Act::Shut(0, 1),
+        Act::Shut(0, 1),
+    ]),
+];
+
+#[test]
+fn what_is_lent_comes_back(rt: HostRuntime) -> Result<(), Fail> {
+    assert_steps(&rt, rt.alloc(), 0, &OUT_ON_LOAN)
 }
 
 const BETWEEN: (Principal, Principal) = (FIRST, SECOND);

@@ -6,7 +6,9 @@ ghost use Rattle.lx_caps.specs.History.{History, holds};
 ghost use Rattle.lx_caps.specs.Cells.{cells};
 ghost use Rattle.lx_caps.specs.Placed.{is_placed};
 
-use crate::common::{FIRST, GLOBAL, SECOND, SHARED, STRANGER, Step, goes_so, is_in_memory};
+use crate::common::{
+    FIRST, GLOBAL, LoanAct, SECOND, SHARED, STRANGER, Step, goes_so, is_in_memory,
+};
 use lx_caps::{Act, Atom, Cap, CapStore, PlainCaps, Principal, cells, precedes, reaches};
 use std::alloc::Global;
 use std::process::Abort;
@@ -29,12 +31,17 @@ fn moved<C: CapStore>(caps: &mut C, source: Principal, dest: Principal, cap: Cap
     }
 }
 
-/// A new store takes steps, each of which has to answer as it says.
+/// A store takes steps, each of which has to answer as it says.
+fn assert_go_on(rt: &impl Abort, caps: &mut PlainCaps, steps: &[Step]) -> Result<(), Fail> {
+    for (number, step) in steps.iter().enumerate() {
+        assert!(rt; goes_so(caps, *step)?, "step {number}");
+    }
+    Ok(())
+}
+
 fn assert_steps(rt: &impl Abort, alloc: Global, steps: &[Step]) -> Result<(), Fail> {
     let mut caps = PlainCaps::new(alloc);
-    for (number, step) in steps.iter().enumerate() {
-        assert!(rt; goes_so(&mut caps, *step)?, "step {number}");
-    }
+    assert_go_on(rt, &mut caps, steps)?;
     Ok(())
 }
 
@@ -79,6 +86,75 @@ static CALLS: [Step; 12] = [
 #[test]
 fn a_strip_takes_from_everyone(rt: HostRuntime) -> Result<(), Fail> {
     assert_steps(&rt, rt.alloc(), &CALLS)
+}
+
+/// Two loans of thread 0 to a stranger, the outer one of eight bytes and the inner one of the eight bytes behind them.
+static LENT: [Step; 5] = [
+    Step::GrantBytes(SHARED, 0x1000000, 16),
+    Step::Loans(0, LoanAct::Open),
+    Step::LendBytes(0, STRANGER, 0x1000000, 8),
+    Step::Loans(0, LoanAct::Open),
+    Step::LendBytes(0, STRANGER, 0x1000008, 8),
+];
+
+/// A further act, and whether the stranger then holds the outer and the inner bytes.
+static ENDS: [(Step, bool, bool); 8] = [
+    (Step::Loans(0, LoanAct::Open), true, true),
+    (Step::Loans(0, LoanAct::Shut(0)), true, true),
+    (Step::Loans(0, LoanAct::Shut(1)), true, false),
+    (Step::Loans(0, LoanAct::Shut(2)), false, false),
+    (Step::Loans(0, LoanAct::Shut(9)), false, false),
+    (Step::Loans(0, LoanAct::ShutAll), false, false),
+    (Step::Loans(1, LoanAct::ShutAll), true, true),
+    (Step::StripBytes(0x1000007, 1), false, true),
+];
+
+/// What the stranger holds behind the loans and a further act. It keeps nothing.
+fn assert_end(
+    rt: &impl Abort,
+    alloc: Global,
+    last: Step,
+    outer: bool,
+    inner: bool,
+) -> Result<(), Fail> {
+    let mut caps = PlainCaps::new(alloc);
+    assert_go_on(rt, &mut caps, &LENT)?;
+    let found = [
+        last,
+        Step::HoldsBytes(STRANGER, 0x1000000, 8, outer),
+        Step::HoldsBytes(STRANGER, 0x1000008, 8, inner),
+        Step::KeepsBytes(STRANGER, 0x1000000, 1, false),
+        Step::KeepsBytes(STRANGER, 0x1000008, 1, false),
+    ];
+    assert_go_on(rt, &mut caps, &found)?;
+    Ok(())
+}
+
+#[test]
+fn loans_end_the_newest_first(rt: HostRuntime) -> Result<(), Fail> {
+    for (last, outer, inner) in ENDS.iter() {
+        assert_end(&rt, rt.alloc(), *last, *outer, *inner)?;
+    }
+    Ok(())
+}
+
+/// What is owned on both loans, and once the inner one has ended.
+static BORROWED: [Step; 7] = [
+    Step::Loans(1, LoanAct::Open),
+    Step::KeepsBytes(SHARED, 0x1000000, 16, true),
+    Step::NextOwner(Atom::Byte(0x1000008), Some(SHARED), Some(STRANGER)),
+    Step::NextOwned(STRANGER, None, Some(Atom::Byte(0x1000000))),
+    Step::Loans(0, LoanAct::Shut(1)),
+    Step::NextOwner(Atom::Byte(0x1000008), Some(SHARED), None),
+    Step::NextOwned(STRANGER, Some(Atom::Byte(0x1000007)), None),
+];
+
+#[test]
+fn a_borrower_owns_until_the_end(rt: HostRuntime) -> Result<(), Fail> {
+    let mut caps = PlainCaps::new(rt.alloc());
+    assert_go_on(&rt, &mut caps, &LENT)?;
+    assert_go_on(&rt, &mut caps, &BORROWED)?;
+    Ok(())
 }
 
 static ATOMS: [Step; 16] = [

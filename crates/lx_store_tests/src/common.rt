@@ -49,8 +49,47 @@ fn strip<C: CapStore>(caps: &mut C, cap: Cap) -> Result<bool, Memory> {
     Ok(true)
 }
 
+/// Threads are below this number.
+const THREADS: u32 = 16;
+
+/// Lends a capability that lies in memory to a principal that is not the kernel, and says whether it is one.
+fn lend<C: CapStore>(caps: &mut C, thread: u32, to: Principal, cap: Cap) -> Result<bool, Memory> {
+    if thread >= THREADS || to == Principal::Kernel || !is_in_memory(cap) {
+        return Ok(false);
+    }
+    caps.reserve(cells(cap))?;
+    caps.lend(thread, to, cap);
+    Ok(true)
+}
+
+/// What a thread does with its loans.
+#[derive(Clone, Copy)]
+pub enum LoanAct {
+    Open,
+    Shut(u32),
+    ShutAll,
+}
+
+/// Opens or ends loans of a thread, and says whether there is such a thread.
+fn act_on_loans<C: CapStore>(caps: &mut C, thread: u32, act: LoanAct) -> Result<bool, Memory> {
+    if thread >= THREADS {
+        return Ok(false);
+    }
+    caps.reserve(1)?;
+    match act {
+        LoanAct::Open => caps.open_loan(thread),
+        LoanAct::Shut(count) => caps.shut(thread, count),
+        LoanAct::ShutAll => caps.shut_all(thread),
+    }
+    Ok(true)
+}
+
 fn holds<C: CapStore>(caps: &C, who: Principal, cap: Cap) -> bool {
     is_in_memory(cap) && caps.holds(who, cap)
+}
+
+fn keeps<C: CapStore>(caps: &C, who: Principal, cap: Cap) -> bool {
+    is_in_memory(cap) && caps.keeps(who, cap)
 }
 
 /// An act on a store, or a question with its answer. Bytes are given by their address and how many there are.
@@ -60,8 +99,13 @@ pub enum Step {
     Strip(Cap),
     GrantBytes(Principal, u64, u64),
     StripBytes(u64, u64),
+    /// A thread opens a loan or ends some.
+    Loans(u32, LoanAct),
+    /// A thread lends bytes on its newest loan.
+    LendBytes(u32, Principal, u64, u64),
     Holds(Principal, Cap, bool),
     HoldsBytes(Principal, u64, u64, bool),
+    KeepsBytes(Principal, u64, u64, bool),
     /// The next atom that a principal owns behind one.
     NextOwned(Principal, Option<Atom>, Option<Atom>),
     /// The next owner of an atom behind one.
@@ -76,8 +120,11 @@ pub fn goes_so<C: CapStore>(caps: &mut C, step: Step) -> Result<bool, Memory> {
         Step::Strip(cap) => strip(caps, cap),
         Step::GrantBytes(to, at, size) => grant(caps, to, bytes(at, size)),
         Step::StripBytes(at, size) => strip(caps, bytes(at, size)),
+        Step::Loans(thread, act) => act_on_loans(caps, thread, act),
+        Step::LendBytes(thread, to, at, size) => lend(caps, thread, to, bytes(at, size)),
         Step::Holds(who, cap, want) => Ok(holds(caps, who, cap) == want),
         Step::HoldsBytes(who, at, size, want) => Ok(holds(caps, who, bytes(at, size)) == want),
+        Step::KeepsBytes(who, at, size, want) => Ok(keeps(caps, who, bytes(at, size)) == want),
         Step::NextOwned(who, after, want) => Ok(caps.next_owned(who, after) == want),
         Step::NextOwner(atom, after, want) => Ok(caps.next_owner(atom, after) == want),
         Step::OwnsByte(who, byte, want) => Ok(owns_byte(caps, who, byte) == want),

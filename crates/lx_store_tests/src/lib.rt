@@ -12,6 +12,8 @@ mod memory;
 #[cfg(test)]
 mod principals;
 #[cfg(test)]
+mod room;
+#[cfg(test)]
 mod writer_sets;
 #[cfg(test)]
 mod writers;
