@@ -26,7 +26,7 @@ use Rattle.lx_ir_read.specs.Tables.{tokens_left}
 use Rattle.lx_ir_read.specs.Again.{registers_in, with_registers, import_of, with_declared, with_defined, kept, again_at, all_again}
 use Rattle.lx_ir_faults.specs.Fault.{line_shown}
 use Rattle.lx_ir_read.specs.Grammar.{AreStatements, Adds, AddAll}
-use Rattle.lx_ir_found.proofs.Firsts.{defined_alike}
+use Rattle.lx_ir_round_trip.proofs.Firsts.{defined_alike}
 use Rattle.lx_ir_complete.proofs.Ends.{ended, ReadsAlike, statement_alike}
 use Rattle.lx_ir_complete.proofs.Firsts.{follows}
 

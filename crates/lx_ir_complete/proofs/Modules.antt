@@ -11,7 +11,7 @@ use Rattle.lx_ir_blocks.specs.Laws.{BodiesAreRead}
 use Rattle.lx_ir_statements.specs.Laws.{StatementsAreRead}
 use Rattle.lx_ir_tables.specs.Numbering.{table_of}
 use Rattle.lx_ir_forgotten.specs.Laws.{StatementsAreForgotten}
-use Rattle.lx_ir_unlimited.specs.Laws.{StatementsAreUnlimited}
+use Rattle.lx_ir_complete.specs.UnlimitedLaws.{StatementsAreUnlimited}
 use Rattle.lx_ir_faults.specs.declared.fault.ReadFault.{ReadFault}
 use Rattle.lx_ir_faults.specs.declared.fault.TextFault.{TextFault}
 use Rattle.lx_ir_faults.specs.Fault.{shown}

@@ -12,7 +12,7 @@ use Rattle.lx_ir_tokens.specs.Lines.{kept_tokens, last_line}
 use Rattle.lx_ir_tokens.specs.Names.{number_of}
 use Rattle.lx_ir_tokens.specs.Said.{kind_of}
 use Rattle.lx_ir_tokens.specs.Reading.{said_at, with_said, names_of, StandsFor, IsTokOf, ReadsAs}
-use Rattle.lx_ir_known.proofs.Placed.{name_at_number}
+use Rattle.lx_ir_round_trip.proofs.Placed.{name_at_number}
 use Rattle.lx_ir_complete.proofs.Cutting.{text_is_scanned}
 
 -- Names that stand in a table stay in it.

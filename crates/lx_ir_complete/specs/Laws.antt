@@ -16,7 +16,7 @@ use Rattle.lx_ir_read.specs.declared.first.FirstReading.{FirstReading}
 use Rattle.lx_ir_read.specs.First.{unknown_context, first_reading}
 use Rattle.lx_ir_read.specs.Reading.{SaysModule, FirstFault}
 use Rattle.lx_ir_read.specs.Grammar.{AreStatements, IsModule}
-use Rattle.lx_ir_refused.specs.Alike.{BeginAlike, StopsThere}
+use Rattle.lx_ir_complete.specs.Alike.{BeginAlike, StopsThere}
 
 -- what is a module by the grammar is read as it
 abbrev pub ModulesAreRead : Type 0

@@ -1,6 +1,7 @@
 //! The modules of three C files, as clang printed them.
 
 use crate::{checksum, driver, reprinted, ring};
+use lx_c_texts::{checksum_text, driver_text, ring_text};
 use lx_ir_read::{ReadFault, TextForm};
 use lx_words::Memory;
 use std::alloc::Global;
@@ -21,9 +22,9 @@ fn prints(alloc: Global, text: &[u8], printed: &[u8]) -> Result<bool, Memory> {
 #[test]
 fn what_clang_prints_is_read(rt: HostRuntime) -> Result<(), Fail> {
     let alloc = rt.alloc();
-    let ring = prints(alloc, ring::TEXT, ring::PRINTED)?;
-    let checksum = prints(alloc, checksum::TEXT, checksum::PRINTED)?;
-    let driver = prints(alloc, driver::TEXT, driver::PRINTED)?;
+    let ring = prints(alloc, ring_text().as_bytes(), ring::PRINTED)?;
+    let checksum = prints(alloc, checksum_text().as_bytes(), checksum::PRINTED)?;
+    let driver = prints(alloc, driver_text().as_bytes(), driver::PRINTED)?;
     assert!(rt; ring);
     assert!(rt; checksum);
     assert!(rt; driver);

@@ -24,7 +24,7 @@ use Rattle.lx_ir.specs.declared.module.Module.{Module}
 use Rattle.lx_ir.specs.IrType.{IrType}
 use Rattle.lx_ir.specs.Layout.{is_lawful_type}
 use Rattle.lx_ir.specs.Lawful.{is_lawful_symbol, is_lawful_pointer, fits_pointer, is_lawful_constant, pointer_nesting, nesting_of_constant}
-use Rattle.lx_ir_limits.specs.Laws.{InsideTypesAreLawful}
+use Rattle.lx_ir_lawful.specs.LimitLaws.{InsideTypesAreLawful}
 use Rattle.lx_ir_terms.specs.Context.{Context, entry, nothing, unless_complete, symbol_of}
 use Rattle.lx_ir_terms.specs.Grammar.{is_inside_limits, IsWritten}
 use Rattle.lx_ir_constants.specs.Constants.{is_in_range, word_of, number_value, number_in, blank_of, pointer_of_word, symbol_pointer, flat_pointer_of, moved_by, blank_at_type, constant_of_word, number_at_type, flat_constant_of}

@@ -1,2 +1,14 @@
+pub mod LimitLaws
 pub mod Tells
+pub mod TermLaws
+pub mod Said
+pub mod Named
+pub mod NamedThings
+pub mod TokenNames
+pub mod NameLaws
+pub mod BodyLaws
+pub mod SizeLaws
+pub mod OnceLaws
+pub mod SymbolLaws
+pub mod FunctionLaws
 pub mod Laws

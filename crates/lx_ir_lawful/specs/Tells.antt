@@ -4,7 +4,7 @@ use Rattle.lx_ir.specs.declared.module.Symbol.{Symbol}
 use Rattle.lx_ir.specs.declared.module.Module.{Module}
 use Rattle.lx_ir.specs.Lawful.{is_lawful_symbol}
 use Rattle.lx_ir_offsets.specs.Shapes.{named_shapes}
-use Rattle.lx_ir_limits.specs.Laws.{are_written_inside}
+use Rattle.lx_ir_lawful.specs.LimitLaws.{are_written_inside}
 use Rattle.lx_ir_terms.specs.Context.{Context, entry}
 
 -- A context in which names stand for things of the module alone, within the limits on its types.

@@ -19,14 +19,14 @@ use Rattle.lx_ir_statements.specs.Statements.{statement_at}
 use Rattle.lx_ir_statements.specs.Grammar.{IsStatement}
 use Rattle.lx_ir_statements.specs.Laws.{may_follow, StatementsAreRead}
 use Rattle.lx_ir_tables.specs.Numbering.{Numbering, table_of}
-use Rattle.lx_ir_printed_statements.specs.Statements.{Own}
+use Rattle.lx_ir_round_trip.specs.Statements.{Own}
 use Rattle.lx_ir_read.specs.declared.first.Found.{Found}
 use Rattle.lx_ir_read.specs.declared.draft.Draft.{Draft}
 use Rattle.lx_ir_read.specs.Tables.{tokens_left}
 use Rattle.lx_ir_read.specs.Again.{registers_in, with_registers, kept, import_of, with_declared, with_defined, again_at, all_again}
 use Rattle.lx_ir_faults.specs.Fault.{line_shown}
-use Rattle.lx_ir_found.specs.First.{AreFound}
-use Rattle.lx_ir_found.proofs.Firsts.{statement_begins, begins_longer, written_same}
+use Rattle.lx_ir_round_trip.specs.First.{AreFound}
+use Rattle.lx_ir_round_trip.proofs.Firsts.{statement_begins, begins_longer, written_same}
 
 -- What is behind a statement.
 pub found_follows : (form : TextForm) (places : List Token) (names : List (List ℕ)) (defined : Defined) (ss : List Own) (fs : List Found) (ts : List Tok) → AreFound form places names defined ss fs ts → may_follow ts ≡ true

@@ -20,15 +20,15 @@ use Rattle.lx_ir_tokens.specs.Reading.{ReadsAs}
 use Rattle.lx_ir_terms.specs.Context.{Context}
 use Rattle.lx_ir_calls.specs.declared.intrinsics.TextForm.{TextForm}
 use Rattle.lx_ir_calls.specs.declared.intrinsics.TextForm.TheVariants.{Program}
-use Rattle.lx_ir_printed.specs.Printed.{AreCalm}
+use Rattle.lx_ir_round_trip.specs.Printed.{AreCalm}
 use Rattle.lx_ir_statements.specs.Defined.{nothing_defined}
 use Rattle.lx_ir_statements.specs.Statements.{statement_at}
 use Rattle.lx_ir_statements.specs.Laws.{StatementsAreRead}
 use Rattle.lx_ir_tables.specs.Numbering.{Numbering, numbering, table_of, symbols_by}
 use Rattle.lx_ir_forgotten.specs.Laws.{StatementsAreForgotten}
-use Rattle.lx_ir_printed_statements.specs.Said.{is_kept_module}
-use Rattle.lx_ir_printed_statements.specs.Laws.{IsOwn, IsGiven, ModulesAreStated, ModulesAreCalm}
-use Rattle.lx_ir_printed_statements.specs.Statements.{Own, OfType, OfGlobal, OfFunction, StateModule}
+use Rattle.lx_ir_round_trip.specs.Said.{is_kept_module}
+use Rattle.lx_ir_round_trip.specs.StatementLaws.{IsOwn, IsGiven, ModulesAreStated, ModulesAreCalm}
+use Rattle.lx_ir_round_trip.specs.Statements.{Own, OfType, OfGlobal, OfFunction, StateModule}
 use Rattle.lx_ir_read.specs.declared.first.Found.{Found}
 use Rattle.lx_ir_read.specs.declared.first.FirstReading.{FirstReading}
 use Rattle.lx_ir_read.specs.declared.draft.Draft.{Draft}
@@ -37,14 +37,14 @@ use Rattle.lx_ir_read.specs.First.{unknown_context, no_progress, first_at, first
 use Rattle.lx_ir_read.specs.Tables.{types_of, functions_of, naming_types, is_type, named_types, with_type_again}
 use Rattle.lx_ir_read.specs.Again.{with_registers, no_draft, all_again, module_of}
 use Rattle.lx_ir_read.specs.Reading.{first_of, early_context, tables_of, full_context, told, ◌and_then◌, module_found, front_fault, unless_faulty, module_by, module_at}
-use Rattle.lx_ir_known.specs.Tables.{AreOnce, named_things, global_names, function_names, HasTables}
-use Rattle.lx_ir_known.specs.Laws.{unknown, TablesAreKnown, RegistersAreKnown, RegistersAreNumbered}
-use Rattle.lx_ir_found.specs.First.{AreFound}
+use Rattle.lx_ir_round_trip.specs.KnownTables.{AreOnce, named_things, global_names, function_names, HasTables}
+use Rattle.lx_ir_round_trip.specs.KnownLaws.{unknown, TablesAreKnown, RegistersAreKnown, RegistersAreNumbered}
+use Rattle.lx_ir_round_trip.specs.First.{AreFound}
 use Rattle.lx_ir_round_trip.specs.Same.{SameModules}
-use Rattle.lx_ir_found.specs.Laws.{Defines}
-use Rattle.lx_ir_found.proofs.Firsts.{firsts}
-use Rattle.lx_ir_found.proofs.Counted.{counted}
-use Rattle.lx_ir_found.proofs.Finding.{Named, joined, types_named, globals_named, functions_named, plain_functions}
+use Rattle.lx_ir_round_trip.specs.FirstLaws.{Defines}
+use Rattle.lx_ir_round_trip.proofs.Firsts.{firsts}
+use Rattle.lx_ir_round_trip.proofs.Counted.{counted}
+use Rattle.lx_ir_round_trip.proofs.Finding.{Named, joined, types_named, globals_named, functions_named, plain_functions}
 use Rattle.lx_ir_round_trip.proofs.TypesAgain.{IsNoType, all_types}
 use Rattle.lx_ir_round_trip.proofs.Drafted.{own_of}
 use Rattle.lx_ir_round_trip.proofs.Early.{is_program, program_is, none_early}

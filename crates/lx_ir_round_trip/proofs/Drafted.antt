@@ -25,18 +25,18 @@ use Rattle.lx_ir_statements.specs.Defined.{is_block_write}
 use Rattle.lx_ir_tables.specs.Numbering.{Numbering, numbering, table_of}
 use Rattle.lx_ir_tables.specs.Registers.{registers_of}
 use Rattle.lx_ir_forgotten.specs.Alike.{AlikeStatements, AlikeBlocks}
-use Rattle.lx_ir_printed.proofs.PrintedCalls.{not_block}
-use Rattle.lx_ir_printed.proofs.PrintedInits.{said_bytes}
-use Rattle.lx_ir_printed_statements.specs.Said.{SameBlocks}
-use Rattle.lx_ir_printed_statements.specs.Statements.{Own, OfType, OfGlobal, OfFunction}
+use Rattle.lx_ir_round_trip.proofs.PrintedCalls.{not_block}
+use Rattle.lx_ir_round_trip.proofs.PrintedInits.{said_bytes}
+use Rattle.lx_ir_round_trip.specs.Said.{SameBlocks}
+use Rattle.lx_ir_round_trip.specs.Statements.{Own, OfType, OfGlobal, OfFunction}
 use Rattle.lx_ir_read.specs.declared.first.Found.{Found}
 use Rattle.lx_ir_read.specs.declared.draft.Draft.{Draft}
 use Rattle.lx_ir_read.specs.Again.{registers_in, with_registers, local_names, nameless, import_of, with_named, with_variable, with_declared, with_body, with_defined}
 use Rattle.lx_ir_faults.specs.Fault.{line_shown}
-use Rattle.lx_ir_known.specs.Tables.{AreOnce, named_things}
-use Rattle.lx_ir_known.specs.Laws.{unknown, RegistersAreNumbered}
+use Rattle.lx_ir_round_trip.specs.KnownTables.{AreOnce, named_things}
+use Rattle.lx_ir_round_trip.specs.KnownLaws.{unknown, RegistersAreNumbered}
 use Rattle.lx_ir_round_trip.specs.Same.{SameGlobals, SameBodies, SameFunctions}
-use Rattle.lx_ir_round_trip.proofs.Kept.{locals_told}
+use Rattle.lx_ir_round_trip.proofs.KeptNames.{locals_told}
 use Rattle.lx_ir_round_trip.proofs.Again.{registers_at, IsAgain, next, adds}
 
 -- Lists beside lists.

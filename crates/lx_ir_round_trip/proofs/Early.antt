@@ -8,7 +8,7 @@ use Rattle.lx_ir_terms.specs.Context.{Context}
 use Rattle.lx_ir_constants.specs.Misplaced.{is_misplaced}
 use Rattle.lx_ir_calls.specs.declared.intrinsics.TextForm.{TextForm}
 use Rattle.lx_ir_calls.specs.declared.intrinsics.TextForm.TheVariants.{Program, Image}
-use Rattle.lx_ir_printed.specs.Printed.{IsForeign, IsCalm, AreCalm}
+use Rattle.lx_ir_round_trip.specs.Printed.{IsForeign, IsCalm, AreCalm}
 use Rattle.lx_ir_read.specs.Reading.{is_own, is_early, first_early}
 
 abbrev pub is_program : TextForm → Bool

@@ -4,8 +4,8 @@ use Rattle.std.specs.Prelude.{if◌then◌else◌}
 use Rattle.lx_words.specs.declared.token.Token.{Token}
 use Rattle.lx_ir_tokens.specs.Names.{number_of}
 use Rattle.lx_ir_tokens.specs.Reading.{said_at, with_said, names_of}
-use Rattle.lx_ir_known.specs.Tables.{AreOnce}
-use Rattle.lx_ir_known.proofs.Placed.{nowhere}
+use Rattle.lx_ir_round_trip.specs.KnownTables.{AreOnce}
+use Rattle.lx_ir_round_trip.proofs.Placed.{nowhere}
 
 -- what stands in a table with one name more
 where_it_stands : (names : List (List ℕ)) (new : List ℕ) (i : ℕ) (name : List ℕ) → slice_get (names ++ new ∷ []) i ≡ Some name → (slice_get names i ≡ Some name) ⊎ ((i ≡ length names) × (new ≡ name))

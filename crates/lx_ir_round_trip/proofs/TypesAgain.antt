@@ -25,12 +25,12 @@ use Rattle.lx_ir_statements.specs.Statements.{statement_at}
 use Rattle.lx_ir_statements.specs.Grammar.{IsStatement}
 use Rattle.lx_ir_statements.specs.Laws.{may_follow, StatementsAreRead}
 use Rattle.lx_ir_forgotten.specs.Alike.{AlikeStatements}
-use Rattle.lx_ir_printed.proofs.PrintedInits.{said_bytes}
-use Rattle.lx_ir_printed_statements.specs.Statements.{Own, OfType, OfGlobal, OfFunction}
+use Rattle.lx_ir_round_trip.proofs.PrintedInits.{said_bytes}
+use Rattle.lx_ir_round_trip.specs.Statements.{Own, OfType, OfGlobal, OfFunction}
 use Rattle.lx_ir_read.specs.declared.first.Found.{Found}
 use Rattle.lx_ir_read.specs.Tables.{tokens_left, naming_types, is_type, type_in, type_read, type_again, with_type_again}
-use Rattle.lx_ir_known.specs.Laws.{unknown}
-use Rattle.lx_ir_found.specs.First.{AreFound}
+use Rattle.lx_ir_round_trip.specs.KnownLaws.{unknown}
+use Rattle.lx_ir_round_trip.specs.First.{AreFound}
 use Rattle.lx_ir_round_trip.proofs.Again.{left_there, found_follows}
 
 -- Types by a context that knows the names of types alone.

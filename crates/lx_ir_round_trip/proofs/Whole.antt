@@ -22,13 +22,13 @@ use Rattle.lx_ir_statements.specs.Defined.{nothing_defined, with_statement}
 use Rattle.lx_ir_statements.specs.Laws.{StatementsAreRead}
 use Rattle.lx_ir_tables.specs.Numbering.{Numbering, numbering, table_of}
 use Rattle.lx_ir_forgotten.specs.Alike.{AlikeStatements}
-use Rattle.lx_ir_printed_statements.specs.Statements.{Own, OfType, OfGlobal, OfFunction, StateModule}
+use Rattle.lx_ir_round_trip.specs.Statements.{Own, OfType, OfGlobal, OfFunction, StateModule}
 use Rattle.lx_ir_read.specs.declared.first.Found.{Found}
 use Rattle.lx_ir_read.specs.declared.draft.Draft.{Draft}
 use Rattle.lx_ir_read.specs.Again.{registers_in, with_registers, no_draft, all_again, module_of}
-use Rattle.lx_ir_known.specs.Tables.{AreOnce, named_things}
-use Rattle.lx_ir_known.specs.Laws.{unknown, RegistersAreNumbered}
-use Rattle.lx_ir_found.specs.First.{AreFound}
+use Rattle.lx_ir_round_trip.specs.KnownTables.{AreOnce, named_things}
+use Rattle.lx_ir_round_trip.specs.KnownLaws.{unknown, RegistersAreNumbered}
+use Rattle.lx_ir_round_trip.specs.First.{AreFound}
 use Rattle.lx_ir_round_trip.specs.Same.{SameFunctions, SameModules}
 use Rattle.lx_ir_round_trip.proofs.Again.{IsAgain, adds, again_all}
 use Rattle.lx_ir_round_trip.proofs.Drafted.{Keeps, Alike, walked, Typed, type_kept, global_kept, own_of, imports_of, bodies_of, Functioned, IsFunction, function_kept, told_registers}

@@ -7,7 +7,7 @@ use Rattle.lx_ir_tokens.specs.declared.read.IrTokens.{IrTokens}
 use Rattle.lx_ir_tokens.specs.Reading.{ReadsAs}
 use Rattle.lx_ir_calls.specs.declared.intrinsics.TextForm.{TextForm}
 use Rattle.lx_ir_calls.specs.declared.intrinsics.TextForm.TheVariants.{Program}
-use Rattle.lx_ir_printed_statements.specs.Said.{is_kept_module}
+use Rattle.lx_ir_round_trip.specs.Said.{is_kept_module}
 use Rattle.lx_ir_faults.specs.declared.fault.ReadFault.{ReadFault}
 use Rattle.lx_ir_read.specs.Reading.{module_at, SaysModule, FirstFault}
 use Rattle.lx_ir_round_trip.specs.Same.{SameModules}

@@ -1,2 +1,17 @@
+pub mod Pieces
+pub mod Printed
+pub mod Lines
+pub mod PieceLaws
+pub mod Kept
+pub mod Knows
+pub mod PieceRows
+pub mod Said
+pub mod StatementLaws
+pub mod ModuleRows
+pub mod Statements
+pub mod KnownTables
+pub mod KnownLaws
+pub mod First
+pub mod FirstLaws
 pub mod Same
 pub mod Laws

@@ -5,7 +5,7 @@ use Rattle.lx_ir.specs.declared.module.GlobalVar.{GlobalVar}
 use Rattle.lx_ir.specs.declared.module.Block.{Block}
 use Rattle.lx_ir.specs.declared.module.Function.{Function}
 use Rattle.lx_ir.specs.declared.module.Module.{Module}
-use Rattle.lx_ir_printed_statements.specs.Said.{SameBlocks}
+use Rattle.lx_ir_round_trip.specs.Said.{SameBlocks}
 
 pub record SameGlobals (g h : GlobalVar) : Type 0 where
   pub name : g.name ≡ h.name

@@ -2,9 +2,9 @@
 
 use crate::rows::{ENDS, LABELS, PHIS, REGISTERS, Row, TYPES, WITHOUT_A_FAULT, Wanted};
 use lx_c_texts::{checksum_text, driver_text, kernel_text, ring_text};
+use lx_ir_lawful::whole_laws;
 use lx_ir_read::{TextForm, read_module};
 use lx_ir_verify::{Verified, VerifyFault, verify};
-use lx_ir_whole::whole_laws;
 use std::alloc::Global;
 use std::test::Fail;
 

@@ -6,7 +6,7 @@ use Rattle.std.proofs.lemmas.List.Elements.{All-append}
 use Rattle.lx_ir.specs.declared.module.Module.{Module}
 use Rattle.lx_ir_calls.specs.declared.intrinsics.TextForm.TheVariants.{Program}
 use Rattle.lx_ir_read.specs.Reading.{SaysModule}
-use Rattle.lx_ir_whole.specs.Laws.{ReadIsLawful, ProgramsArePlain}
+use Rattle.lx_ir_lawful.specs.Laws.{ReadIsLawful, ProgramsArePlain}
 use Rattle.lx_annot.specs.declared.interface.Interface.{Interface}
 use Rattle.lx_annot_read.specs.Texts.{SaysInterface}
 use Rattle.lx_annot_lawful.specs.Lawful.{IsLawfulInterface}

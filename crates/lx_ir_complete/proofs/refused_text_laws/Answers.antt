@@ -1,4 +1,4 @@
-use Rattle.lx_ir_complete.proofs.Refused.{text_stops, stands_nowhere}
+use Rattle.lx_ir_complete.proofs.RefusedTexts.{text_stops, stands_nowhere}
 use Rattle.lx_ir_complete.proofs.refused_text_laws.Goals as goal
 
 pub returns-clause-read : goal.returns-clause-read

@@ -1,5 +1,5 @@
 use Rattle.std.proofs.Common.{sym, subst}
-use Rattle.lx_ir_known.specs.Tables.{AreOnce}
+use Rattle.lx_ir_round_trip.specs.KnownTables.{AreOnce}
 use Rattle.lx_ir_round_trip.proofs.NamesOnce.{names_once}
 use Rattle.lx_ir.specs.Text.{module_text}
 use Rattle.lx_ir_round_trip.proofs.Assembled.{read_again}

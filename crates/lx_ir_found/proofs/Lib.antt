@@ -1,3 +1,0 @@
-pub mod Firsts
-pub mod Counted
-pub mod Finding

@@ -1,4 +1,0 @@
-pub mod Ops
-pub mod Called
-pub mod Forms
-pub mod Named

@@ -1,5 +1,0 @@
-pub mod Lines
-pub mod Reading
-pub mod Bodies
-pub mod Walk
-pub mod Functions

@@ -1,3 +1,0 @@
-pub mod Things
-pub mod Tokens
-pub mod Laws

@@ -1,2 +1,0 @@
-pub mod Stable
-pub mod Lawful

@@ -1,7 +1,0 @@
-pub mod Pieces
-pub mod Printed
-pub mod Lines
-pub mod Laws
-pub mod Kept
-pub mod Knows
-pub mod Rows

@@ -1,9 +1,0 @@
-pub mod Blocks
-pub mod Functions
-pub mod Heads
-pub mod Labels
-pub mod Lines
-pub mod Modules
-pub mod NamedTypes
-pub mod Standing
-pub mod Stated

@@ -1,4 +1,0 @@
-pub mod Said
-pub mod Laws
-pub mod Rows
-pub mod Statements

@@ -1,4 +1,0 @@
-pub mod Once
-pub mod Symbols
-pub mod Imports
-pub mod Sizes

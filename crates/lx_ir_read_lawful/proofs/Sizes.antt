@@ -1,4 +1,0 @@
--- What the laws above take of the types of a module that is read, handed on.
-pub use Rattle.lx_ir_sized.specs.Laws.{is_such_struct}
-pub use Rattle.lx_ir_sized.proofs.Types.{left_there, all_types, Good, all_good, modules_have_lawful_types}
-pub use Rattle.lx_ir_sized.proofs.Blocks.{body_all}

@@ -1,5 +1,0 @@
-pub mod FreeTypes
-pub mod FreeConstants
-pub mod FreeOperands
-pub mod FreeForms
-pub mod FreeStatements

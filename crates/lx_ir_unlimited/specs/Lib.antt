@@ -1,2 +1,0 @@
-pub mod Unlimited
-pub mod Laws
