@@ -1,3 +1,4 @@
+mod Forms
 pub mod InitLists
 pub mod Joined
 pub mod Layouts

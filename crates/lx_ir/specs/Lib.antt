@@ -1,4 +1,5 @@
 pub mod Faults
+pub mod Forms
 pub mod Init
 pub mod InitCodes
 pub mod InitFalls

@@ -224,7 +224,6 @@ fn closing(brackets: Brackets) -> &'static [u8]
 
 /// Appends an initialiser.
 #[cycle(put_init)]
-#[tactic(auto, using(std::proofs::lemmas::Grind::common_steps))]
 pub fn put_init(out: &mut Vec<u8>, m: &Module, init: &Init) -> Result<(), Memory>
     ensures { OnOk result (out.new.items ≡ out.old.items ++ init_text m.now init.now) }
 {
@@ -246,7 +245,6 @@ pub fn put_init(out: &mut Vec<u8>, m: &Module, init: &Init) -> Result<(), Memory
 
 /// Appends the items of a group, each behind its type, as they stand inside its brackets.
 #[cycle(put_init)]
-#[tactic(auto, using(crate::proofs::InitLists::item_more, crate::proofs::InitLists::items_all, crate::proofs::InitLists::items_none, std::proofs::lemmas::Grind::common_steps))]
 fn put_items(out: &mut Vec<u8>, m: &Module, types: &[IrType], items: &[Init]) -> Result<(), Memory>
     ensures { OnOk result (out.new.items ≡ out.old.items ++ spaced_list (item_texts m.now types.now (inits_of_list items.now))) }
 {

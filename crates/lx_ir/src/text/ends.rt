@@ -1,6 +1,6 @@
 //! The text of block writes, of what ends a block, and of the lines of an image.
 ghost use Rattle.std.specs.Prelude.{◌≡◌, ◌++◌, OnOk, codes, flat_map};
-ghost use Rattle.lx_ir.specs.Text.{op_text, copy_word, length_text, copied_text, filled_text, target_text, case_text, cases_text, mark_text, guard_word, guarded_text, action_text};
+ghost use Rattle.lx_ir.specs.Text.{op_text, copy_word, value_text, symbol_text, length_text, target_text, case_text, cases_text, mark_text, guard_word, guarded_text, action_text};
 ghost use Rattle.lx_ir.specs.Operands.{guard_width};
 ghost use Rattle.lx_ir.specs.declared.instr.Op.TheVariants as form;
 
@@ -32,19 +32,21 @@ fn put_length(out: &mut Vec<u8>, scope: Scope, len: Argument) -> Result<(), Memo
     put(out, b", i1 false)")
 }
 
-fn put_copied(
+/// Appends the arguments of a block write: its destination, the type and the value of what is written, and its length.
+fn put_written(
     out: &mut Vec<u8>,
     scope: Scope,
     dest: Value,
-    source: Value,
+    ty: &[u8],
+    value: Value,
     len: Argument,
 ) -> Result<(), Memory>
-    ensures { OnOk result (out.new.items ≡ out.old.items ++ copied_text scope.entry.m.now scope.entry.f.now dest source len) }
+    ensures { OnOk result (out.new.items ≡ out.old.items ++ (codes "(ptr " ++ value_text scope.entry.m.now scope.entry.f.now dest ++ ty.now ++ value_text scope.entry.m.now scope.entry.f.now value ++ length_text scope.entry.m.now scope.entry.f.now len)) }
 {
     put(out, b"(ptr ")?;
     put_value(out, scope, dest)?;
-    put(out, b", ptr ")?;
-    put_value(out, scope, source)?;
+    put(out, ty)?;
+    put_value(out, scope, value)?;
     put_length(out, scope, len)
 }
 
@@ -60,23 +62,7 @@ pub fn put_copy_block(
 {
     put(out, copy_word(moves))?;
     put_scalar(out, len.ty)?;
-    put_copied(out, scope, dest, source, len)
-}
-
-fn put_filled(
-    out: &mut Vec<u8>,
-    scope: Scope,
-    dest: Value,
-    byte: Value,
-    len: Argument,
-) -> Result<(), Memory>
-    ensures { OnOk result (out.new.items ≡ out.old.items ++ filled_text scope.entry.m.now scope.entry.f.now dest byte len) }
-{
-    put(out, b"(ptr ")?;
-    put_value(out, scope, dest)?;
-    put(out, b", i8 ")?;
-    put_value(out, scope, byte)?;
-    put_length(out, scope, len)
+    put_written(out, scope, dest, b", ptr ", source, len)
 }
 
 pub fn put_fill_block(
@@ -90,7 +76,7 @@ pub fn put_fill_block(
 {
     put(out, b"call void @llvm.memset.p0.")?;
     put_scalar(out, len.ty)?;
-    put_filled(out, scope, dest, byte, len)
+    put_written(out, scope, dest, b", i8 ", byte, len)
 }
 
 pub fn put_ret(out: &mut Vec<u8>, scope: Scope, value: Option<Argument>) -> Result<(), Memory>
@@ -243,18 +229,16 @@ pub fn put_check(out: &mut Vec<u8>, scope: Scope, target: Value) -> Result<(), M
     put(out, b")")
 }
 
-pub fn put_enter(out: &mut Vec<u8>, scope: Scope, function: Symbol) -> Result<(), Memory>
-    ensures { OnOk result (out.new.items ≡ out.old.items ++ op_text scope.entry.m.now scope.entry.f.now (form.Enter function)) }
+/// Appends the entering or the leaving of a function, as this name of the monitor says.
+pub fn put_crossing(
+    out: &mut Vec<u8>,
+    scope: Scope,
+    name: &[u8],
+    function: Symbol,
+) -> Result<(), Memory>
+    ensures { OnOk result (out.new.items ≡ out.old.items ++ (mark_text name.now ++ symbol_text scope.entry.m.now function ++ codes ")")) }
 {
-    put_mark(out, b"enter")?;
-    put_symbol(out, scope.m, function)?;
-    put(out, b")")
-}
-
-pub fn put_leave(out: &mut Vec<u8>, scope: Scope, function: Symbol) -> Result<(), Memory>
-    ensures { OnOk result (out.new.items ≡ out.old.items ++ op_text scope.entry.m.now scope.entry.f.now (form.Leave function)) }
-{
-    put_mark(out, b"leave")?;
+    put_mark(out, name)?;
     put_symbol(out, scope.m, function)?;
     put(out, b")")
 }
@@ -274,23 +258,17 @@ fn put_action(out: &mut Vec<u8>, number: u32) -> Result<(), Memory>
     put(out, b")")
 }
 
-pub fn put_pre(out: &mut Vec<u8>, scope: Scope, function: Symbol, number: u32) -> Result<(), Memory>
-    ensures { OnOk result (out.new.items ≡ out.old.items ++ op_text scope.entry.m.now scope.entry.f.now (form.Pre function number)) }
-{
-    put_mark(out, b"pre")?;
-    put_symbol(out, scope.m, function)?;
-    put_action(out, number)
-}
-
-pub fn put_post(
+/// Appends an action of a function's annotation, before the call or behind it, as this name of the monitor says.
+pub fn put_hook(
     out: &mut Vec<u8>,
     scope: Scope,
+    name: &[u8],
     function: Symbol,
     number: u32,
 ) -> Result<(), Memory>
-    ensures { OnOk result (out.new.items ≡ out.old.items ++ op_text scope.entry.m.now scope.entry.f.now (form.Post function number)) }
+    ensures { OnOk result (out.new.items ≡ out.old.items ++ (mark_text name.now ++ symbol_text scope.entry.m.now function ++ action_text number)) }
 {
-    put_mark(out, b"post")?;
+    put_mark(out, name)?;
     put_symbol(out, scope.m, function)?;
     put_action(out, number)
 }

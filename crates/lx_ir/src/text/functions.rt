@@ -1,12 +1,13 @@
 //! The text of functions.
-ghost use Rattle.std.specs.Prelude.{◌≡◌, ◌++◌, OnOk, codes, map, flat_map};
+ghost use Rattle.std.specs.Prelude.{◌≡◌, ◌++◌, OnOk, codes, map, flat_map, true, false};
 ghost use Rattle.lx_ir.specs.Text.{op_text, instr_text, block_text, parameter_text, scalar_text, head_text, blocks_text, defined_text, declared_text, function_text, comma_list};
+ghost use Rattle.lx_ir.specs.Forms.{is_value, is_end};
 
 use crate::instr::{Instr, Op};
 use crate::module::{Block, Function, Module, Parameter};
 use crate::text::ends::{
-    put_branch, put_check, put_copy_block, put_enter, put_fill_block, put_guard, put_jump,
-    put_leave, put_post, put_pre, put_ret, put_switch,
+    put_branch, put_check, put_copy_block, put_crossing, put_fill_block, put_guard, put_hook,
+    put_jump, put_ret, put_switch,
 };
 use crate::text::operands::Scope;
 use crate::text::pieces::{put, put_global, put_local, put_separator};
@@ -41,6 +42,16 @@ fn put_op(out: &mut Vec<u8>, scope: Scope, op: &Op) -> Result<(), Memory>
         } => put_select(out, scope, *to, *condition, *ty, *a, *b),
         Op::Phi { to, ty, edges } => put_phi(out, scope, *to, *ty, edges.as_slice()),
         Op::Alloca { to, ty } => put_alloca(out, scope, *to, ty),
+        _ => put_access(out, scope, op),
+    }
+}
+
+/// Appends an instruction that is no plain value: an access to memory, a call, what ends a block, or one of the monitor's.
+fn put_access(out: &mut Vec<u8>, scope: Scope, op: &Op) -> Result<(), Memory>
+    requires { is_value op.now ≡ false }
+    ensures { OnOk result (out.new.items ≡ out.old.items ++ op_text scope.entry.m.now scope.entry.f.now op.now) }
+{
+    match op {
         Op::Load { to, ty, at } => put_load(out, scope, *to, *ty, *at),
         Op::Store { ty, value, at } => put_store(out, scope, *ty, *value, *at),
         Op::GetElementPtr {
@@ -62,6 +73,16 @@ fn put_op(out: &mut Vec<u8>, scope: Scope, op: &Op) -> Result<(), Memory>
             len,
         } => put_copy_block(out, scope, *moves, *dest, *source, *len),
         Op::FillBlock { dest, byte, len } => put_fill_block(out, scope, *dest, *byte, *len),
+        _ => put_end(out, scope, op),
+    }
+}
+
+/// Appends what ends a block, or an instruction of the monitor's.
+fn put_end(out: &mut Vec<u8>, scope: Scope, op: &Op) -> Result<(), Memory>
+    requires { is_end op.now ≡ true }
+    ensures { OnOk result (out.new.items ≡ out.old.items ++ op_text scope.entry.m.now scope.entry.f.now op.now) }
+{
+    match op {
         Op::Ret { value } => put_ret(out, scope, *value),
         Op::Jump { label } => put_jump(out, scope, label),
         Op::Branch {
@@ -78,10 +99,11 @@ fn put_op(out: &mut Vec<u8>, scope: Scope, op: &Op) -> Result<(), Memory>
         Op::Unreachable => put(out, b"unreachable"),
         Op::Guard { at, size, narrow } => put_guard(out, scope, *at, *size, *narrow),
         Op::Check { target } => put_check(out, scope, *target),
-        Op::Enter { f } => put_enter(out, scope, *f),
-        Op::Pre { f, k } => put_pre(out, scope, *f, *k),
-        Op::Post { f, k } => put_post(out, scope, *f, *k),
-        Op::Leave { f } => put_leave(out, scope, *f),
+        Op::Enter { f } => put_crossing(out, scope, b"enter", *f),
+        Op::Pre { f, k } => put_hook(out, scope, b"pre", *f, *k),
+        Op::Post { f, k } => put_hook(out, scope, b"post", *f, *k),
+        Op::Leave { f } => put_crossing(out, scope, b"leave", *f),
+        _ => unreachable!(),
     }
 }
 
@@ -138,7 +160,6 @@ fn put_parameter(out: &mut Vec<u8>, parameter: &Parameter) -> Result<(), Memory>
 }
 
 /// Appends the parameters of a function with their names.
-#[tactic(auto, using(crate::proofs::TypeLists::comma_more, std::proofs::lemmas::Grind::common_steps))]
 fn put_parameters(out: &mut Vec<u8>, parameters: &[Parameter]) -> Result<(), Memory>
     ensures { OnOk result (out.new.items ≡ out.old.items ++ comma_list (map parameter_text parameters.now)) }
 {
@@ -150,7 +171,6 @@ fn put_parameters(out: &mut Vec<u8>, parameters: &[Parameter]) -> Result<(), Mem
 }
 
 /// Appends the types of the parameters of an import.
-#[tactic(auto, using(crate::proofs::TypeLists::comma_more, std::proofs::lemmas::Grind::common_steps))]
 fn put_parameter_types(out: &mut Vec<u8>, parameters: &[Parameter]) -> Result<(), Memory>
     ensures { OnOk result (out.new.items ≡ out.old.items ++ comma_list (map (λ p. scalar_text p.ty) parameters.now)) }
 {

@@ -5,7 +5,7 @@ ghost use Rattle.lx_ir.specs.Text.{name_at, register_name, register_text, value_
 use crate::instr::Argument;
 use crate::module::{Function, Module, Value};
 use crate::text::constants::put_constant;
-use crate::text::pieces::{put, put_local, put_separator};
+use crate::text::pieces::{put, put_local, put_separator, put_word};
 use crate::text::types::put_scalar;
 use crate::types::Scalar;
 use lx_words::{Memory, Name};
@@ -53,6 +53,14 @@ pub fn put_given(out: &mut Vec<u8>, scope: Scope, to: u32) -> Result<(), Memory>
 {
     put_register(out, scope, to)?;
     put(out, b" = ")
+}
+
+/// Appends the register that an instruction gives, and the word of its form.
+pub fn put_form(out: &mut Vec<u8>, scope: Scope, to: u32, word: &[u8]) -> Result<(), Memory>
+    ensures { OnOk result (out.new.items ≡ out.old.items ++ (given_text scope.entry.f.now to ++ (word.now ++ codes " "))) }
+{
+    put_given(out, scope, to)?;
+    put_word(out, word)
 }
 
 /// Appends the register that a call gives, if any.
@@ -107,7 +115,6 @@ pub fn put_argument(out: &mut Vec<u8>, scope: Scope, argument: Argument) -> Resu
 }
 
 /// Appends the arguments of a call.
-#[tactic(auto, using(crate::proofs::TypeLists::comma_more, std::proofs::lemmas::Grind::common_steps))]
 pub fn put_arguments(out: &mut Vec<u8>, scope: Scope, arguments: &[Argument]) -> Result<(), Memory>
     ensures { OnOk result (out.new.items ≡ out.old.items ++ arguments_text scope.entry.m.now scope.entry.f.now arguments.now) }
 {

@@ -1,5 +1,6 @@
 //! The text of types.
 ghost use Rattle.std.specs.Prelude.{◌≡◌, ◌++◌, ◌+◌, OnOk, codes, map};
+ghost use Rattle.lx_words.specs.Text.{decimal_text};
 ghost use Rattle.lx_ir.specs.Text.{scalar_text, width_text, result_text, type_text, type_name, spaced_list};
 
 use crate::module::Module;
@@ -40,18 +41,24 @@ pub fn put_result(out: &mut Vec<u8>, ty: Option<Scalar>) -> Result<(), Memory>
     }
 }
 
+/// Appends how many elements an array has, behind its bracket.
+fn put_count(out: &mut Vec<u8>, count: u64) -> Result<(), Memory>
+    ensures { OnOk result (out.new.items ≡ out.old.items ++ (codes "[" ++ decimal_text count ++ codes " x ")) }
+{
+    put(out, b"[")?;
+    put_decimal(out, i128::from(count))?;
+    put(out, b" x ")
+}
+
 /// Appends a type.
 #[cycle(put_type)]
-#[tactic(auto, using(crate::proofs::TypeLists::struct_text, crate::proofs::TypeLists::packed_text, std::proofs::lemmas::Grind::common_steps))]
 pub fn put_type(out: &mut Vec<u8>, m: &Module, ty: &IrType) -> Result<(), Memory>
     ensures { OnOk result (out.new.items ≡ out.old.items ++ type_text m.now.types ty.now) }
 {
     match &ty.node {
         TypeNode::Scalar(scalar) => put_scalar(out, *scalar),
         TypeNode::Array(count, element) => {
-            put(out, b"[")?;
-            put_decimal(out, i128::from(*count))?;
-            put(out, b" x ")?;
+            put_count(out, *count)?;
             put_type(out, m, element)?;
             put(out, b"]")
         }
@@ -81,7 +88,6 @@ fn type_name(m: &Module, k: u32) -> &[u8]
 
 /// Appends the fields of a struct, as they stand inside its braces.
 #[cycle(put_type)]
-#[tactic(auto, using(crate::proofs::TypeLists::comma_more, crate::proofs::TypeLists::spaced_all))]
 fn put_fields(out: &mut Vec<u8>, m: &Module, fields: &[IrType]) -> Result<(), Memory>
     ensures { OnOk result (out.new.items ≡ out.old.items ++ spaced_list (map (type_text m.now.types) fields.now)) }
 {

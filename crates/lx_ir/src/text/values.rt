@@ -1,16 +1,16 @@
 //! The text of instructions that give values, and of calls.
 ghost use Rattle.std.specs.Prelude.{◌≡◌, ◌++◌, OnOk, codes, map, flat_map, Some};
-ghost use Rattle.lx_ir.specs.Text.{op_text, operator_word, predicate_word, conversion_word, into_text, choices_text, edge_text, place_text, callee_text, arguments_text, argument_text, comma_list};
+ghost use Rattle.lx_ir.specs.Text.{op_text, operator_word, predicate_word, conversion_word, into_text, choices_text, edge_text, value_text, place_text, callee_text, arguments_text, argument_text, comma_list};
 ghost use Rattle.lx_ir.specs.declared.instr.Op.TheVariants as form;
 
 use crate::instr::{Argument, Callee, Conversion, Edge};
 use crate::module::Value;
 use crate::text::constants::put_symbol;
 use crate::text::operands::{
-    Scope, put_argument, put_arguments, put_given, put_given_if, put_operand, put_pair,
+    Scope, put_argument, put_arguments, put_form, put_given_if, put_operand, put_pair,
     put_register, put_value,
 };
-use crate::text::pieces::{put, put_local, put_separator};
+use crate::text::pieces::{put, put_local, put_separator, put_word};
 use crate::text::types::{put_result, put_scalar, put_type};
 use crate::types::{IrType, Scalar};
 use lx_words::{BinOp, Memory, Pred};
@@ -77,9 +77,7 @@ pub fn put_binary(
 ) -> Result<(), Memory>
     ensures { OnOk result (out.new.items ≡ out.old.items ++ op_text scope.entry.m.now scope.entry.f.now (form.Binary to op ty a b)) }
 {
-    put_given(out, scope, to)?;
-    put(out, operator_word(op))?;
-    put(out, b" ")?;
+    put_form(out, scope, to, operator_word(op))?;
     put_pair(out, scope, ty, a, b)
 }
 
@@ -94,10 +92,8 @@ pub fn put_compare(
 ) -> Result<(), Memory>
     ensures { OnOk result (out.new.items ≡ out.old.items ++ op_text scope.entry.m.now scope.entry.f.now (form.Compare to pred ty a b)) }
 {
-    put_given(out, scope, to)?;
-    put(out, b"icmp ")?;
-    put(out, predicate_word(pred))?;
-    put(out, b" ")?;
+    put_form(out, scope, to, b"icmp")?;
+    put_word(out, predicate_word(pred))?;
     put_pair(out, scope, ty, a, b)
 }
 
@@ -119,9 +115,7 @@ pub fn put_convert(
 ) -> Result<(), Memory>
     ensures { OnOk result (out.new.items ≡ out.old.items ++ op_text scope.entry.m.now scope.entry.f.now (form.Convert to how from a into)) }
 {
-    put_given(out, scope, to)?;
-    put(out, conversion_word(how))?;
-    put(out, b" ")?;
+    put_form(out, scope, to, conversion_word(how))?;
     put_operand(out, scope, from, a)?;
     put_into(out, into)
 }
@@ -135,8 +129,7 @@ pub fn put_freeze(
 ) -> Result<(), Memory>
     ensures { OnOk result (out.new.items ≡ out.old.items ++ op_text scope.entry.m.now scope.entry.f.now (form.Freeze to ty a)) }
 {
-    put_given(out, scope, to)?;
-    put(out, b"freeze ")?;
+    put_form(out, scope, to, b"freeze")?;
     put_operand(out, scope, ty, a)
 }
 
@@ -166,8 +159,7 @@ pub fn put_select(
 ) -> Result<(), Memory>
     ensures { OnOk result (out.new.items ≡ out.old.items ++ op_text scope.entry.m.now scope.entry.f.now (form.Select to condition ty a b)) }
 {
-    put_given(out, scope, to)?;
-    put(out, b"select i1 ")?;
+    put_form(out, scope, to, b"select i1")?;
     put_value(out, scope, condition)?;
     put_choices(out, scope, ty, a, b)
 }
@@ -182,7 +174,6 @@ fn put_edge(out: &mut Vec<u8>, scope: Scope, edge: &Edge) -> Result<(), Memory>
     put(out, b" ]")
 }
 
-#[tactic(auto, using(crate::proofs::TypeLists::comma_more, std::proofs::lemmas::Grind::common_steps))]
 fn put_edges(out: &mut Vec<u8>, scope: Scope, edges: &[Edge]) -> Result<(), Memory>
     ensures { OnOk result (out.new.items ≡ out.old.items ++ comma_list (map (edge_text scope.entry.m.now scope.entry.f.now) edges.now)) }
 {
@@ -202,8 +193,7 @@ pub fn put_phi(
 ) -> Result<(), Memory>
     ensures { OnOk result (out.new.items ≡ out.old.items ++ op_text scope.entry.m.now scope.entry.f.now (form.Phi to ty edges.now)) }
 {
-    put_given(out, scope, to)?;
-    put(out, b"phi ")?;
+    put_form(out, scope, to, b"phi")?;
     put_scalar(out, ty)?;
     put(out, b" ")?;
     put_edges(out, scope, edges)
@@ -212,9 +202,16 @@ pub fn put_phi(
 pub fn put_alloca(out: &mut Vec<u8>, scope: Scope, to: u32, ty: &IrType) -> Result<(), Memory>
     ensures { OnOk result (out.new.items ≡ out.old.items ++ op_text scope.entry.m.now scope.entry.f.now (form.Alloca to ty.now)) }
 {
-    put_given(out, scope, to)?;
-    put(out, b"alloca ")?;
+    put_form(out, scope, to, b"alloca")?;
     put_type(out, scope.m, ty)
+}
+
+/// Appends the pointer operand of an instruction.
+fn put_pointer_operand(out: &mut Vec<u8>, scope: Scope, at: Value) -> Result<(), Memory>
+    ensures { OnOk result (out.new.items ≡ out.old.items ++ (codes ", ptr " ++ value_text scope.entry.m.now scope.entry.f.now at)) }
+{
+    put(out, b", ptr ")?;
+    put_value(out, scope, at)
 }
 
 pub fn put_load(
@@ -226,11 +223,9 @@ pub fn put_load(
 ) -> Result<(), Memory>
     ensures { OnOk result (out.new.items ≡ out.old.items ++ op_text scope.entry.m.now scope.entry.f.now (form.Load to ty at)) }
 {
-    put_given(out, scope, to)?;
-    put(out, b"load ")?;
+    put_form(out, scope, to, b"load")?;
     put_scalar(out, ty)?;
-    put(out, b", ptr ")?;
-    put_value(out, scope, at)
+    put_pointer_operand(out, scope, at)
 }
 
 pub fn put_store(
@@ -244,8 +239,7 @@ pub fn put_store(
 {
     put(out, b"store ")?;
     put_operand(out, scope, ty, value)?;
-    put(out, b", ptr ")?;
-    put_value(out, scope, at)
+    put_pointer_operand(out, scope, at)
 }
 
 fn put_indices(out: &mut Vec<u8>, scope: Scope, indices: &[Argument]) -> Result<(), Memory>
@@ -266,8 +260,7 @@ fn put_place(
 ) -> Result<(), Memory>
     ensures { OnOk result (out.new.items ≡ out.old.items ++ place_text scope.entry.m.now scope.entry.f.now base indices.now) }
 {
-    put(out, b", ptr ")?;
-    put_value(out, scope, base)?;
+    put_pointer_operand(out, scope, base)?;
     put_indices(out, scope, indices)
 }
 
@@ -281,8 +274,7 @@ pub fn put_element(
 ) -> Result<(), Memory>
     ensures { OnOk result (out.new.items ≡ out.old.items ++ op_text scope.entry.m.now scope.entry.f.now (form.GetElementPtr to ty.now base indices.now)) }
 {
-    put_given(out, scope, to)?;
-    put(out, b"getelementptr ")?;
+    put_form(out, scope, to, b"getelementptr")?;
     put_type(out, scope.m, ty)?;
     put_place(out, scope, base, indices)
 }

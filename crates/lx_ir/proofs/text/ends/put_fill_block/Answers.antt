@@ -3,4 +3,4 @@ use Rattle.lx_ir.proofs.Joined.{joined_three}
 use Rattle.lx_ir.proofs.text.ends.put_fill_block.Goals as goal
 
 pub returns : goal.returns
-returns c = IfOk-equal c.put_filled.result _ _ _ c.put_filled.ensures (joined_three _ _ _ _ _ _ c.in_ok-put.ensures c.in_ok-put_scalar.ensures)
+returns c = IfOk-equal c.put_written.result _ _ _ c.put_written.ensures (joined_three _ _ _ _ _ _ c.in_ok-put.ensures c.in_ok-put_scalar.ensures)
