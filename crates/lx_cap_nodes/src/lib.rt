@@ -1,0 +1,38 @@
+//! Nodes in two linked lists at once.
+//!
+//! A [`NodePool`] keeps values in nodes. A node and a list have a number each. Every node stands in one list of places
+//! and in one list of owners; both are doubly linked by numbers, so a node leaves both in a few steps.
+//!
+//! ```text
+//! let mut pool = NodePool::new(alloc);
+//! let place = pool.add_list(Family::Place)?;
+//! let owner = pool.add_list(Family::Owner)?;
+//! pool.reserve(1)?;
+//! let node = pool.link(place, owner, 7);
+//! // The node is the first of both its lists.
+//! pool.first(ListName::Owner(owner));
+//! pool.unlink(node);
+//! ```
+#![tactic(auto)]
+
+mod links;
+mod pool;
+
+pub use pool::{Family, ListName, NodePool};
+use std::alloc::AllocError;
+use thiserror::Error;
+
+/// Want of memory: the call needed more memory than there was.
+#[derive(Clone, Copy, Debug, PartialEq, Eq, Error)]
+#[error("out of memory")]
+pub struct Memory;
+
+impl From<AllocError> for Memory {
+    ghost use Rattle.std.specs.Prelude.{◌≡◌};
+
+    ghost from_gives = { λ _ e. e ≡ record {} };
+
+    fn from(_: AllocError) -> Self {
+        Memory
+    }
+}
