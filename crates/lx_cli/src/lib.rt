@@ -6,4 +6,4 @@ mod command;
 mod run;
 mod top;
 
-pub use top::lxfi;
+pub use top::{WANT_OF_MEMORY, lxfi};

@@ -30,7 +30,7 @@ const USAGE: &str =
 const NOT_TAKEN: u8 = 5;
 
 /// The status of want of memory.
-const WANT_OF_MEMORY: u8 = 6;
+pub const WANT_OF_MEMORY: u8 = 6;
 
 /// Writes the whole text of a status, and gives that status, or the one of a sink that did not take all.
 fn put<K: Sink>(sink: &mut K, text: &[u8], status: u8) -> u8

@@ -160,3 +160,21 @@ fn many_names_are_kept(rt: HostRuntime) -> Result<(), Fail> {
     let steps = many(rt.alloc())?;
     assert_steps(&rt, rt.alloc(), 3, steps.as_slice())
 }
+
+/// As many names of one module as 16 bits count, and one more; then the first of them again, and the last one's first name.
+fn past_16_bits(alloc: Global) -> Result<Vec<Step>, Fail> {
+    let mut steps = Vec::new(alloc);
+    for number in 0..0x10001u32 {
+        let want = Principal::Inst(0, number);
+        steps.push(Step::Named(0, u64::from(number) * 8, want))?;
+    }
+    steps.push(Step::Named(0, 0, FIRST))?;
+    steps.push(Step::First(0, 0x10000, Some(0x80000)))?;
+    Ok(steps)
+}
+
+#[test]
+fn more_instances_are_named_than_16_bits_count(rt: HostRuntime) -> Result<(), Fail> {
+    let steps = past_16_bits(rt.alloc())?;
+    assert_steps(&rt, rt.alloc(), 1, steps.as_slice())
+}

@@ -8,6 +8,10 @@ mod files;
 #[cfg(test)]
 mod limits;
 #[cfg(test)]
+mod long;
+#[cfg(test)]
+mod many;
+#[cfg(test)]
 mod network_card;
 #[cfg(test)]
 mod over_kernels;
@@ -19,5 +23,7 @@ mod replayed;
 mod row;
 #[cfg(test)]
 mod run;
+#[cfg(test)]
+mod system;
 #[cfg(test)]
 mod tests;

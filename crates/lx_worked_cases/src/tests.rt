@@ -3,15 +3,17 @@
 use crate::c_files::C_FILES;
 use crate::files::ONE_CASE;
 use crate::limits::LIMITS;
+use crate::long::{ALL_CALLS, LONG};
+use crate::many::MANY;
 use crate::network_card::NETWORK_CARD;
 use crate::over_kernels::{MEMORY, OWN_KERNELS, PRINCIPALS, SLOTS};
 use crate::plain::{FAULTY, PLAIN};
 use crate::replayed::REPLAYED;
-use crate::run::{first_wrong, run_words, shelf_of, sink_of};
+use crate::run::{first_long_wrong, first_wrong, run_words, shelf_of, sink_of};
 use lx_outside::{MemShelf, MemSink};
 use std::test::Fail;
 
-const USAGE: &str =
+pub const USAGE: &str =
     "usage: lxfi_run run CASE | replay CASE SCHEDULE | instrument CASE MODULE | check CASE MODULE IMAGE | generate N\n";
 
 #[test]
@@ -73,6 +75,27 @@ fn c_files_return_what_c_returns(rt: HostRuntime) -> Result<(), Fail> {
 #[test]
 fn machines_at_their_limits(rt: HostRuntime) -> Result<(), Fail> {
     let wrong = first_wrong(&rt, rt.alloc(), &LIMITS)?;
+    assert_eq!(rt; wrong.as_str(), "");
+    Ok(())
+}
+
+#[test]
+fn many_actions(rt: HostRuntime) -> Result<(), Fail> {
+    let wrong = first_wrong(&rt, rt.alloc(), &MANY)?;
+    assert_eq!(rt; wrong.as_str(), "");
+    Ok(())
+}
+
+#[test]
+fn long_reports(rt: HostRuntime) -> Result<(), Fail> {
+    let wrong = first_long_wrong(&rt, rt.alloc(), &LONG)?;
+    assert_eq!(rt; wrong.as_str(), "");
+    Ok(())
+}
+
+#[test]
+fn as_many_calls_as_a_case_may_have(rt: HostRuntime) -> Result<(), Fail> {
+    let wrong = first_long_wrong(&rt, rt.alloc(), &ALL_CALLS)?;
     assert_eq!(rt; wrong.as_str(), "");
     Ok(())
 }

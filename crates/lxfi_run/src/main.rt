@@ -1,19 +1,17 @@
 //! Makes the real shelf, sink and gate, and runs the program.
 #![tactic(auto)]
 
-use lx_cli::lxfi;
-use lx_outside::{FileShelf, OpenGate, StdSink};
+use lx_cli::{WANT_OF_MEMORY, lxfi};
+use lx_outside::{FileShelf, OpenGate, StdSink, command_words};
 use std::process::ExitCode;
-use std::{env, io};
 
-fn main(rt: HostRuntime) -> io::Result<ExitCode> {
+fn main(rt: HostRuntime) -> ExitCode {
     let alloc = rt.alloc();
-    let mut words = Vec::new(alloc);
-    for word in env::args(&rt)?.skip(1) {
-        words.push(word)?;
-    }
+    let Ok(words) = command_words(&rt, alloc) else {
+        return ExitCode::from(WANT_OF_MEMORY);
+    };
     let mut shelf = FileShelf::new(&rt, alloc);
     let mut sink = StdSink::new(&rt);
     let status = lxfi(&rt, alloc, &words, &mut shelf, &mut sink, &OpenGate);
-    Ok(ExitCode::from(status))
+    ExitCode::from(status)
 }
