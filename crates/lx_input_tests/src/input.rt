@@ -3,7 +3,7 @@
 use crate::common::shelf_of;
 use lx_input::{Input, InputStop, fault_text, read_input};
 use lx_outside::MemShelf;
-use lx_words::Name;
+use lx_words::{Name, put_decimal};
 use std::alloc::Global;
 use std::test::Fail;
 
@@ -46,7 +46,21 @@ const NOTHING: &str = "lxfi case 1\nkernel none\ninterface none\n";
 const PROBE: &str =
     "%struct.dev_ops = type { ptr, ptr }\n@ops = global %struct.dev_ops { ptr @probe, ptr null }\ndefine i32 @probe(ptr %d) {\nret i32 0\n}\n";
 
-static ROWS: [Row; 11] = [
+const OWN_MODULE: &str = "lxfi case 1\nkernel none\ninterface none\nmodule m m.ll\n";
+
+const TWO_MODULES: &str =
+    "lxfi case 1\nkernel none\ninterface none\nmodule a a.ll\nmodule b b.ll\n";
+
+/// As many bytes of globals as their region has.
+const ALL_BYTES: &str = "@g = global [1048576 x i8] zeroinitializer\n";
+
+const ONE_BYTE_MORE: &str = "@g = global [1048577 x i8] zeroinitializer\n";
+
+const ONE_BYTE: &str = "@g = global i8 0\n";
+
+const UNSHARED: &str = "define void @f() {\nret void\n}\n";
+
+static ROWS: [Row; 16] = [
     Row(
         "lxfi case 1\nkernel none\ninterface none\nmodule m un.ll\n",
         &[("un.ll", UNASSIGNED)],
@@ -102,6 +116,29 @@ static ROWS: [Row; 11] = [
         &[],
         "one.case:5: link 1 @f\n",
     ),
+    // Globals have a region of 1 MiB.
+    Row(OWN_MODULE, &[("m.ll", ALL_BYTES)], ""),
+    Row(
+        OWN_MODULE,
+        &[("m.ll", ONE_BYTE_MORE)],
+        "m.ll:1: link 4 globals\n",
+    ),
+    Row(
+        OWN_KERNEL,
+        &[("k.ll", ONE_BYTE_MORE)],
+        "k.ll:1: link 4 globals\n",
+    ),
+    // The last module is named, also where an earlier one takes all bytes.
+    Row(
+        TWO_MODULES,
+        &[("a.ll", ALL_BYTES), ("b.ll", ONE_BYTE)],
+        "b.ll:1: link 4 globals\n",
+    ),
+    Row(
+        TWO_MODULES,
+        &[("a.ll", ONE_BYTE_MORE), ("b.ll", UNSHARED)],
+        "b.ll:1: link 4 globals\n",
+    ),
     Row("lxfi case 1\nkernel builtin\ninterface builtin\n", &[], ""),
 ];
 
@@ -135,6 +172,53 @@ fn each_check_tells_its_fault(rt: HostRuntime) -> Result<(), Fail> {
     for row in &ROWS {
         assert!(rt; comes_to(alloc, row)?);
     }
+    Ok(())
+}
+
+/// A program has numbers for 65,536 functions. Six of them are natives, so ten modules of one text have 6,553 each.
+const TEN_MODULES: &str =
+    "lxfi case 1\nkernel none\ninterface none\nmodule a m.ll\nmodule b m.ll\nmodule c m.ll\nmodule d m.ll\nmodule e m.ll\nmodule f m.ll\nmodule g m.ll\nmodule h m.ll\nmodule i m.ll\nmodule j m.ll\n";
+
+const ONE_MORE: &str = "module k one.ll\n";
+
+/// The text of a module with this global and so many functions.
+fn with_functions(alloc: Global, global: &str, count: u32) -> Result<Vec<u8>, Fail> {
+    let mut text = Vec::from_slice(alloc, global.as_bytes())?;
+    for number in 0..count {
+        text.extend_from_slice(b"define void@")?;
+        put_decimal(&mut text, i128::from(number))?;
+        text.extend_from_slice(b"(){ret void}")?;
+    }
+    Ok(text)
+}
+
+/// What ten modules with this global and so many functions each come to, and what is behind them.
+fn ten_times(alloc: Global, behind: &str, global: &str, count: u32) -> Result<Name, Fail> {
+    let case = format!(in alloc; "{TEN_MODULES}{behind}")?;
+    let mut shelf = shelf_with(alloc, case.as_str(), &[("one.ll", UNSHARED)])?;
+    let text = with_functions(alloc, global, count)?;
+    shelf.put_file(alloc, "m.ll", &text)?;
+    let text = told(alloc, &mut shelf)?;
+    Ok(text)
+}
+
+#[test]
+fn a_program_has_numbers_for_65536_functions(rt: HostRuntime) -> Result<(), Fail> {
+    let alloc = rt.alloc();
+    let all = ten_times(alloc, "", "", 6_553)?;
+    assert!(rt; all.is_empty());
+    let one_more = ten_times(alloc, ONE_MORE, "", 6_553)?;
+    assert!(rt; one_more.is_same(b"one.ll:1: link 4 functions\n"));
+    Ok(())
+}
+
+#[test]
+fn functions_are_counted_before_globals_are_placed(rt: HostRuntime) -> Result<(), Fail> {
+    let alloc = rt.alloc();
+    let both = ten_times(alloc, ONE_MORE, ALL_BYTES, 6_553)?;
+    assert!(rt; both.is_same(b"one.ll:1: link 4 functions\n"));
+    let globals = ten_times(alloc, "", ALL_BYTES, 1)?;
+    assert!(rt; globals.is_same(b"m.ll:1: link 4 globals\n"));
     Ok(())
 }
 
