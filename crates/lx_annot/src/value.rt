@@ -1,5 +1,5 @@
 //! The value of an expression.
-ghost use Rattle.std.specs.Prelude.{◌≡◌, option_copied};
+ghost use Rattle.std.specs.Prelude.{◌≡◌, option_copied, None};
 ghost use Rattle.lx_words.specs.declared.word.Width.TheVariants.{W64};
 ghost use Rattle.lx_words.specs.Word.{word};
 ghost use Rattle.lx_annot.specs.Scope.{env_of};
@@ -176,4 +176,15 @@ pub fn value<M: Look>(e: &Expr, env: &Env, memory: &M) -> Result<u64, NoLook>
     ensures { IsFound (λ v. v) result (value (M.shows memory.now) env.now e.now) }
 {
     value_in(e, scope_of(env), memory)
+}
+
+/// The value of an expression over the arguments of a call that has returned nothing yet, as `value` gives it. It takes no
+/// memory, and no copy of the arguments is needed.
+///
+/// # Errors
+/// `NoLook` as for `value`.
+pub fn value_at_entry<M: Look>(e: &Expr, args: &[Word], memory: &M) -> Result<u64, NoLook>
+    ensures { IsFound (λ v. v) result (value (M.shows memory.now) (record { args = args.now; ret = None }) e.now) }
+{
+    value_in(e, Scope { args, ret: None }, memory)
 }

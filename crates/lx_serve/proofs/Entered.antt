@@ -47,7 +47,7 @@ script_enters stands p m s t by n args q crosses same run = (
 pub script_halts : {C : Type 0} (stands : C → History → Type 0) (p : Program) (m : Monitor C) (s : State) (t : ℕ) (by : Principal) (n : ℕ) (args : List Word) (e : Halt)
     → RunsAs stands p m s (runs_in p s n args (home_of p n)) (Err e) → Tries stands p m s t by (what.Enter (Script n) args) (Err e)
 script_halts stands p m s t by n args (Ended o) run = (ap found_nothing run.1 ∙ ap Some (sym run.2), run.3)
-script_halts stands p m s t by n args Memory run = (refl, run)
+script_halts stands p m s t by n args Memory run = (ap found_nothing run.1, run.2)
 
 kernel_home : (home : Option Home) → is_home None home ≡ true → home ≡ Some None
 kernel_home None is = absurd cc
@@ -69,7 +69,12 @@ kernel_enters stands p m s t by n args is k = (
 pub value_halts : {C : Type 0} (stands : C → History → Type 0) (p : Program) (m : Monitor C) (s : State) (home : ℕ) (args : List Word) (e : Expr) (halt : Halt) → Keeps stands p m s
     → IsValue (value (load64 s.memory) (record { args = args; ret = None }) e) (Err halt) → RunsAs stands p m s (runs_by s home args (Some (who.Value e))) (Err halt)
 value_halts stands p m s home args e (Ended o) k is = (is.0, ap (λ (found : Found ℕ). and_then found (λ v. Ok (instance_named s.names home v))) is.1, is.2, k)
-value_halts stands p m s home args e Memory k is = k
+value_halts stands p m s home args e Memory k is = absurd is
+
+-- an expression that has a value, for which no instance could be made
+pub value_wants : {C : Type 0} (stands : C → History → Type 0) (p : Program) (m : Monitor C) (s : State) (home : ℕ) (args : List Word) (e : Expr) (v : ℕ) → Keeps stands p m s
+    → value (load64 s.memory) (record { args = args; ret = None }) e ≡ Ok v → RunsAs stands p m s (runs_by s home args (Some (who.Value e))) (Err Memory)
+value_wants stands p m s home args e v k is = (instance_named s.names home v, ap (λ (found : Found ℕ). and_then found (λ w. Ok (instance_named s.names home w))) is, k)
 
 pub value_runs : {C : Type 0} (stands : C → History → Type 0) (p : Program) (m : Monitor C) (s : State) (home : ℕ) (args : List Word) (e : Expr) (v : ℕ) (q : Principal)
     → value (load64 s.memory) (record { args = args; ret = None }) e ≡ Ok v → IsNamed stands p m s (instance_named s.names home v) q → RunsAs stands p m s (runs_by s home args (Some (who.Value e))) (Ok q)

@@ -177,7 +177,7 @@ module _ {C : Type 0} (stands : C → History → Type 0) (p : Program) (m : Mon
     decided_by _ before found (nobody_at p s who way args) n parts finds ∙ ap found_nothing run.1 ∙ ap Some (sym run.2),
     run.3,
   )
-  halts n Memory finds run = (decided_by _ before found (nobody_at p s who way args) n parts finds ∙ ap (nobody_at p s who way args) (sym (same ∙ finds.0)), run)
+  halts n Memory finds run = (decided_by _ before found (nobody_at p s who way args) n parts finds ∙ ap found_nothing run.1, run.2)
 
   enters : (n : ℕ) (q : Principal) (over : Bool) → Finds found before (Ok n) → over ≡ crosses p who way n → RunsAs stands p m s (runs_as p s who way n args) (Ok q)
       → Tries stands p m s t who (what.Enter way args) (Ok (Entered n q over))

@@ -23,7 +23,7 @@ runs_called p s who n args =
 abbrev pub IsValue : Found ℕ → Result ℕ Halt → Type 0
 IsValue found (Ok v) = found ≡ Ok v
 IsValue found (Err (Ended o)) = (at : ℕ) × (found ≡ Err at) × (o ≡ unmapped at)
-IsValue found (Err Memory) = Unit {0}
+IsValue found (Err Memory) = ⊥
 
 -- the principal is the one that was looked up, and the monitor keeps the state with the names that are left
 pub record IsNamed {C : Type 0} (stands : C → History → Type 0) (p : Program) (m : Monitor C) (s : State) (r : Running) (q : Principal) : Type 0 where
@@ -35,8 +35,9 @@ abbrev pub IsInstance : {C E : Type 0} → (C → History → Type 0) → Progra
 IsInstance stands p m s r (Ok q) = IsNamed stands p m s r q
 IsInstance stands p m s r (Err e) = Keeps stands p m s
 
--- a function runs as the principal; or its expression is not mapped, or memory is wanted, and the state is as it was
+-- a function runs as the principal; or its expression is not mapped, or memory is wanted though it is, and the state is as
+-- it was
 abbrev pub RunsAs : {C : Type 0} → (C → History → Type 0) → Program → Monitor C → State → Found Running → Result Principal Halt → Type 0
 RunsAs stands p m s found (Ok q) = (r : Running) × (found ≡ Ok r) × IsNamed stands p m s r q
 RunsAs stands p m s found (Err (Ended o)) = (at : ℕ) × (found ≡ Err at) × (o ≡ unmapped at) × Keeps stands p m s
-RunsAs stands p m s found (Err Memory) = Keeps stands p m s
+RunsAs stands p m s found (Err Memory) = (r : Running) × (found ≡ Ok r) × Keeps stands p m s

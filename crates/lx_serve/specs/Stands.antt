@@ -41,9 +41,8 @@ pub record Gives {C : Type 0} (stands : C → History → Type 0) (p : Program) 
   pub reply : answer ≡ x.reply
   pub state : Keeps stands p m x.state
 
--- no refusal or trap stands; of a call, none before it is known as whom the function runs
+-- no refusal or trap stands
 abbrev pub IsUndecided : Program → State → ℕ → Principal → What → Type 0
-IsUndecided p s t who (Enter way args) = decide_enter p s who way args ≡ nobody_at p s who way args (entered_function p s way)
 IsUndecided p s t who w = decide_what p s t who w ≡ None
 
 -- a request is tried: what comes to no outcome is granted; behind an outcome, and behind want of memory, the monitor

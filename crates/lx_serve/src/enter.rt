@@ -21,15 +21,14 @@ use crate::source::annotation_of;
 use crate::terms::unmapped;
 use lx_actions::SpaceLook;
 use lx_annot::action::{Annotation, Who};
-use lx_annot::expr::{Env, Expr};
-use lx_annot::value::value;
+use lx_annot::expr::Expr;
+use lx_annot::value::value_at_entry;
 use lx_caps::{CapStore, Memory, Principal};
 use lx_memory::Space;
 use lx_model::program::Program;
 use lx_model::request::Reply;
 use lx_targets::{home_of, is_module_function};
-use lx_words::{Items, Words};
-use std::alloc::Global;
+use lx_words::Words;
 
 fn principal_of(annotation: Option<&Annotation>) -> Option<&Who>
     ensures { option_copied result ≡ (unwrap_or (option_copied annotation.entry) no_annotation).principal }
@@ -40,23 +39,11 @@ fn principal_of(annotation: Option<&Annotation>) -> Option<&Who>
     }
 }
 
-/// The arguments of a call, of which nothing is returned yet.
-fn env_of(alloc: Global, args: &Words) -> Result<Env, Memory>
-    ensures { IfOk result (λ env. env ≡ record { args = args.now; ret = None }) }
-{
-    let words = Vec::from_slice(alloc, args.as_slice())?;
-    Ok(Env {
-        args: Items::from_vec(words),
-        ret: None,
-    })
-}
-
-/// The value of a principal's expression.
-fn value_of(alloc: Global, space: &Space, e: &Expr, args: &Words) -> Result<u64, Halt>
+/// The value of a principal's expression. It takes no memory.
+fn value_of(space: &Space, e: &Expr, args: &Words) -> Result<u64, Halt>
     ensures { (m : Writes) → IsShownBy space.now m → IsValue (value (load64 m) (record { args = args.now; ret = None }) e.now) result }
 {
-    let env = env_of(alloc, args)?;
-    match value(e, &env, &SpaceLook { space }) {
+    match value_at_entry(e, args.as_slice(), &SpaceLook { space }) {
         Ok(value) => Ok(value),
         Err(fault) => Err(Halt::Ended(unmapped(fault.at))),
     }
@@ -88,7 +75,7 @@ impl<C: CapStore + Drop> Monitor<C> {
             Who::Shared => Ok(Principal::Shared(home)),
             Who::Global => Ok(Principal::Global(home)),
             Who::Value(e) => {
-                let value = value_of(self.alloc, &self.space, e, args)?;
+                let value = value_of(&self.space, e, args)?;
                 let principal = self.instance(home, value)?;
                 Ok(principal)
             }
