@@ -3,7 +3,7 @@ ghost use Rattle.std.specs.Prelude.{◌≡◌, ◌≤◌, [], IfOk, length};
 ghost use Rattle.lx_link_texts.specs.WellFormed.{IsWellFormed};
 ghost use Rattle.lx_model.specs.World.{opening};
 ghost use Rattle.lx_tables.specs.Entries.{all_annotated};
-ghost use Rattle.lx_world.specs.Worlds.{HasRoom, StandsForWorld, program_of};
+ghost use Rattle.lx_world.specs.Worlds.{HasEndsRoom, HasRoom, StandsForWorld, program_of};
 
 use crate::events::script_events;
 use crate::part::open_part;
@@ -18,7 +18,7 @@ use std::alloc::Global;
 
 /// The opening of a script, a list of calls for each thread, over a well-formed program. `annotated` has the functions
 /// of each module that get a slot type, and `caps` is new. The world has room in its journal for every event that the fuel
-/// of the script allows.
+/// of the script allows, and in its store for the end of each call.
 ///
 /// # Errors
 /// Want of memory; more modules, functions of a module or actions of a function than a number of 32 bits counts are that
@@ -37,6 +37,7 @@ pub fn open_world<C: CapStore + Drop>(
     ensures opens { IfOk result (λ world. StandsForWorld C.stands program world (opening program script.items)) }
     ensures program { IfOk result (λ world. program_of world ≡ program) }
     ensures room { IfOk result (λ world. HasRoom world) }
+    ensures ends { IfOk result (λ world. HasEndsRoom C.spare world) }
 {
     reach_laws();
     let sources = sources_of(alloc, &program, annotated)?;

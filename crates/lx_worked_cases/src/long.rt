@@ -117,45 +117,44 @@ owns m.shared call 0x10090
 
 /// As many calls as a case may have, in which four threads take turns: 14 events with kmalloc and kfree, 8 with dev_wipe, 8
 /// through a slot, and 2 up to a store that is refused.
-pub static ALL_CALLS: [LongRow; 1] = [
-    LongRow {
-        name: "4,096 calls of four kinds",
-        case: &[
-            (
-                "lxfi case 1
+pub static ALL_CALLS: [LongRow; 1] = [LongRow {
+    name: "4,096 calls of four kinds",
+    case: &[
+        (
+            "lxfi case 1
 kernel builtin
 interface builtin
 module m mixed.ll
 thread
 ",
-                0,
-                1,
-            ),
-            ("call m:work # fuel 100\n", 0, 1024),
-            ("thread\n", 0, 1),
-            ("call m:wipe fuel 100\n", 0, 1024),
-            ("thread\ncall m:init fuel 100\n", 0, 1),
-            ("call kernel:do_probe 0 fuel 100\n", 1, 1024),
-            ("thread\n", 0, 1),
-            ("call m:stray # fuel 100\n", 0, 1024),
-        ],
-        schedule: &[("0*14 1*8 2*11 3*2", 0, 1), (" 0*14 1*8 2*8 3*2", 1, 1024)],
-        status: 1,
-        wanted: &[
-            ("schedule 0*14 1*8 2*11 3*2", 0, 1),
-            (" 0*14 1*8 2*8 3*2", 1, 1024),
-            ("\n", 0, 1),
-            ("call 0.# m:work returned #\n", 0, 1024),
-            ("call 1.# m:wipe returned\n", 0, 1024),
-            ("call 2.0 m:init returned\n", 0, 1),
-            ("call 2.# kernel:do_probe returned 0\n", 1, 1024),
-            (
-                "call 3.# m:stray refused 1 m.shared write 0x1000000+8\n",
-                0,
-                1024,
-            ),
-            (
-                "image m guards 2 checks 0 wrappers 5
+            0,
+            1,
+        ),
+        ("call m:work # fuel 100\n", 0, 1024),
+        ("thread\n", 0, 1),
+        ("call m:wipe fuel 100\n", 0, 1024),
+        ("thread\ncall m:init fuel 100\n", 0, 1),
+        ("call kernel:do_probe 0 fuel 100\n", 1, 1024),
+        ("thread\n", 0, 1),
+        ("call m:stray # fuel 100\n", 0, 1024),
+    ],
+    schedule: &[("0*14 1*8 2*11 3*2", 0, 1), (" 0*14 1*8 2*8 3*2", 1, 1024)],
+    status: 1,
+    wanted: &[
+        ("schedule 0*14 1*8 2*11 3*2", 0, 1),
+        (" 0*14 1*8 2*8 3*2", 1, 1024),
+        ("\n", 0, 1),
+        ("call 0.# m:work returned #\n", 0, 1024),
+        ("call 1.# m:wipe returned\n", 0, 1024),
+        ("call 2.0 m:init returned\n", 0, 1),
+        ("call 2.# kernel:do_probe returned 0\n", 1, 1024),
+        (
+            "call 3.# m:stray refused 1 m.shared write 0x1000000+8\n",
+            0,
+            1024,
+        ),
+        (
+            "image m guards 2 checks 0 wrappers 5
 owns m.shared write 0x10000e0+32
 owns m.shared call 0x10060
 owns m.shared call 0x10080
@@ -168,12 +167,11 @@ owns m.shared call 0x10160
 owns m.shared call 0x10170
 owns m[0x1000020] ref device 0x1000020
 ",
-                0,
-                1,
-            ),
-        ],
-    },
-];
+            0,
+            1,
+        ),
+    ],
+}];
 
 /// Writes the lines of a part for a number.
 fn put_lines(text: &mut String, lines: &str, number: u32) -> Result<(), Fail> {
