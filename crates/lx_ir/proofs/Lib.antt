@@ -1,3 +1,4 @@
+mod Behind
 mod Forms
 pub mod InitLists
 pub mod Joined

@@ -9,6 +9,7 @@ pub mod Lawful
 pub mod Layout
 pub mod Lookup
 pub mod Operands
+pub mod Pieces
 pub mod Rows
 pub mod RowsOfText
 pub mod Text

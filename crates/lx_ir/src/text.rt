@@ -5,6 +5,7 @@ ghost use Rattle.lx_ir.specs.Text.{module_text, named_type_text, global_var_text
 mod constants;
 mod ends;
 mod functions;
+mod line;
 mod operands;
 mod pieces;
 mod types;

@@ -1,14 +1,15 @@
 //! The text of block writes, of what ends a block, and of the lines of an image.
 ghost use Rattle.std.specs.Prelude.{◌≡◌, ◌++◌, OnOk, codes, flat_map};
-ghost use Rattle.lx_ir.specs.Text.{op_text, copy_word, value_text, symbol_text, length_text, target_text, case_text, cases_text, mark_text, guard_word, guarded_text, action_text};
+ghost use Rattle.lx_ir.specs.Text.{op_text, copy_word, value_text, symbol_text, length_text, case_text, cases_text, mark_text, guard_word, guarded_text, action_text};
 ghost use Rattle.lx_ir.specs.Operands.{guard_width};
 ghost use Rattle.lx_ir.specs.declared.instr.Op.TheVariants as form;
 
 use crate::instr::{Argument, SwitchCase};
 use crate::module::{Symbol, Value};
 use crate::text::constants::{put_number, put_symbol};
+use crate::text::line::{Piece, put_pieces};
 use crate::text::operands::{Scope, put_argument, put_operand, put_value};
-use crate::text::pieces::{put, put_local};
+use crate::text::pieces::put;
 use crate::text::types::put_scalar;
 use crate::types::Scalar;
 use lx_words::{Memory, Name, Width, Word};
@@ -84,48 +85,59 @@ pub fn put_ret(out: &mut Vec<u8>, scope: Scope, value: Option<Argument>) -> Resu
 {
     match value {
         None => put(out, b"ret void"),
-        Some(value) => {
-            put(out, b"ret ")?;
-            put_argument(out, scope, value)
-        }
+        Some(value) => put_pieces(
+            out,
+            scope,
+            &[Piece::Text(b"ret "), Piece::Operand(value.ty, value.value)],
+        ),
     }
 }
 
 pub fn put_jump(out: &mut Vec<u8>, scope: Scope, label: &Name) -> Result<(), Memory>
     ensures { OnOk result (out.new.items ≡ out.old.items ++ op_text scope.entry.m.now scope.entry.f.now (form.Jump label.now)) }
 {
-    put(out, b"br label ")?;
-    put_local(out, label.as_slice())
+    put_pieces(
+        out,
+        scope,
+        &[Piece::Text(b"br label "), Piece::Local(label.as_slice())],
+    )
 }
 
-/// Appends a label behind what decides for it.
-fn put_target(out: &mut Vec<u8>, label: &Name) -> Result<(), Memory>
-    ensures { OnOk result (out.new.items ≡ out.old.items ++ target_text label.now) }
-{
-    put(out, b", label ")?;
-    put_local(out, label.as_slice())
-}
-
-pub fn put_branch(
+pub fn put_branch<'a>(
     out: &mut Vec<u8>,
     scope: Scope,
     condition: Value,
-    if_true: &Name,
-    if_false: &Name,
+    if_true: &'a Name,
+    if_false: &'a Name,
 ) -> Result<(), Memory>
     ensures { OnOk result (out.new.items ≡ out.old.items ++ op_text scope.entry.m.now scope.entry.f.now (form.Branch condition if_true.now if_false.now)) }
 {
-    put(out, b"br i1 ")?;
-    put_value(out, scope, condition)?;
-    put_target(out, if_true)?;
-    put_target(out, if_false)
+    put_pieces(
+        out,
+        scope,
+        &[
+            Piece::Text(b"br i1 "),
+            Piece::Value(condition),
+            Piece::Text(b", label "),
+            Piece::Local(if_true.as_slice()),
+            Piece::Text(b", label "),
+            Piece::Local(if_false.as_slice()),
+        ],
+    )
 }
 
 fn put_case(out: &mut Vec<u8>, scope: Scope, ty: Scalar, case: &SwitchCase) -> Result<(), Memory>
     ensures { OnOk result (out.new.items ≡ out.old.items ++ case_text scope.entry.m.now scope.entry.f.now ty case.now) }
 {
-    put_operand(out, scope, ty, case.value)?;
-    put_target(out, &case.label)
+    put_pieces(
+        out,
+        scope,
+        &[
+            Piece::Operand(ty, case.value),
+            Piece::Text(b", label "),
+            Piece::Local(case.label.as_slice()),
+        ],
+    )
 }
 
 fn put_each_case(
@@ -171,10 +183,17 @@ pub fn put_switch(
 ) -> Result<(), Memory>
     ensures { OnOk result (out.new.items ≡ out.old.items ++ op_text scope.entry.m.now scope.entry.f.now (form.Switch ty value otherwise.now cases.now)) }
 {
-    put(out, b"switch ")?;
-    put_operand(out, scope, ty, value)?;
-    put_target(out, otherwise)?;
-    put(out, b" ")?;
+    put_pieces(
+        out,
+        scope,
+        &[
+            Piece::Text(b"switch "),
+            Piece::Operand(ty, value),
+            Piece::Text(b", label "),
+            Piece::Local(otherwise.as_slice()),
+            Piece::Text(b" "),
+        ],
+    )?;
     put_cases(out, scope, ty, cases)
 }
 

@@ -9,9 +9,10 @@ use crate::text::ends::{
     put_branch, put_check, put_copy_block, put_crossing, put_fill_block, put_guard, put_hook,
     put_jump, put_ret, put_switch,
 };
+use crate::text::line::{Piece, put_pieces};
 use crate::text::operands::Scope;
-use crate::text::pieces::{put, put_global, put_local, put_separator};
-use crate::text::types::{put_result, put_scalar};
+use crate::text::pieces::{put, put_separator};
+use crate::text::types::put_scalar;
 use crate::text::values::{
     put_alloca, put_binary, put_call, put_compare, put_convert, put_element, put_freeze, put_load,
     put_phi, put_select, put_store,
@@ -129,8 +130,11 @@ fn put_instrs(out: &mut Vec<u8>, scope: Scope, instrs: &[Instr]) -> Result<(), M
 fn put_block(out: &mut Vec<u8>, scope: Scope, block: &Block) -> Result<(), Memory>
     ensures { OnOk result (out.new.items ≡ out.old.items ++ block_text scope.entry.m.now scope.entry.f.now block.now) }
 {
-    put(out, block.name.as_slice())?;
-    put(out, b":\n")?;
+    put_pieces(
+        out,
+        scope,
+        &[Piece::Text(block.name.as_slice()), Piece::Text(b":\n")],
+    )?;
     put_instrs(out, scope, block.instrs.as_slice())
 }
 
@@ -151,21 +155,27 @@ fn put_body(out: &mut Vec<u8>, scope: Scope, blocks: &[Block]) -> Result<(), Mem
     put(out, b"}\n")
 }
 
-fn put_parameter(out: &mut Vec<u8>, parameter: &Parameter) -> Result<(), Memory>
+fn put_parameter(out: &mut Vec<u8>, scope: Scope, parameter: &Parameter) -> Result<(), Memory>
     ensures { OnOk result (out.new.items ≡ out.old.items ++ parameter_text parameter.now) }
 {
-    put_scalar(out, parameter.ty)?;
-    put(out, b" ")?;
-    put_local(out, parameter.name.as_slice())
+    put_pieces(
+        out,
+        scope,
+        &[
+            Piece::Scalar(parameter.ty),
+            Piece::Text(b" "),
+            Piece::Local(parameter.name.as_slice()),
+        ],
+    )
 }
 
 /// Appends the parameters of a function with their names.
-fn put_parameters(out: &mut Vec<u8>, parameters: &[Parameter]) -> Result<(), Memory>
+fn put_parameters(out: &mut Vec<u8>, scope: Scope, parameters: &[Parameter]) -> Result<(), Memory>
     ensures { OnOk result (out.new.items ≡ out.old.items ++ comma_list (map parameter_text parameters.now)) }
 {
     for (i, parameter) in parameters.iter().enumerate() {
         put_separator(out, i)?;
-        put_parameter(out, parameter)?;
+        put_parameter(out, scope, parameter)?;
     }
     Ok(())
 }
@@ -182,34 +192,40 @@ fn put_parameter_types(out: &mut Vec<u8>, parameters: &[Parameter]) -> Result<()
 }
 
 /// Appends the result and the name of a function.
-fn put_head(out: &mut Vec<u8>, f: &Function) -> Result<(), Memory>
-    ensures { OnOk result (out.new.items ≡ out.old.items ++ head_text f.now) }
+fn put_head(out: &mut Vec<u8>, scope: Scope) -> Result<(), Memory>
+    ensures { OnOk result (out.new.items ≡ out.old.items ++ head_text scope.entry.f.now) }
 {
-    put_result(out, f.ret)?;
-    put(out, b" ")?;
-    put_global(out, f.name.as_slice())?;
-    put(out, b"(")
+    put_pieces(
+        out,
+        scope,
+        &[
+            Piece::Result(scope.f.ret),
+            Piece::Text(b" "),
+            Piece::Global(scope.f.name.as_slice()),
+            Piece::Text(b"("),
+        ],
+    )
 }
 
 /// Appends an import.
-fn put_declared(out: &mut Vec<u8>, f: &Function) -> Result<(), Memory>
-    ensures { OnOk result (out.new.items ≡ out.old.items ++ declared_text f.now) }
+fn put_declared(out: &mut Vec<u8>, scope: Scope) -> Result<(), Memory>
+    ensures { OnOk result (out.new.items ≡ out.old.items ++ declared_text scope.entry.f.now) }
 {
     put(out, b"declare ")?;
-    put_head(out, f)?;
-    put_parameter_types(out, f.params.as_slice())?;
+    put_head(out, scope)?;
+    put_parameter_types(out, scope.f.params.as_slice())?;
     put(out, b")\n")
 }
 
 /// Appends a function with its blocks.
-fn put_defined(out: &mut Vec<u8>, m: &Module, f: &Function, blocks: &[Block]) -> Result<(), Memory>
-    ensures { OnOk result (out.new.items ≡ out.old.items ++ defined_text m.now f.now blocks.now) }
+fn put_defined(out: &mut Vec<u8>, scope: Scope, blocks: &[Block]) -> Result<(), Memory>
+    ensures { OnOk result (out.new.items ≡ out.old.items ++ defined_text scope.entry.m.now scope.entry.f.now blocks.now) }
 {
     put(out, b"define ")?;
-    put_head(out, f)?;
-    put_parameters(out, f.params.as_slice())?;
+    put_head(out, scope)?;
+    put_parameters(out, scope, scope.f.params.as_slice())?;
     put(out, b") {\n")?;
-    put_body(out, Scope { m, f }, blocks)
+    put_body(out, scope, blocks)
 }
 
 /// Appends an import, or a function with its blocks.
@@ -217,7 +233,7 @@ pub fn put_function(out: &mut Vec<u8>, m: &Module, f: &Function) -> Result<(), M
     ensures { OnOk result (out.new.items ≡ out.old.items ++ function_text m.now f.now) }
 {
     match &f.blocks {
-        None => put_declared(out, f),
-        Some(blocks) => put_defined(out, m, f, blocks.as_slice()),
+        None => put_declared(out, Scope { m, f }),
+        Some(blocks) => put_defined(out, Scope { m, f }, blocks.as_slice()),
     }
 }

@@ -1,11 +1,11 @@
 //! The text of operands.
 ghost use Rattle.std.specs.Prelude.{◌≡◌, ◌++◌, OnOk, codes, map};
-ghost use Rattle.lx_ir.specs.Text.{name_at, register_name, register_text, value_text, argument_text, operand_text, pair_text, given_text, given_if, comma_list, arguments_text};
+ghost use Rattle.lx_ir.specs.Text.{name_at, register_name, register_text, value_text, argument_text, operand_text, given_text, given_if, comma_list, arguments_text, callee_text};
 
-use crate::instr::Argument;
+use crate::instr::{Argument, Callee};
 use crate::module::{Function, Module, Value};
-use crate::text::constants::put_constant;
-use crate::text::pieces::{put, put_local, put_separator, put_word};
+use crate::text::constants::{put_constant, put_symbol};
+use crate::text::pieces::{put, put_local, put_separator};
 use crate::text::types::put_scalar;
 use crate::types::Scalar;
 use lx_words::{Memory, Name};
@@ -55,14 +55,6 @@ pub fn put_given(out: &mut Vec<u8>, scope: Scope, to: u32) -> Result<(), Memory>
     put(out, b" = ")
 }
 
-/// Appends the register that an instruction gives, and the word of its form.
-pub fn put_form(out: &mut Vec<u8>, scope: Scope, to: u32, word: &[u8]) -> Result<(), Memory>
-    ensures { OnOk result (out.new.items ≡ out.old.items ++ (given_text scope.entry.f.now to ++ (word.now ++ codes " "))) }
-{
-    put_given(out, scope, to)?;
-    put_word(out, word)
-}
-
 /// Appends the register that a call gives, if any.
 pub fn put_given_if(out: &mut Vec<u8>, scope: Scope, to: Option<u32>) -> Result<(), Memory>
     ensures { OnOk result (out.new.items ≡ out.old.items ++ given_if scope.entry.f.now to) }
@@ -92,21 +84,6 @@ pub fn put_operand(out: &mut Vec<u8>, scope: Scope, ty: Scalar, value: Value) ->
     put_value(out, scope, value)
 }
 
-/// Appends two operands behind their type.
-pub fn put_pair(
-    out: &mut Vec<u8>,
-    scope: Scope,
-    ty: Scalar,
-    a: Value,
-    b: Value,
-) -> Result<(), Memory>
-    ensures { OnOk result (out.new.items ≡ out.old.items ++ pair_text scope.entry.m.now scope.entry.f.now ty a b) }
-{
-    put_operand(out, scope, ty, a)?;
-    put(out, b", ")?;
-    put_value(out, scope, b)
-}
-
 /// Appends an argument behind its type.
 pub fn put_argument(out: &mut Vec<u8>, scope: Scope, argument: Argument) -> Result<(), Memory>
     ensures { OnOk result (out.new.items ≡ out.old.items ++ argument_text scope.entry.m.now scope.entry.f.now argument) }
@@ -124,4 +101,14 @@ pub fn put_arguments(out: &mut Vec<u8>, scope: Scope, arguments: &[Argument]) ->
         put_argument(out, scope, *argument)?;
     }
     put(out, b")")
+}
+
+/// Appends what a call calls.
+pub fn put_callee(out: &mut Vec<u8>, scope: Scope, callee: Callee) -> Result<(), Memory>
+    ensures { OnOk result (out.new.items ≡ out.old.items ++ callee_text scope.entry.m.now scope.entry.f.now callee) }
+{
+    match callee {
+        Callee::Symbol(symbol) => put_symbol(out, scope.m, symbol),
+        Callee::Register(register) => put_register(out, scope, register),
+    }
 }

@@ -1,5 +1,5 @@
 //! Pieces of text: bytes, names and what stands between items.
-ghost use Rattle.std.specs.Prelude.{◌≡◌, ◌++◌, OnOk, codes};
+ghost use Rattle.std.specs.Prelude.{◌≡◌, ◌++◌, OnOk};
 ghost use Rattle.std.specs.List.{list_all};
 ghost use Rattle.lx_ir.specs.Text.{is_name_byte, name_text, local_text, global_text, separator};
 
@@ -11,14 +11,6 @@ pub fn put(out: &mut Vec<u8>, text: &[u8]) -> Result<(), Memory>
 {
     out.extend_from_slice(text)?;
     Ok(())
-}
-
-/// Appends a word and a space.
-pub fn put_word(out: &mut Vec<u8>, word: &[u8]) -> Result<(), Memory>
-    ensures { OnOk result (out.new.items ≡ out.old.items ++ (word.now ++ codes " ")) }
-{
-    put(out, word)?;
-    put(out, b" ")
 }
 
 /// Whether a name may stand without quotes when this byte is in it.

@@ -1,17 +1,13 @@
 //! The text of instructions that give values, and of calls.
-ghost use Rattle.std.specs.Prelude.{◌≡◌, ◌++◌, OnOk, codes, map, flat_map, Some};
-ghost use Rattle.lx_ir.specs.Text.{op_text, operator_word, predicate_word, conversion_word, into_text, choices_text, edge_text, value_text, place_text, callee_text, arguments_text, argument_text, comma_list};
+ghost use Rattle.std.specs.Prelude.{◌≡◌, ◌++◌, OnOk, codes, map, flat_map};
+ghost use Rattle.lx_ir.specs.Text.{op_text, operator_word, predicate_word, conversion_word, result_text, edge_text, place_text, callee_text, arguments_text, argument_text, comma_list};
 ghost use Rattle.lx_ir.specs.declared.instr.Op.TheVariants as form;
 
 use crate::instr::{Argument, Callee, Conversion, Edge};
 use crate::module::Value;
-use crate::text::constants::put_symbol;
-use crate::text::operands::{
-    Scope, put_argument, put_arguments, put_form, put_given_if, put_operand, put_pair,
-    put_register, put_value,
-};
-use crate::text::pieces::{put, put_local, put_separator, put_word};
-use crate::text::types::{put_result, put_scalar, put_type};
+use crate::text::line::{Piece, put_pieces};
+use crate::text::operands::{Scope, put_argument, put_arguments, put_given_if};
+use crate::text::pieces::{put, put_separator};
 use crate::types::{IrType, Scalar};
 use lx_words::{BinOp, Memory, Pred};
 
@@ -77,8 +73,18 @@ pub fn put_binary(
 ) -> Result<(), Memory>
     ensures { OnOk result (out.new.items ≡ out.old.items ++ op_text scope.entry.m.now scope.entry.f.now (form.Binary to op ty a b)) }
 {
-    put_form(out, scope, to, operator_word(op))?;
-    put_pair(out, scope, ty, a, b)
+    put_pieces(
+        out,
+        scope,
+        &[
+            Piece::Given(to),
+            Piece::Text(operator_word(op)),
+            Piece::Text(b" "),
+            Piece::Operand(ty, a),
+            Piece::Text(b", "),
+            Piece::Value(b),
+        ],
+    )
 }
 
 pub fn put_compare(
@@ -92,16 +98,19 @@ pub fn put_compare(
 ) -> Result<(), Memory>
     ensures { OnOk result (out.new.items ≡ out.old.items ++ op_text scope.entry.m.now scope.entry.f.now (form.Compare to pred ty a b)) }
 {
-    put_form(out, scope, to, b"icmp")?;
-    put_word(out, predicate_word(pred))?;
-    put_pair(out, scope, ty, a, b)
-}
-
-fn put_into(out: &mut Vec<u8>, into: Scalar) -> Result<(), Memory>
-    ensures { OnOk result (out.new.items ≡ out.old.items ++ into_text into) }
-{
-    put(out, b" to ")?;
-    put_scalar(out, into)
+    put_pieces(
+        out,
+        scope,
+        &[
+            Piece::Given(to),
+            Piece::Text(b"icmp "),
+            Piece::Text(predicate_word(pred)),
+            Piece::Text(b" "),
+            Piece::Operand(ty, a),
+            Piece::Text(b", "),
+            Piece::Value(b),
+        ],
+    )
 }
 
 pub fn put_convert(
@@ -115,9 +124,18 @@ pub fn put_convert(
 ) -> Result<(), Memory>
     ensures { OnOk result (out.new.items ≡ out.old.items ++ op_text scope.entry.m.now scope.entry.f.now (form.Convert to how from a into)) }
 {
-    put_form(out, scope, to, conversion_word(how))?;
-    put_operand(out, scope, from, a)?;
-    put_into(out, into)
+    put_pieces(
+        out,
+        scope,
+        &[
+            Piece::Given(to),
+            Piece::Text(conversion_word(how)),
+            Piece::Text(b" "),
+            Piece::Operand(from, a),
+            Piece::Text(b" to "),
+            Piece::Scalar(into),
+        ],
+    )
 }
 
 pub fn put_freeze(
@@ -129,23 +147,15 @@ pub fn put_freeze(
 ) -> Result<(), Memory>
     ensures { OnOk result (out.new.items ≡ out.old.items ++ op_text scope.entry.m.now scope.entry.f.now (form.Freeze to ty a)) }
 {
-    put_form(out, scope, to, b"freeze")?;
-    put_operand(out, scope, ty, a)
-}
-
-fn put_choices(
-    out: &mut Vec<u8>,
-    scope: Scope,
-    ty: Scalar,
-    a: Value,
-    b: Value,
-) -> Result<(), Memory>
-    ensures { OnOk result (out.new.items ≡ out.old.items ++ choices_text scope.entry.m.now scope.entry.f.now ty a b) }
-{
-    put(out, b", ")?;
-    put_operand(out, scope, ty, a)?;
-    put(out, b", ")?;
-    put_operand(out, scope, ty, b)
+    put_pieces(
+        out,
+        scope,
+        &[
+            Piece::Given(to),
+            Piece::Text(b"freeze "),
+            Piece::Operand(ty, a),
+        ],
+    )
 }
 
 pub fn put_select(
@@ -159,19 +169,35 @@ pub fn put_select(
 ) -> Result<(), Memory>
     ensures { OnOk result (out.new.items ≡ out.old.items ++ op_text scope.entry.m.now scope.entry.f.now (form.Select to condition ty a b)) }
 {
-    put_form(out, scope, to, b"select i1")?;
-    put_value(out, scope, condition)?;
-    put_choices(out, scope, ty, a, b)
+    put_pieces(
+        out,
+        scope,
+        &[
+            Piece::Given(to),
+            Piece::Text(b"select i1 "),
+            Piece::Value(condition),
+            Piece::Text(b", "),
+            Piece::Operand(ty, a),
+            Piece::Text(b", "),
+            Piece::Operand(ty, b),
+        ],
+    )
 }
 
 fn put_edge(out: &mut Vec<u8>, scope: Scope, edge: &Edge) -> Result<(), Memory>
     ensures { OnOk result (out.new.items ≡ out.old.items ++ edge_text scope.entry.m.now scope.entry.f.now edge.now) }
 {
-    put(out, b"[ ")?;
-    put_value(out, scope, edge.value)?;
-    put(out, b", ")?;
-    put_local(out, edge.label.as_slice())?;
-    put(out, b" ]")
+    put_pieces(
+        out,
+        scope,
+        &[
+            Piece::Text(b"[ "),
+            Piece::Value(edge.value),
+            Piece::Text(b", "),
+            Piece::Local(edge.label.as_slice()),
+            Piece::Text(b" ]"),
+        ],
+    )
 }
 
 fn put_edges(out: &mut Vec<u8>, scope: Scope, edges: &[Edge]) -> Result<(), Memory>
@@ -193,25 +219,27 @@ pub fn put_phi(
 ) -> Result<(), Memory>
     ensures { OnOk result (out.new.items ≡ out.old.items ++ op_text scope.entry.m.now scope.entry.f.now (form.Phi to ty edges.now)) }
 {
-    put_form(out, scope, to, b"phi")?;
-    put_scalar(out, ty)?;
-    put(out, b" ")?;
+    put_pieces(
+        out,
+        scope,
+        &[
+            Piece::Given(to),
+            Piece::Text(b"phi "),
+            Piece::Scalar(ty),
+            Piece::Text(b" "),
+        ],
+    )?;
     put_edges(out, scope, edges)
 }
 
 pub fn put_alloca(out: &mut Vec<u8>, scope: Scope, to: u32, ty: &IrType) -> Result<(), Memory>
     ensures { OnOk result (out.new.items ≡ out.old.items ++ op_text scope.entry.m.now scope.entry.f.now (form.Alloca to ty.now)) }
 {
-    put_form(out, scope, to, b"alloca")?;
-    put_type(out, scope.m, ty)
-}
-
-/// Appends the pointer operand of an instruction.
-fn put_pointer_operand(out: &mut Vec<u8>, scope: Scope, at: Value) -> Result<(), Memory>
-    ensures { OnOk result (out.new.items ≡ out.old.items ++ (codes ", ptr " ++ value_text scope.entry.m.now scope.entry.f.now at)) }
-{
-    put(out, b", ptr ")?;
-    put_value(out, scope, at)
+    put_pieces(
+        out,
+        scope,
+        &[Piece::Given(to), Piece::Text(b"alloca "), Piece::Type(ty)],
+    )
 }
 
 pub fn put_load(
@@ -223,9 +251,17 @@ pub fn put_load(
 ) -> Result<(), Memory>
     ensures { OnOk result (out.new.items ≡ out.old.items ++ op_text scope.entry.m.now scope.entry.f.now (form.Load to ty at)) }
 {
-    put_form(out, scope, to, b"load")?;
-    put_scalar(out, ty)?;
-    put_pointer_operand(out, scope, at)
+    put_pieces(
+        out,
+        scope,
+        &[
+            Piece::Given(to),
+            Piece::Text(b"load "),
+            Piece::Scalar(ty),
+            Piece::Text(b", ptr "),
+            Piece::Value(at),
+        ],
+    )
 }
 
 pub fn put_store(
@@ -237,9 +273,16 @@ pub fn put_store(
 ) -> Result<(), Memory>
     ensures { OnOk result (out.new.items ≡ out.old.items ++ op_text scope.entry.m.now scope.entry.f.now (form.Store ty value at)) }
 {
-    put(out, b"store ")?;
-    put_operand(out, scope, ty, value)?;
-    put_pointer_operand(out, scope, at)
+    put_pieces(
+        out,
+        scope,
+        &[
+            Piece::Text(b"store "),
+            Piece::Operand(ty, value),
+            Piece::Text(b", ptr "),
+            Piece::Value(at),
+        ],
+    )
 }
 
 fn put_indices(out: &mut Vec<u8>, scope: Scope, indices: &[Argument]) -> Result<(), Memory>
@@ -260,7 +303,7 @@ fn put_place(
 ) -> Result<(), Memory>
     ensures { OnOk result (out.new.items ≡ out.old.items ++ place_text scope.entry.m.now scope.entry.f.now base indices.now) }
 {
-    put_pointer_operand(out, scope, base)?;
+    put_pieces(out, scope, &[Piece::Text(b", ptr "), Piece::Value(base)])?;
     put_indices(out, scope, indices)
 }
 
@@ -274,29 +317,38 @@ pub fn put_element(
 ) -> Result<(), Memory>
     ensures { OnOk result (out.new.items ≡ out.old.items ++ op_text scope.entry.m.now scope.entry.f.now (form.GetElementPtr to ty.now base indices.now)) }
 {
-    put_form(out, scope, to, b"getelementptr")?;
-    put_type(out, scope.m, ty)?;
+    put_pieces(
+        out,
+        scope,
+        &[
+            Piece::Given(to),
+            Piece::Text(b"getelementptr "),
+            Piece::Type(ty),
+        ],
+    )?;
     put_place(out, scope, base, indices)
 }
 
-fn put_callee(out: &mut Vec<u8>, scope: Scope, callee: Callee) -> Result<(), Memory>
-    ensures { OnOk result (out.new.items ≡ out.old.items ++ callee_text scope.entry.m.now scope.entry.f.now callee) }
-{
-    match callee {
-        Callee::Symbol(symbol) => put_symbol(out, scope.m, symbol),
-        Callee::Register(register) => put_register(out, scope, register),
-    }
-}
-
+/// Appends a call behind the register that it gives.
 fn put_called(
     out: &mut Vec<u8>,
     scope: Scope,
+    ret: Option<Scalar>,
     callee: Callee,
     arguments: &[Argument],
 ) -> Result<(), Memory>
-    ensures { OnOk result (out.new.items ≡ out.old.items ++ (callee_text scope.entry.m.now scope.entry.f.now callee ++ arguments_text scope.entry.m.now scope.entry.f.now arguments.now)) }
+    ensures { OnOk result (out.new.items ≡ out.old.items ++ (codes "call " ++ result_text ret ++ codes " " ++ (callee_text scope.entry.m.now scope.entry.f.now callee ++ arguments_text scope.entry.m.now scope.entry.f.now arguments.now))) }
 {
-    put_callee(out, scope, callee)?;
+    put_pieces(
+        out,
+        scope,
+        &[
+            Piece::Text(b"call "),
+            Piece::Result(ret),
+            Piece::Text(b" "),
+            Piece::Callee(callee),
+        ],
+    )?;
     put_arguments(out, scope, arguments)
 }
 
@@ -311,8 +363,5 @@ pub fn put_call(
     ensures { OnOk result (out.new.items ≡ out.old.items ++ op_text scope.entry.m.now scope.entry.f.now (form.Call to ret callee arguments.now)) }
 {
     put_given_if(out, scope, to)?;
-    put(out, b"call ")?;
-    put_result(out, ret)?;
-    put(out, b" ")?;
-    put_called(out, scope, callee, arguments)
+    put_called(out, scope, ret, callee, arguments)
 }
