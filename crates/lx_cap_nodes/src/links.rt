@@ -1,7 +1,7 @@
 //! Lists that are linked by numbers.
-ghost use Rattle.std.specs.Prelude.{◌≡◌, ◌+◌, ◌<◌, ◌≤◌, ◌∷◌, [], ◌++◌, ℕ, false, true, IfOk, OnOk, OnErr, length, map, slice_set, slice_index_or};
-ghost use Rattle.lx_cap_nodes.specs.Links.{IsFamily, IsWithin, at_list, heads_passing, lists_of, with_next, with_previous, link_at};
-ghost use Rattle.lx_cap_nodes.specs.Names.{drop_name, first_of, has, is_listed, next_in};
+ghost use Rattle.std.specs.Prelude.{◌≡◌, ◌<◌, ◌∷◌, [], ◌++◌, false, true, IfOk, OnOk, OnErr, length, map, slice_set};
+ghost use Rattle.lx_cap_nodes.specs.Links.{IsFamily, IsWithin, at_list, heads_passing, lists_of, with_next, with_previous};
+ghost use Rattle.lx_cap_nodes.specs.Names.{drop_name, first_of, is_listed, next_in};
 
 use crate::Memory;
 

@@ -1,8 +1,7 @@
 //! The pool of nodes.
-ghost use Rattle.std.specs.Prelude.{◌≡◌, ◌+◌, ◌<◌, ◌≤◌, ◌∷◌, [], ◌++◌, ℕ, ◌&&◌, ◌||◌, not, nat_eq, true, false, Some, length, map, slice_set, OnOk, OnErr, IfOk, IfSome, vec_capacity, vec_len};
+ghost use Rattle.std.specs.Prelude.{◌≡◌, ◌+◌, ◌<◌, ◌≤◌, ◌∷◌, [], ◌++◌, ℕ, ◌&&◌, ◌||◌, not, nat_eq, true, false, Some, length, map, slice_set, OnOk, OnErr, IfOk, IfSome, vec_capacity};
 ghost use Rattle.std.specs.Borrow.{Lends, sem};
 ghost use Rattle.lx_cap_nodes.specs.Names.{first_of, next_in};
-ghost use Rattle.lx_cap_nodes.specs.Links.{lists_of};
 ghost use Rattle.lx_cap_nodes.specs.Slots.{is_used, slot_at};
 ghost use Rattle.lx_cap_nodes.specs.Words.{IsInUse, PoolLaws, is_live, lists_in, names, nodes_at, nodes_of, value_in, with_list, without};
 
