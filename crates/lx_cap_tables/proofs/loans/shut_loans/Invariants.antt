@@ -1,0 +1,20 @@
+use Rattle.std.proofs.Common.{◌≡◌, ◌≤◌, ℕ, Bool, [], List, max, length}
+use Rattle.lx_cap_nodes.specs.declared.pool.ListName.{ListName}
+use Rattle.lx_cap_nodes.specs.Words.{nodes_at}
+use Rattle.lx_cap_tables.specs.declared.entry.Entry.{Entry}
+use Rattle.lx_cap_tables.specs.Kept.{AllNodes, AreAll, AreEnded, StayBut}
+use Rattle.lx_cap_tables.specs.Tables.{Key, is_in_order}
+use Rattle.lx_cap_tables.proofs.loans.shut_loans.Given as goal
+
+abbrev pub invariant-loop-older : goal.invariant-loop-older
+invariant-loop-older g l = record {
+  low : l.ended.first ≤ l.older;
+  high : l.older ≤ max l.ended.first l.ended.end;
+  gone : (atoms : List Key) (loans : List ℕ) → AreAll (is_in_order l.owners.keys atoms loans) l.fn.pool → AreEnded l.ended.thread l.ended.first l.older l.pool;
+  stays : (atoms : List Key) (loans : List ℕ) → AreAll (is_in_order l.owners.keys atoms loans) l.fn.pool → StayBut l.ended.thread l.ended.first l.older l.fn.pool.places l.pool.places;
+  empty : (k : ℕ) → nodes_at l.fn.pool.places k ≡ [] → nodes_at l.pool.places k ≡ [];
+  counts : (length l.pool.places ≡ length l.fn.pool.places) × (length l.pool.owners ≡ length l.fn.pool.owners);
+  spare : l.fn.pool.spare ≤ l.pool.spare;
+  nodes : AllNodes l.fn.pool.places → AllNodes l.pool.places;
+  kept : (p : ListName → Entry → Bool) → AreAll p l.fn.pool → AreAll p l.pool;
+}

@@ -1,0 +1,27 @@
+-- What the lists of owners and of loans say of atoms.
+use Rattle.std.specs.Prelude.{◌≡◌, ℕ, Bool, true, false, List, Option, Some, None}
+use Rattle.lx_caps.specs.declared.Principal.{Principal}
+use Rattle.lx_caps.specs.declared.Atom.{Atom}
+use Rattle.lx_cap_nodes.specs.Words.{nodes_at}
+use Rattle.lx_cap_tables.specs.declared.entry.Entry.{Entry}
+use Rattle.lx_cap_tables.specs.Atoms.{atom_among, spot_fits}
+use Rattle.lx_cap_tables.specs.Kept.{all_nodes}
+use Rattle.lx_cap_tables.specs.Lists.{some_below}
+use Rattle.lx_cap_tables.specs.Tables.{Key, loan_key, place_in}
+
+-- the list, if there is one, gives the principal the atom
+abbrev pub given_in : List (List (ℕ × Entry)) → Principal → Atom → Option ℕ → Bool
+given_in lists who x None = false
+given_in lists who x (Some o) = atom_among who (nodes_at lists o) x
+
+-- the list with this key does
+abbrev pub listed_atom : List (List (ℕ × Entry)) → List Key → Principal → Atom → Key → Bool
+listed_atom lists owners who x key = given_in lists who x (place_in owners key)
+
+-- one of so many loans of the thread does
+abbrev pub lent_atom : List (List (ℕ × Entry)) → List Key → Principal → Atom → ℕ → ℕ → Bool
+lent_atom lists owners who x t count = some_below count (λ d. listed_atom lists owners who x (loan_key t d))
+
+-- the parts of each list have addresses
+unfoldable pub AllFit : List (List (ℕ × Entry)) → Type 0
+AllFit lists = (o : ℕ) → all_nodes (λ e. spot_fits e.spot) (nodes_at lists o) ≡ true
