@@ -1,5 +1,7 @@
-//! Tests of nodes in two linked lists at once.
+//! Tests of nodes in two linked lists at once, and of page tables of capabilities.
 #![tactic(auto)]
 
 #[cfg(test)]
 mod nodes;
+#[cfg(test)]
+mod tables;
