@@ -1,6 +1,7 @@
 -- The nodes of a place are no more than those who have something there.
-use Rattle.std.proofs.Common.{◌≡◌, ℕ, zero, suc, ◌+◌, ◌-◌, ◌*◌, ◌/◌, ◌≤◌, Bool, true, false, not, ◌&&◌, ◌||◌, nat_eq, nat_le, cond, List, [], ◌∷◌, ◌++◌, length, Some, None, refl, sym, ap, ◌∙◌, subst, arith, append_assoc}
+use Rattle.std.proofs.Common.{◌≡◌, ◌≢◌, ℕ, zero, suc, ◌+◌, ◌-◌, ◌*◌, ◌/◌, ◌%◌, ◌<◌, ◌≤◌, Bool, true, false, not, ◌&&◌, ◌||◌, nat_eq, nat_le, cond, List, [], ◌∷◌, ◌++◌, length, map, Option, Some, None, refl, sym, ap, ◌∙◌, subst, arith, append_assoc}
 use Rattle.std.proofs.lemmas.Bool.Decides.{nat_tests}
+use Rattle.std.proofs.lemmas.List.{length-map}
 use Rattle.lx_caps.specs.declared.Cap.{Cap}
 use Rattle.lx_caps.specs.declared.Cap.TheVariants as cap
 use Rattle.lx_caps.specs.declared.Atom.{Atom}
@@ -13,13 +14,15 @@ use Rattle.lx_cap_tables.specs.declared.entry.Entry.{Entry}
 use Rattle.lx_cap_tables.specs.declared.holder.Holder.{Holder}
 use Rattle.lx_cap_tables.specs.declared.holder.Holder.TheVariants.{Keeper, Borrower}
 use Rattle.lx_cap_tables.specs.Bits.{is_set}
-use Rattle.lx_cap_tables.specs.Entries.{is_holder, bit_among}
+use Rattle.lx_cap_tables.specs.Entries.{is_holder, gives_bit, bit_among}
 use Rattle.lx_cap_tables.specs.Holders.{had, left_by, open_count, same_holder}
-use Rattle.lx_cap_tables.specs.Kept.{AreNodes, AllNodes}
+use Rattle.lx_cap_tables.specs.Kept.{width_of, AreNodes, AllNodes}
+use Rattle.lx_cap_tables.specs.Lists.{some_below}
 use Rattle.lx_cap_tables.specs.Tables.{Key, Shows, shown_at, part_list, behind_parts, place_in, place_of, bit_of, call_key, ref_key, count_in, work_in, cap_work}
-use Rattle.lx_cap_tables.specs.Work.{is_among, and_one, holders, count_of, has_now, has_in_part, parts_and_pairs, strip_bound}
+use Rattle.lx_cap_tables.specs.Work.{is_among, and_one, count_of, holders, has_now, has_in_part, parts_and_pairs, strip_bound}
 use Rattle.lx_cap_tables.proofs.AtomLemmas.{behind_far}
 use Rattle.lx_cap_tables.proofs.Below.{some_from}
+use Rattle.lx_cap_tables.proofs.Few.{added, added_self, few, ArePassing}
 use Rattle.lx_cap_tables.proofs.BitLemmas.{same_is}
 use Rattle.lx_cap_tables.proofs.HeldLemmas.{and_yes, and_join, byte_of}
 use Rattle.lx_cap_tables.proofs.NodeLemmas.{width_part, width_behind}
@@ -42,20 +45,12 @@ or_none : (a b : Bool) → (a || b) ≡ false → (a ≡ false) × (b ≡ false)
 or_none false b e = (refl, e)
 or_none true b e = absurd (cc)
 
--- who has something was granted or lent something
-added : (q p : Holder) (others : List Holder) → is_among q others ≡ true → is_among q (and_one p others) ≡ true
-added q p others h = elim (is_among p others) as (λ t. is_among q (cond t others (p ∷ others)) ≡ true) [ true ↦ h | false ↦ or_yes (same_holder q p) (is_among q others) h ]
-
-added_self : (p : Holder) (others : List Holder) → is_among p (and_one p others) ≡ true
-added_self p others =
-    (elim (is_among p others) as (λ t. is_among p others ≡ t → is_among p (cond t others (p ∷ others)) ≡ true) [ true ↦ λ e. e | false ↦ λ e. or_first (same_holder p p) (is_among p others) (same_self p) ]) refl
-
 -- one is added, or the others have it
-one_more : (q p : Holder) (others : List Holder) (x rest : Bool) → ((same_holder q p && x) || rest) ≡ true → (rest ≡ true → is_among q others ≡ true) → is_among q (and_one p others) ≡ true
+one_more : (q p : Holder) (others : List Holder) (x rest : Bool) → ((same_holder q p && x) || rest) ≡ true → (rest ≡ true → is_among same_holder q others ≡ true) → is_among same_holder q (and_one same_holder p others) ≡ true
 one_more q p others x rest is more =
-    (elim (same_holder q p) as (λ t. same_holder q p ≡ t → ((t && x) || rest) ≡ true → is_among q (and_one p others) ≡ true) [
-      | true ↦ λ e f. subst (λ r. is_among r (and_one p others) ≡ true) (sym (same_is q p e)) (added_self p others)
-      | false ↦ λ e f. added q p others (more f)
+    (elim (same_holder q p) as (λ t. same_holder q p ≡ t → ((t && x) || rest) ≡ true → is_among same_holder q (and_one same_holder p others) ≡ true) [
+      | true ↦ λ e f. subst (λ r. is_among same_holder r (and_one same_holder p others) ≡ true) (sym (same_is q p e)) (added_self same_holder same_is same_self p others)
+      | false ↦ λ e f. added same_holder same_is same_self q p others (more f)
     ]) refl is
 
 left_has : (t older : ℕ) (among : Holder → Bool) (s : Holder) → left_by t older among s ≡ true → among s ≡ true
@@ -96,7 +91,7 @@ had_more a b (ShutAll t ∷ h) x more is = had_more (left_by t 0 a) (left_by t 0
         let both = and_yes (not (nat_eq t u && nat_le 0 d)) (a (Borrower u d q)) e in
         and_join (not (nat_eq t u && nat_le 0 d)) (b (Borrower u d q)) both.0 (more (Borrower u d q) both.1)
 
-holder_known : (h : History) (q : Holder) (x : Atom) → had (same_holder q) h x ≡ true → is_among q (holders h) ≡ true
+holder_known : (h : History) (q : Holder) (x : Atom) → had (same_holder q) h x ≡ true → is_among same_holder q (holders h) ≡ true
 holder_known [] q x is = absurd (cc)
 holder_known (Grant p c ∷ h) q x is = one_more q (Keeper p) (holders h) (has c x) (had (same_holder q) h x) is (holder_known h q x)
 holder_known (Strip c ∷ h) q x is = holder_known h q x (and_yes (not (has c x)) (had (same_holder q) h x) is).1
@@ -110,79 +105,31 @@ holder_known (Lend t p c ∷ h) q x is = one_more q (Borrower t (open_count h t 
 holder_known (Shut t n ∷ h) q x is = holder_known h q x (had_more (left_by t (open_count h t - n) (same_holder q)) (same_holder q) h x (left_has t (open_count h t - n) (same_holder q)) is)
 holder_known (ShutAll t ∷ h) q x is = holder_known h q x (had_more (left_by t 0 (same_holder q)) (same_holder q) h x (left_has t 0 (same_holder q)) is)
 
--- holders but one
-drop_one : Holder → List Holder → List Holder
-drop_one q [] = []
-drop_one q (r ∷ rs) = cond (same_holder q r) (drop_one q rs) (r ∷ drop_one q rs)
+-- the holders of nodes
+abbrev pub holder_of : ℕ × Entry → Holder
+holder_of e = e.1.holder
 
-count_drop_le : (p : Holder → Bool) (q : Holder) (rs : List Holder) → count_of p (drop_one q rs) ≤ count_of p rs
-unfolding drop_one
-count_drop_le p q [] = omega arith
-count_drop_le p q (r ∷ rs) =
-    let rest = count_drop_le p q rs in
-    elim (same_holder q r) as (λ t. count_of p (cond t (drop_one q rs) (r ∷ drop_one q rs)) ≤ cond (p r) (suc (count_of p rs)) (count_of p rs)) [
-      | true ↦ elim (p r) as (λ t. count_of p (drop_one q rs) ≤ cond t (suc (count_of p rs)) (count_of p rs)) [ true ↦ omega (arith, rest) | false ↦ rest ]
-      | false ↦ elim (p r) as (λ t. cond t (suc (count_of p (drop_one q rs))) (count_of p (drop_one q rs)) ≤ cond t (suc (count_of p rs)) (count_of p rs)) [ true ↦ omega (arith, rest) | false ↦ rest ]
-    ]
+pub among_holders : (q : Holder) (es : List (ℕ × Entry)) → is_among same_holder q (map holder_of es) ≡ is_holder q es
+among_holders q [] = refl
+among_holders q (e ∷ es) = ap (λ b. same_holder q e.1.holder || b) (among_holders q es)
 
-count_drop : (p : Holder → Bool) (q : Holder) (rs : List Holder) → is_among q rs ≡ true → p q ≡ true → suc (count_of p (drop_one q rs)) ≤ count_of p rs
-unfolding drop_one
-count_drop p q [] h pass = absurd (cc)
-count_drop p q (r ∷ rs) h pass =
-    (elim (same_holder q r) as (λ t. same_holder q r ≡ t → suc (count_of p (cond t (drop_one q rs) (r ∷ drop_one q rs))) ≤ cond (p r) (suc (count_of p rs)) (count_of p rs)) [
-      | true ↦ λ e.
-          let here : p r ≡ true = ap p (sym (same_is q r e)) ∙ pass in
-          let rest = count_drop_le p q rs in
-          subst (λ t. suc (count_of p (drop_one q rs)) ≤ cond t (suc (count_of p rs)) (count_of p rs)) (sym here) (omega (arith, rest))
-      | false ↦ λ e.
-          let rest = count_drop p q rs (or_cases (same_holder q r) (is_among q rs) h e) pass in
-          elim (p r) as (λ t. suc (cond t (suc (count_of p (drop_one q rs))) (count_of p (drop_one q rs))) ≤ cond t (suc (count_of p rs)) (count_of p rs)) [ true ↦ omega (arith, rest) | false ↦ rest ]
-    ]) refl
-
-among_drop : (q r : Holder) (rs : List Holder) → is_among r rs ≡ true → same_holder q r ≡ false → is_among r (drop_one q rs) ≡ true
-unfolding drop_one
-among_drop q r [] h ne = absurd (cc)
-among_drop q r (s ∷ rs) h ne =
-    (elim (same_holder r s) as (λ t. same_holder r s ≡ t → (t || is_among r rs) ≡ true → is_among r (cond (same_holder q s) (drop_one q rs) (s ∷ drop_one q rs)) ≡ true) [
-      | true ↦ λ e f.
-          let other : same_holder q s ≡ false = ap (same_holder q) (sym (same_is r s e)) ∙ ne in
-          ap (λ t. is_among r (cond t (drop_one q rs) (s ∷ drop_one q rs))) other ∙ or_first (same_holder r s) (is_among r (drop_one q rs)) e
-      | false ↦ λ e f.
-          let rest = among_drop q r rs f ne in
-          elim (same_holder q s) as (λ t. is_among r (cond t (drop_one q rs) (s ∷ drop_one q rs)) ≡ true) [ true ↦ rest | false ↦ or_yes (same_holder r s) (is_among r (drop_one q rs)) rest ]
-    ]) refl h
-
--- each owner passes and is among these
-OwnersPass : (Holder → Bool) → List Holder → List (ℕ × Entry) → Type 0
-OwnersPass p rs [] = Unit {0}
-OwnersPass p rs (e ∷ es) = (p e.1.holder ≡ true) × (is_among e.1.holder rs ≡ true) × OwnersPass p rs es
-
-pass_drop : (p : Holder → Bool) (q : Holder) (rs : List Holder) (es : List (ℕ × Entry)) → is_holder q es ≡ false → OwnersPass p rs es → OwnersPass p (drop_one q rs) es
-unfolding OwnersPass
-pass_drop p q rs [] out all = tt
-pass_drop p q rs (e ∷ es) out all =
-    let ne = or_none (same_holder q e.1.holder) (is_holder q es) out in
-    (all.0, among_drop q e.1.holder rs all.1 ne.0, pass_drop p q rs es ne.1 all.2)
-
-few_nodes : (w : ℕ) (p : Holder → Bool) (rs : List Holder) (es : List (ℕ × Entry)) → AreNodes w es → OwnersPass p rs es → length es ≤ count_of p rs
-unfolding OwnersPass
-few_nodes w p rs [] nodes all = omega arith
-few_nodes w p rs (e ∷ es) nodes all =
-    let rest = few_nodes w p (drop_one e.1.holder rs) es nodes.2 (pass_drop p e.1.holder rs es nodes.0 all.2) in
-    let less = count_drop p e.1.holder rs all.1 all.0 in
-    omega (arith, rest, less)
+abbrev AreKnown : (Holder → Bool) → List Holder → List Holder → Type 0
+AreKnown p rs hs = ArePassing same_holder same_is same_self p rs hs
 
 module _ (places : List (List (ℕ × Entry))) (atoms : List Key) (h : History) (shows : Shows places atoms h) where
+  count_holders : (p : Holder → Bool) (es : List (ℕ × Entry)) → AreKnown p (holders h) (map holder_of es) → length es ≤ count_of p (holders h)
+  count_holders p es all = let n = length-map es holder_of in let f = few same_holder same_is same_self p (holders h) (map holder_of es) all in omega (arith, n, f)
+
   -- a node's holder has the atom of a bit
-  has_bit : (x : Atom) (l : ℕ) → place_of atoms x ≡ Some l → (front : List (ℕ × Entry)) (e : ℕ × Entry) (es : List (ℕ × Entry)) → nodes_at places l ≡ front ++ e ∷ es → is_set e.1.mask (bit_of x) ≡ true → has_now h x e.1.holder ≡ true
+  pub has_bit : (x : Atom) (l : ℕ) → place_of atoms x ≡ Some l → (front : List (ℕ × Entry)) (e : ℕ × Entry) (es : List (ℕ × Entry)) → nodes_at places l ≡ front ++ e ∷ es → is_set e.1.mask (bit_of x) ≡ true → has_now h x e.1.holder ≡ true
   has_bit x l at front e es is set =
       let q = e.1.holder in
       shows (same_holder q) x
       ∙ (ap (λ o. shown_at places o (same_holder q) (bit_of x)) at
       ∙ (ap (λ r. bit_among (same_holder q) r (bit_of x)) is ∙ bit_there (same_holder q) front e.0 e.1 es (bit_of x) (and_join (same_holder q q) (is_set e.1.mask (bit_of x)) (same_self q) set)))
 
-  part_pass : (part l : ℕ) → part_list part ≡ Some l → (front es : List (ℕ × Entry)) → nodes_at places l ≡ front ++ es → AreNodes 64 es → OwnersPass (has_in_part h part) (holders h) es
-  unfolding OwnersPass
+  part_pass : (part l : ℕ) → part_list part ≡ Some l → (front es : List (ℕ × Entry)) → nodes_at places l ≡ front ++ es → AreNodes 64 es → AreKnown (has_in_part h part) (holders h) (map holder_of es)
+  unfolding ArePassing
   part_pass part l at front [] is nodes = tt
   part_pass part l at front (e ∷ es) is nodes =
       let k = nodes.1.bit in
@@ -191,6 +138,7 @@ module _ (places : List (List (ℕ × Entry))) (atoms : List Key) (h : History) 
       has_bit (atom.Byte (part * 64 + k)) l (ap part_list of.0 ∙ at) front e es is (ap (is_set e.1.mask) of.1 ∙ nodes.1.set) in (
         some_from 64 k (λ j. has_now h (atom.Byte (part * 64 + j)) e.1.holder) nodes.1.within has_it,
         holder_known h e.1.holder (atom.Byte (part * 64 + k)) has_it,
+        among_holders e.1.holder es ∙ nodes.0,
         part_pass part l at (front ++ e ∷ []) es (is ∙ sym (append_assoc front (e ∷ []) es)) nodes.2,
       )
 
@@ -201,7 +149,7 @@ module _ (places : List (List (ℕ × Entry))) (atoms : List Key) (h : History) 
         | None ↦ λ e. omega arith
         | Some l ↦ λ e.
             let nodes : AreNodes 64 (nodes_at places l) = subst (λ w. AreNodes w (nodes_at places l)) (width_part l (list_below part l e)) (all l) in
-            few_nodes 64 (has_in_part h part) (holders h) (nodes_at places l) nodes (part_pass part l e [] (nodes_at places l) refl nodes)
+            count_holders (has_in_part h part) (nodes_at places l) (part_pass part l e [] (nodes_at places l) refl nodes)
       ]) refl
 
   work_bound : AllNodes places → (part n : ℕ) → work_in places part n ≤ parts_and_pairs h part n
@@ -209,14 +157,14 @@ module _ (places : List (List (ℕ × Entry))) (atoms : List Key) (h : History) 
   work_bound all part (suc n) = let a = count_part all part in let b = work_bound all (part + 1) n in omega (arith, a, b)
 
   -- calls and references have one bit
-  atom_pass : (x : Atom) (l : ℕ) → place_of atoms x ≡ Some l → bit_of x ≡ 0 → (front es : List (ℕ × Entry)) → nodes_at places l ≡ front ++ es → AreNodes 1 es → OwnersPass (has_now h x) (holders h) es
-  unfolding OwnersPass
+  atom_pass : (x : Atom) (l : ℕ) → place_of atoms x ≡ Some l → bit_of x ≡ 0 → (front es : List (ℕ × Entry)) → nodes_at places l ≡ front ++ es → AreNodes 1 es → AreKnown (has_now h x) (holders h) (map holder_of es)
+  unfolding ArePassing
   atom_pass x l at zero_bit front [] is nodes = tt
   atom_pass x l at zero_bit front (e ∷ es) is nodes =
       let within = nodes.1.within in
       let first : nodes.1.bit ≡ bit_of x = omega (arith, within, zero_bit) in
       let has_it : has_now h x e.1.holder ≡ true = has_bit x l at front e es is (ap (is_set e.1.mask) (sym first) ∙ nodes.1.set) in
-      (has_it, holder_known h e.1.holder x has_it, atom_pass x l at zero_bit (front ++ e ∷ []) es (is ∙ sym (append_assoc front (e ∷ []) es)) nodes.2)
+      (has_it, holder_known h e.1.holder x has_it, among_holders e.1.holder es ∙ nodes.0, atom_pass x l at zero_bit (front ++ e ∷ []) es (is ∙ sym (append_assoc front (e ∷ []) es)) nodes.2)
 
   count_atom : AllNodes places → (x : Atom) (k : Key) → place_of atoms x ≡ behind_parts (place_in atoms k) → bit_of x ≡ 0 → count_in places (behind_parts (place_in atoms k)) ≤ count_of (has_now h x) (holders h)
   unfolding AllNodes
@@ -225,7 +173,7 @@ module _ (places : List (List (ℕ × Entry))) (atoms : List Key) (h : History) 
         | None ↦ λ e. omega arith
         | Some l ↦ λ e.
             let nodes : AreNodes 1 (nodes_at places l) = subst (λ w. AreNodes w (nodes_at places l)) (width_behind l (behind_far (place_in atoms k) l e)) (all l) in
-            few_nodes 1 (has_now h x) (holders h) (nodes_at places l) nodes (atom_pass x l (same ∙ e) zero_bit [] (nodes_at places l) refl nodes)
+            count_holders (has_now h x) (nodes_at places l) (atom_pass x l (same ∙ e) zero_bit [] (nodes_at places l) refl nodes)
       ]) refl
 
   pub work_within : AllNodes places → (c : Cap) → cap_work places atoms c ≤ strip_bound h c

@@ -1,5 +1,5 @@
 -- Loans that end: their nodes go, and what others have stays.
-use Rattle.std.proofs.Common.{◌≡◌, ◌≢◌, ℕ, ◌+◌, ◌<◌, ◌≤◌, Bool, true, false, not, ◌&&◌, ◌||◌, nat_eq, nat_lt, nat_le, cond, List, [], ◌∷◌, ◌++◌, length, map, set, Option, Some, None, refl, sym, ap, ◌∙◌, subst, arith}
+use Rattle.std.proofs.Common.{◌≡◌, ◌≢◌, ℕ, suc, ◌+◌, ◌-◌, ◌<◌, ◌≤◌, Bool, true, false, not, ◌&&◌, ◌||◌, nat_eq, nat_lt, nat_le, cond, List, [], ◌∷◌, ◌++◌, length, map, set, Option, Some, None, refl, sym, ap, ◌∙◌, subst, arith}
 use Rattle.std.proofs.lemmas.Bool.Decides.{nat_tests}
 use Rattle.std.specs.Prelude.{slice_index_or}
 use Rattle.std.proofs.lemmas.List.{get_or_default, get_or-set_same, get_or-set_other}
@@ -18,7 +18,7 @@ use Rattle.lx_cap_tables.specs.Entries.{gives_bit, bit_among}
 use Rattle.lx_cap_tables.specs.Holders.{left_by}
 use Rattle.lx_cap_tables.specs.Kept.{all_nodes, AreAll, AreEnded, StayBut}
 use Rattle.lx_cap_tables.specs.Loans.{loans_of, is_open, is_on}
-use Rattle.lx_cap_tables.specs.Tables.{Key, loan_key, holder_key, place_in, place_of_spot, is_place, is_in_order, shown_at}
+use Rattle.lx_cap_tables.specs.Tables.{Key, loan_key, holder_key, place_in, place_of_spot, is_place, is_in_order, shown_at, count_in, loans_work}
 use Rattle.lx_cap_tables.proofs.WalkLemmas.{same_from_eq}
 use Rattle.lx_cap_tables.proofs.HeldLemmas.{and_yes, and_join}
 use Rattle.lx_cap_tables.proofs.KeyLemmas.{one_key}
@@ -79,7 +79,7 @@ not_false true e = absurd (cc)
 not_false false e = refl
 
 -- who has something in the list of a loan
-on_loan : (s : Holder) (t d : ℕ) → t < 16 → holder_key s ≡ loan_key t d → is_on t d (d + 1) s ≡ true
+pub on_loan : (s : Holder) (t d : ℕ) → t < 16 → holder_key s ≡ loan_key t d → is_on t d (d + 1) s ≡ true
 on_loan (Keeper q) t d low same = absurd (let h = ap (λ k. k.0) same in omega (arith, low, h))
 on_loan (Borrower u e q) t d low same =
     let a = ap (λ k. k.0) same in
@@ -344,3 +344,19 @@ order_opened owners atoms loans t n pool h le order (name.Owner l) =
 pub deep_set : (loans : List ℕ) (t n deepest : ℕ) → t < length loans → ((u : ℕ) → loans_of loans u ≤ deepest) → n ≤ deepest → (u : ℕ) → loans_of (set loans t n) u ≤ deepest
 deep_set loans t n deepest h deep le u =
     subst (λ k. k ≤ deepest) (sym (loans_set loans t n u h)) (elim (nat_eq t u) as (λ b. cond b n (loans_of loans u) ≤ deepest) [ true ↦ le | false ↦ deep u ])
+
+-- the work of one loan more
+pub one_loan_more : (lists : List (List (ℕ × Entry))) (owners : List Key) (t older end : ℕ) → older < end
+    → loans_work lists owners t older (end - older) ≡ 1 + count_in lists (place_in owners (loan_key t older)) + loans_work lists owners t (older + 1) (end - (older + 1))
+one_loan_more lists owners t older end lt = ap (loans_work lists owners t older) (let e : end - older ≡ suc (end - (older + 1)) = omega arith in e)
+
+pub no_loan_more : (lists : List (List (ℕ × Entry))) (owners : List Key) (t older end : ℕ) → end ≤ older → loans_work lists owners t older (end - older) ≡ 0
+no_loan_more lists owners t older end le = ap (loans_work lists owners t older) (let e : end - older ≡ 0 = omega arith in e)
+
+pub same_loan : (first now : List (List (ℕ × Entry))) (o : Option ℕ) → ((k : ℕ) → o ≡ Some k → nodes_at now k ≡ nodes_at first k) → count_in now o ≡ count_in first o
+same_loan first now None h = refl
+same_loan first now (Some k) h = ap length (h k refl)
+
+-- two loans have two lists
+pub other_loan : (owners : List Key) (t older d k : ℕ) → place_in owners (loan_key t older) ≡ Some k → place_in owners (loan_key t d) ≡ Some k → older < d → ⊥
+other_loan owners t older d k a b lt = let same = ap (λ (x : Key). x.1) (one_key 0 owners (loan_key t older) (loan_key t d) k a b) in omega (arith, same, lt)

@@ -9,10 +9,10 @@ use Rattle.lx_caps.specs.declared.Act.TheVariants.{Grant, Strip, Zero, Loan, Len
 use Rattle.lx_caps.specs.Loans.{Ends, Newest, Every, Endings, none_end, with_ends, opened_by, before_loan, and_more, before_shut, before_shut_all, goes_on, lends}
 use Rattle.lx_caps.specs.LoanLaws.{open_loans}
 use Rattle.lx_caps.specs.Owners.{leaves}
-use Rattle.lx_caps.specs.History.{History, has, kept_among, owned_among}
+use Rattle.lx_caps.specs.History.{History, has, kept_among, owned_among, same_principal}
 use Rattle.lx_cap_tables.specs.declared.holder.Holder.{Holder}
 use Rattle.lx_cap_tables.specs.declared.holder.Holder.TheVariants.{Keeper, Borrower}
-use Rattle.lx_cap_tables.specs.Holders.{by_all, by_keepers, open_count, left_by, had}
+use Rattle.lx_cap_tables.specs.Holders.{by_all, by_keepers, open_count, left_by, had, same_holder}
 
 same_ℕ : (m n : ℕ) → nat_eq m n ≡ true → m ≡ n
 same_ℕ m n e = grind (arith, nat_tests, e)
@@ -301,3 +301,8 @@ kept_is among (ShutAll t ∷ h) x = kept_is among h x ∙ had_within (by_keepers
     by : (s : Holder) → is_within h s ≡ true → by_keepers among s ≡ left_by t 0 (by_keepers among) s
     by (Keeper q) w = refl
     by (Borrower u d q) w = sym (and_no (not (nat_eq t u && nat_le 0 d)))
+
+-- who keeps something is its keeper
+pub keeper_is : (q : Principal) (s : Holder) → same_holder (Keeper q) s ≡ by_keepers (same_principal q) s
+keeper_is q (Keeper p) = refl
+keeper_is q (Borrower t d p) = refl

@@ -9,10 +9,13 @@ mod HadLemmas
 mod PartLemmas
 mod AtomLemmas
 mod HeldLemmas
+mod NearLemmas
 mod EntryLemmas
 mod KeptLemmas
 mod TieLemmas
 mod NodeLemmas
+mod Few
 mod BoundLemmas
 mod SoundLemmas
 mod EndLemmas
+mod ShutLemmas

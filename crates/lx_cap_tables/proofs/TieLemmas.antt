@@ -186,13 +186,13 @@ and_or true b c = refl
 and_or false b c = refl
 
 module _ (pool : Pool Entry) (laws : PoolLaws pool) (owners atoms : List Key) (loans : List ℕ) (order : AreAll (is_in_order owners atoms loans) pool) where
-  in_place : (l n : ℕ) (e : Entry) (xs ys : List (ℕ × Entry)) → nodes_at pool.places l ≡ xs ++ (n, e) ∷ ys → place_of_spot atoms e.spot ≡ Some l
+  pub in_place : (l n : ℕ) (e : Entry) (xs ys : List (ℕ × Entry)) → nodes_at pool.places l ≡ xs ++ (n, e) ∷ ys → place_of_spot atoms e.spot ≡ Some l
   unfolding AreAll
   in_place l n e xs ys is =
       is_there (place_of_spot atoms e.spot) l (and_yes (is_open loans e.holder) (is_place (place_of_spot atoms e.spot) l)
       (all_there (is_in_order owners atoms loans (name.Place l)) xs n e ys (ap (all_nodes (is_in_order owners atoms loans (name.Place l))) (sym is) ∙ order (name.Place l)))).1
 
-  in_owner : (l n : ℕ) (e : Entry) (xs ys : List (ℕ × Entry)) → nodes_at pool.owners l ≡ xs ++ (n, e) ∷ ys → (is_open loans e.holder ≡ true) × (place_in owners (holder_key e.holder) ≡ Some l)
+  pub in_owner : (l n : ℕ) (e : Entry) (xs ys : List (ℕ × Entry)) → nodes_at pool.owners l ≡ xs ++ (n, e) ∷ ys → (is_open loans e.holder ≡ true) × (place_in owners (holder_key e.holder) ≡ Some l)
   unfolding AreAll
   in_owner l n e xs ys is =
       let both = and_yes (is_open loans e.holder) (is_place (place_in owners (holder_key e.holder)) l)

@@ -9,7 +9,7 @@ use Rattle.lx_caps.specs.History.{History, has, reaches, same_principal}
 use Rattle.lx_cap_tables.specs.declared.holder.Holder.{Holder}
 use Rattle.lx_cap_tables.specs.declared.holder.Holder.TheVariants.{Keeper, Borrower}
 use Rattle.lx_cap_tables.specs.declared.holder.InReach.{InReach}
-use Rattle.lx_cap_tables.specs.declared.holder.InReach.TheVariants.{Owned, Kept}
+use Rattle.lx_cap_tables.specs.declared.holder.InReach.TheVariants.{Owned, Kept, Own}
 
 abbrev pub principal_of : Holder → Principal
 principal_of (Keeper q) = q
@@ -33,10 +33,11 @@ abbrev pub by_keepers : (Principal → Bool) → Holder → Bool
 by_keepers among (Keeper q) = among q
 by_keepers among (Borrower t d q) = false
 
--- what the holder has is in the principal's reach, and kept there where that is asked
+-- what the holder has is in the principal's reach, and kept there where that is asked; or it is the principal's own
 abbrev pub counts : InReach → Holder → Bool
 counts (Owned who) s = by_all (reaches who) s
 counts (Kept who) s = by_keepers (reaches who) s
+counts (Own who) s = held_by who s
 
 -- how many loans of the thread have not ended
 abbrev pub open_count : History → ℕ → ℕ

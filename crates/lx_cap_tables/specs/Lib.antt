@@ -11,3 +11,4 @@ pub mod Kept
 pub mod Atoms
 pub mod Owned
 pub mod Work
+pub mod Laws

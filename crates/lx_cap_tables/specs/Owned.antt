@@ -1,13 +1,15 @@
 -- What the lists of owners and of loans say of atoms.
-use Rattle.std.specs.Prelude.{◌≡◌, ℕ, Bool, true, false, List, Option, Some, None}
+use Rattle.std.specs.Prelude.{◌≡◌, ℕ, ◌/◌, ◌%◌, Bool, true, false, ◌&&◌, nat_eq, nat_le, List, Option, Some, None}
 use Rattle.lx_caps.specs.declared.Principal.{Principal}
 use Rattle.lx_caps.specs.declared.Atom.{Atom}
+use Rattle.lx_caps.specs.declared.Atom.TheVariants as atom
 use Rattle.lx_cap_nodes.specs.Words.{nodes_at}
 use Rattle.lx_cap_tables.specs.declared.entry.Entry.{Entry}
 use Rattle.lx_cap_tables.specs.Atoms.{atom_among, spot_fits}
 use Rattle.lx_cap_tables.specs.Kept.{all_nodes}
 use Rattle.lx_cap_tables.specs.Lists.{some_below}
-use Rattle.lx_cap_tables.specs.Tables.{Key, loan_key, place_in}
+use Rattle.lx_cap_tables.specs.Holders.{held_by}
+use Rattle.lx_cap_tables.specs.Tables.{Key, loan_key, part_list, place_in, shown_at}
 
 -- the list, if there is one, gives the principal the atom
 abbrev pub given_in : List (List (ℕ × Entry)) → Principal → Atom → Option ℕ → Bool
@@ -21,6 +23,12 @@ listed_atom lists owners who x key = given_in lists who x (place_in owners key)
 -- one of so many loans of the thread does
 abbrev pub lent_atom : List (List (ℕ × Entry)) → List Key → Principal → Atom → ℕ → ℕ → Bool
 lent_atom lists owners who x t count = some_below count (λ d. listed_atom lists owners who x (loan_key t d))
+
+-- the atom is a byte of the part, from one of its places on, and the principal owns it
+abbrev pub owned_from : List (List (ℕ × Entry)) → Principal → ℕ → ℕ → Atom → Bool
+owned_from places who part from (atom.Byte b) = nat_eq part (b / 64) && (nat_le from (b % 64) && shown_at places (part_list (b / 64)) (held_by who) (b % 64))
+owned_from places who part from (atom.Call a) = false
+owned_from places who part from (atom.Ref t a) = false
 
 -- the parts of each list have addresses
 unfoldable pub AllFit : List (List (ℕ × Entry)) → Type 0

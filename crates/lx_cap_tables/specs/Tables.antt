@@ -105,6 +105,11 @@ abbrev pub work_in : List (List (ℕ × Entry)) → ℕ → ℕ → ℕ
 work_in places part zero = 0
 work_in places part (suc n) = 1 + count_in places (part_list part) + work_in places (part + 1) n
 
+-- what it takes to end so many loans of a thread
+abbrev pub loans_work : List (List (ℕ × Entry)) → List Key → ℕ → ℕ → ℕ → ℕ
+loans_work lists owners t older zero = 0
+loans_work lists owners t older (suc n) = 1 + count_in lists (place_in owners (loan_key t older)) + loans_work lists owners t (older + 1) n
+
 -- the keys with this one
 abbrev pub or_with : Option ℕ → List Key → Key → List Key
 or_with None keys k = keys ++ k ∷ []

@@ -27,7 +27,7 @@ pub(crate) struct Entry {
 }
 
 /// The bits of a mask from a place on.
-fn bits_from(mask: u64, from: u64) -> u64
+pub(crate) fn bits_from(mask: u64, from: u64) -> u64
     ensures { (k : ℕ) → k < 64 → is_set result k ≡ (is_set mask k && nat_le from k) }
 {
     if from < 64 {
@@ -38,7 +38,7 @@ fn bits_from(mask: u64, from: u64) -> u64
 }
 
 /// The first byte of these bits of a part.
-fn first_byte(part: u64, bits: u64) -> Option<Atom>
+pub(crate) fn first_byte(part: u64, bits: u64) -> Option<Atom>
     requires { part * 64 + 64 < 2 ^ 64 }
     ensures { IsFirst (part_atom part bits) result }
 {

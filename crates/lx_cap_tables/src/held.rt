@@ -1,5 +1,5 @@
 //! What principals hold.
-ghost use Rattle.std.specs.Prelude.{true, false, ◌≡◌, ◌+◌, ◌*◌, ◌/◌, ◌%◌, ◌^◌, ◌<◌, ◌≤◌, ◌&&◌, ◌||◌, bit_and, nat_eq, length, Some};
+ghost use Rattle.std.specs.Prelude.{true, false, ◌≡◌, ◌+◌, ◌*◌, ◌/◌, ◌%◌, ◌^◌, ◌<◌, ◌≤◌, ◌&&◌, ◌||◌, bit_and, nat_eq, length, List, Some, IfSome};
 ghost use Rattle.lx_caps.specs.declared.Principal.{Principal};
 ghost use Rattle.lx_caps.specs.History.{each_byte};
 ghost use Rattle.lx_caps.specs.Placed.{is_placed};
@@ -7,16 +7,18 @@ ghost use Rattle.lx_caps.specs.Regions.{mapped};
 ghost use Rattle.lx_caps.specs.Precedence.{follows, IsFirstPrincipal};
 ghost use Rattle.lx_cap_tables.specs.Holders.{counts, held_by};
 ghost use Rattle.lx_caps.specs.declared.Atom.{Atom};
+ghost use Rattle.lx_caps.specs.declared.Atom.TheVariants.{Byte};
+ghost use Rattle.lx_cap_tables.specs.Tables.{Key};
 ghost use Rattle.lx_caps.specs.Order.{is_behind, IsFirst};
 ghost use Rattle.lx_cap_tables.specs.Kept.{AreAll};
 ghost use Rattle.lx_cap_tables.specs.Lists.{some_below};
 ghost use Rattle.lx_cap_tables.specs.Loans.{loans_of};
-ghost use Rattle.lx_cap_tables.specs.Owned.{AllFit, lent_atom, listed_atom};
+ghost use Rattle.lx_cap_tables.specs.Owned.{AllFit, lent_atom, listed_atom, owned_from};
 ghost use Rattle.lx_cap_tables.specs.Tables.{behind_parts, bit_of, HoldsPart, is_in_order, part_list, place_in, place_of, shown_at, shown_cap};
 
 use crate::bits::is_set;
 use crate::caps::list_of_key;
-use crate::entry::sooner;
+use crate::entry::{bits_from, first_byte, sooner};
 use crate::holder::InReach;
 use crate::keys::{Key, call_key, loan_key, owner_key, place_in, ref_key};
 use crate::lists::{Pool, first_owned, first_owner, reached};
@@ -188,8 +190,76 @@ fn owned_on_loans(
     first
 }
 
-/// What is looked for, by the list of the principal and those of all loans.
+/// The first byte of a part, from one of its places on, that the principal owns.
+fn owned_from(pool: &Pool, who: Principal, part: u64, from: u64) -> Option<Atom>
+    requires lists { 0xc000 ≤ length pool.now.places }
+    ensures { IsFirst (owned_from pool.now.places who part from) result }
+{
+    match list_of_part(part) {
+        Some(place) => {
+            let bits = reached(pool, place, InReach::Own(who));
+            first_byte(part, bits_from(bits, from))
+        }
+        None => None,
+    }
+}
+
+/// What is looked for behind a byte, if it lies in the byte's part or in the next one.
+fn owned_near(pool: &Pool, who: Principal, byte: u64) -> Option<Atom>
+    requires lists { 0xc000 ≤ length pool.now.places }
+    ensures { (atoms : List Key) → IfSome result (λ next. IsFirst (λ x. is_behind (Some (Byte byte)) x && shown_at pool.now.places (place_of atoms x) (held_by who) (bit_of x)) (Some next)) }
+{
+    let part = byte / PART;
+    match owned_from(pool, who, part, byte % PART + 1) {
+        Some(next) => Some(next),
+        None => owned_from(pool, who, part + 1, 0),
+    }
+}
+
+/// What is looked for behind an atom, if it is a byte near it.
+fn owned_near_atom(pool: &Pool, who: Principal, last: Atom) -> Option<Atom>
+    requires lists { 0xc000 ≤ length pool.now.places }
+    ensures { (atoms : List Key) → IfSome result (λ next. IsFirst (λ x. is_behind (Some last) x && shown_at pool.now.places (place_of atoms x) (held_by who) (bit_of x)) (Some next)) }
+{
+    match last {
+        Atom::Byte(byte) => owned_near(pool, who, byte),
+        _ => None,
+    }
+}
+
+/// What is looked for, if a look at the part of the last byte and the next part finds it.
+fn owned_soon(pool: &Pool, wanted: Wanted) -> Option<Atom>
+    requires lists { 0xc000 ≤ length pool.now.places }
+    ensures { (atoms : List Key) → IfSome result (λ next. IsFirst (λ x. is_behind wanted.after x && shown_at pool.now.places (place_of atoms x) (held_by wanted.who) (bit_of x)) (Some next)) }
+{
+    match wanted.after {
+        Some(last) => owned_near_atom(pool, wanted.who, last),
+        None => None,
+    }
+}
+
+/// What is looked for: near the last byte, or else by the lists of the principal and of all loans.
 pub(crate) fn owned_behind(
+    pool: &Pool,
+    owners: &IndexSet<Key>,
+    atoms: &IndexSet<Key>,
+    loans: &[u64],
+    wanted: Wanted,
+) -> Option<Atom>
+    requires lists { length owners.now.keys ≤ length pool.now.owners }
+    requires places { 0xc000 ≤ length pool.now.places }
+    requires threads { length loans.now ≡ 16 }
+    requires order { AreAll (is_in_order owners.now.keys atoms.now.keys loans.now) pool.now }
+    ensures { IsFirst (λ x. is_behind wanted.after x && shown_at pool.now.places (place_of atoms.now.keys x) (held_by wanted.who) (bit_of x)) result }
+{
+    match owned_soon(pool, wanted) {
+        Some(next) => Some(next),
+        None => owned_by_lists(pool, owners, atoms, loans, wanted),
+    }
+}
+
+/// What is looked for, by the list of the principal and those of all loans.
+fn owned_by_lists(
     pool: &Pool,
     owners: &IndexSet<Key>,
     atoms: &IndexSet<Key>,

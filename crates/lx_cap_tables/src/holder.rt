@@ -12,11 +12,12 @@ pub(crate) enum Holder {
     Borrower(u32, u64, Principal),
 }
 
-/// What counts: all that is owned in a principal's reach, or only what is kept there.
+/// What counts: all that is owned in a principal's reach, only what is kept there, or what the principal itself owns.
 #[derive(Clone, Copy)]
 pub(crate) enum InReach {
     Owned(Principal),
     Kept(Principal),
+    Own(Principal),
 }
 
 pub(crate) fn principal_of(holder: Holder) -> Principal
@@ -47,6 +48,7 @@ pub(crate) fn counts(in_reach: InReach, holder: Holder) -> bool
 {
     match (in_reach, holder) {
         (InReach::Owned(who), _) => reaches(who, principal_of(holder)),
+        (InReach::Own(who), _) => is_same(who, principal_of(holder)),
         (InReach::Kept(who), Holder::Keeper(keeper)) => reaches(who, keeper),
         (InReach::Kept(_), Holder::Borrower(..)) => false,
     }

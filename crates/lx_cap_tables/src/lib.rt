@@ -21,6 +21,7 @@ mod entry;
 mod held;
 mod holder;
 mod keys;
+mod laws;
 mod lists;
 mod loans;
 mod parts;
@@ -28,5 +29,6 @@ mod piece;
 mod steps;
 mod tables;
 
+pub use laws::{holder_laws, worked_bounds};
 pub use steps::Steps;
 pub use tables::CapTables;

@@ -1,12 +1,12 @@
 //! The end of loans.
-ghost use Rattle.std.specs.Prelude.{◌≡◌, ◌+◌, ◌<◌, ◌≤◌, ℕ, Bool, [], true, length, not, List, Some, IfSome};
+ghost use Rattle.std.specs.Prelude.{◌≡◌, ◌≢◌, ◌-◌, ◌+◌, ◌<◌, ◌≤◌, ℕ, Bool, [], true, length, not, List, Some, IfSome};
 ghost use Rattle.lx_cap_nodes.specs.Words.{nodes_at};
 ghost use Rattle.lx_cap_nodes.specs.declared.pool.ListName.{ListName};
 ghost use Rattle.lx_cap_tables.specs.declared.entry.Entry.{Entry};
 ghost use Rattle.lx_cap_tables.specs.declared.holder.Holder.{Holder};
 ghost use Rattle.lx_cap_tables.specs.Entries.{bit_among};
 ghost use Rattle.lx_cap_tables.specs.Kept.{all_nodes, AllNodes, AreAll, AreEnded, StayBut};
-ghost use Rattle.lx_cap_tables.specs.Tables.{Key, is_in_order};
+ghost use Rattle.lx_cap_tables.specs.Tables.{Key, count_in, is_in_order, loan_key, loans_work, place_in};
 
 use crate::keys::{Key, loan_key, place_in};
 use crate::lists::{Pool, take_all};
@@ -30,11 +30,13 @@ fn take_list<L: Ledger>(pool: &mut Pool, list: Option<u64>, steps: &mut Steps<L>
     requires { IfSome list (λ o. o < length pool.old.owners) }
     ensures gone { (o : ℕ) → list ≡ Some o → nodes_at pool.new.owners o ≡ [] }
     ensures stays { (among : Holder → Bool) → ((o : ℕ) → list ≡ Some o → all_nodes (λ e. not (among e.holder)) (nodes_at pool.old.owners o) ≡ true) → (l k : ℕ) → bit_among among (nodes_at pool.new.places l) k ≡ bit_among among (nodes_at pool.old.places l) k }
+    ensures others { (o : ℕ) → list ≢ Some o → nodes_at pool.new.owners o ≡ nodes_at pool.old.owners o }
     ensures empty { (l : ℕ) → nodes_at pool.old.places l ≡ [] → nodes_at pool.new.places l ≡ [] }
     ensures counts { (length pool.new.places ≡ length pool.old.places) × (length pool.new.owners ≡ length pool.old.owners) }
     ensures spare { pool.old.spare ≤ pool.new.spare }
     ensures nodes { AllNodes pool.old.places → AllNodes pool.new.places }
     ensures kept { (p : ListName → Entry → Bool) → AreAll p pool.old → AreAll p pool.new }
+    ensures cost { steps.new ≡ steps.old + count_in pool.old.owners list }
 {
     if let Some(list) = list {
         take_all(pool, list, steps);
@@ -58,6 +60,8 @@ fn shut_loan<L: Ledger>(
     ensures spare { pool.old.spare ≤ pool.new.spare }
     ensures nodes { AllNodes pool.old.places → AllNodes pool.new.places }
     ensures kept { (p : ListName → Entry → Bool) → AreAll p pool.old → AreAll p pool.new }
+    ensures others { (o : ℕ) → place_in owners.now.keys (loan_key thread older) ≢ Some o → nodes_at pool.new.owners o ≡ nodes_at pool.old.owners o }
+    ensures cost { steps.new ≡ steps.old + (1 + count_in pool.old.owners (place_in owners.now.keys (loan_key thread older))) }
 {
     steps.tick();
     pool.laws();
@@ -82,6 +86,7 @@ pub(crate) fn shut_loans<L: Ledger>(
     ensures spare { pool.old.spare ≤ pool.new.spare }
     ensures nodes { AllNodes pool.old.places → AllNodes pool.new.places }
     ensures kept { (p : ListName → Entry → Bool) → AreAll p pool.old → AreAll p pool.new }
+    ensures cost { steps.new ≡ steps.old + loans_work pool.old.owners owners.now.keys ended.thread ended.first (ended.end - ended.first) }
 {
     for older in ended.first..ended.end {
         shut_loan(pool, owners, ended.thread, older, steps);

@@ -9,7 +9,8 @@ ghost use Rattle.lx_caps.specs.Placed.{is_placed};
 ghost use Rattle.lx_cap_nodes.specs.Words.{nodes_at};
 ghost use Rattle.lx_cap_tables.specs.Loans.{loans_of};
 ghost use Rattle.lx_cap_tables.specs.Sound.{IsEnd, StandsFor};
-ghost use Rattle.lx_cap_tables.specs.Work.{strip_bound};
+ghost use Rattle.lx_cap_tables.specs.Tables.{loans_work};
+ghost use Rattle.lx_cap_tables.specs.Work.{shut_bound, strip_bound};
 
 use crate::caps::{PARTS, give_cap, take_cap};
 use crate::held::{Wanted, holds_cap, owned_behind, owner_behind};
@@ -259,6 +260,7 @@ impl CapTables {
         requires some { first ≤ loans_of self.old.loans thread }
         ensures appends { (h : History) (act : Act) → StandsFor self.old h → IsEnd h act thread first → StandsFor self.new (act ∷ h) }
         ensures takes { self.old.spare ≡ self.new.spare + 1 }
+        ensures cost { steps.new ≡ steps.old + loans_work self.old.pool.owners self.old.owners thread first (loans_of self.old.loans thread - first) }
     {
         let ended = Ended {
             thread,
@@ -270,13 +272,17 @@ impl CapTables {
         self.promised -= 1;
     }
 
-    /// Ends the `count` newest loans of the thread, as `shut` does, and counts each table entry and each node that is looked at.
+    /// Ends the `count` newest loans of the thread, as `shut` does, and counts each table entry and each node that is looked at. They
+    /// are no more than the loans that end, and for each of them its borrowers with the parts of 64 bytes, the calls and
+    /// the references where each has something on the loan.
     pub fn shut_counted<L: Ledger>(&mut self, thread: u32, count: u32, steps: &mut Steps<L>)
         requires room { 0 < self.old.spare }
         requires thread { thread < 16 }
         ensures appends { (h : History) → StandsFor self.old h → StandsFor self.new (Shut thread count ∷ h) }
         ensures takes { self.old.spare ≡ self.new.spare + 1 }
+        ensures bound { (h : History) → StandsFor self.old h → steps.new ≤ steps.old + shut_bound h thread count }
     {
+        self.pool.laws();
         let open = loans_of(&self.loans, thread);
         let first = open.saturating_sub(count as u64);
         self.end_loans(thread, first, steps);

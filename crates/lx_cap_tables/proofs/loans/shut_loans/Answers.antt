@@ -1,6 +1,6 @@
-use Rattle.std.proofs.Common.{refl, ◌∙◌, arith}
-use Rattle.lx_cap_tables.specs.Tables.{is_in_order}
-use Rattle.lx_cap_tables.proofs.EndLemmas.{ended_none, ended_more, ended_less, ended_kept, stay_none, stay_more, stay_all}
+use Rattle.std.proofs.Common.{◌<◌, refl, ◌∙◌, arith}
+use Rattle.lx_cap_tables.specs.Tables.{is_in_order, loan_key, place_in}
+use Rattle.lx_cap_tables.proofs.EndLemmas.{ended_none, ended_more, ended_less, ended_kept, stay_none, stay_more, stay_all, other_loan, one_loan_more, no_loan_more, same_loan}
 use Rattle.lx_cap_tables.proofs.loans.shut_loans.Goals as goal
 
 pub loop-older-init : goal.loop-older-init
@@ -13,6 +13,8 @@ loop-older-init g c = record {
   counts = (refl, refl);
   spare = omega arith;
   nodes = λ all. all;
+  later = λ d k le at. refl;
+  cost = refl;
   kept = λ p all. all;
 }
 
@@ -36,6 +38,14 @@ loop-older-preserved g c =
       counts = (c.shut_loan.ensures.counts.0 ∙ old.counts.0, c.shut_loan.ensures.counts.1 ∙ old.counts.1);
       spare = let a = c.shut_loan.ensures.spare in let b = old.spare in omega (arith, a, b);
       nodes = λ all. c.shut_loan.ensures.nodes (old.nodes all);
+      later = λ d k le at. c.shut_loan.ensures.others k (λ is. other_loan owners t older d k is at (omega (arith, le))) ∙ old.later d k (omega (arith, le)) at;
+      cost =
+          let lt : older < c.args.ended.end = omega arith in
+          let w = one_loan_more c.args.pool.now.owners owners t older c.args.ended.end lt in
+          let n = same_loan c.args.pool.now.owners c.loop-older.pool.owners (place_in owners (loan_key t older)) (λ k is. old.later older k (omega arith) is) in
+          let a = c.shut_loan.ensures.cost in
+          let b = old.cost in
+          omega (arith, w, n, a, b);
       kept = λ p all. c.shut_loan.ensures.kept p (old.kept p all);
     }
 
@@ -47,3 +57,9 @@ pub returns-clause-stays : goal.returns-clause-stays
 returns-clause-stays g c = λ atoms loans order.
     let high = c.loop-older.invariant.high in
     stay_all c.args.ended.thread c.args.ended.first c.args.ended.end c.loop-older.older c.args.pool.now.places c.loop-older.pool.places (λ some. omega (arith, high, some)) (c.loop-older.invariant.stays atoms loans order)
+
+pub returns-clause-cost : goal.returns-clause-cost
+returns-clause-cost g c =
+    let none = no_loan_more c.args.pool.now.owners c.args.owners.now.keys c.args.ended.thread c.loop-older.older c.args.ended.end (omega arith) in
+    let cost = c.loop-older.invariant.cost in
+    omega (arith, none, cost)

@@ -1,9 +1,9 @@
-use Rattle.std.proofs.Common.{◌≡◌, ◌≤◌, ℕ, Bool, [], List, max, length}
+use Rattle.std.proofs.Common.{◌≡◌, ◌+◌, ◌-◌, Some, ◌≤◌, ℕ, Bool, [], List, max, length}
 use Rattle.lx_cap_nodes.specs.declared.pool.ListName.{ListName}
 use Rattle.lx_cap_nodes.specs.Words.{nodes_at}
 use Rattle.lx_cap_tables.specs.declared.entry.Entry.{Entry}
 use Rattle.lx_cap_tables.specs.Kept.{AllNodes, AreAll, AreEnded, StayBut}
-use Rattle.lx_cap_tables.specs.Tables.{Key, is_in_order}
+use Rattle.lx_cap_tables.specs.Tables.{Key, is_in_order, loan_key, loans_work, place_in}
 use Rattle.lx_cap_tables.proofs.loans.shut_loans.Given as goal
 
 abbrev pub invariant-loop-older : goal.invariant-loop-older
@@ -16,5 +16,7 @@ invariant-loop-older g l = record {
   counts : (length l.pool.places ≡ length l.fn.pool.places) × (length l.pool.owners ≡ length l.fn.pool.owners);
   spare : l.fn.pool.spare ≤ l.pool.spare;
   nodes : AllNodes l.fn.pool.places → AllNodes l.pool.places;
+  later : (d k : ℕ) → l.older ≤ d → place_in l.owners.keys (loan_key l.ended.thread d) ≡ Some k → nodes_at l.pool.owners k ≡ nodes_at l.fn.pool.owners k;
+  cost : l.steps + loans_work l.fn.pool.owners l.owners.keys l.ended.thread l.older (l.ended.end - l.older) ≡ l.fn.steps + loans_work l.fn.pool.owners l.owners.keys l.ended.thread l.ended.first (l.ended.end - l.ended.first);
   kept : (p : ListName → Entry → Bool) → AreAll p l.fn.pool → AreAll p l.pool;
 }

@@ -11,6 +11,7 @@ owned_behind-requires c =
     let count = old.owner_count in
     record {
       lists = let h = old.owner_fit in omega (arith, h, count);
+      places = let h = old.atom_fit in let n = old.place_count in omega (arith, h, n);
       threads = ap length c.as_slice.ensures.value ∙ old.threads;
       order = subst (λ ls. AreAll (is_in_order c.self.inside.owners.keys c.self.inside.atoms.keys ls) c.self.inside.pool) (sym c.as_slice.ensures.value) old.in_order;
     }

@@ -5,7 +5,7 @@ use Rattle.lx_cap_tables.specs.Loans.{loans_of}
 use Rattle.lx_cap_tables.specs.Owned.{lent_atom, listed_atom}
 use Rattle.lx_cap_tables.specs.Tables.{owner_key}
 use Rattle.lx_cap_tables.proofs.TieLemmas.{all_fit, first_is}
-use Rattle.lx_cap_tables.proofs.held.owned_behind.Goals as goal
+use Rattle.lx_cap_tables.proofs.held.owned_by_lists.Goals as goal
 
 pub owned_by_list-kept-requires-clause-fit : goal.owned_by_list-kept-requires-clause-fit
 owned_by_list-kept-requires-clause-fit c = all_fit c.args.pool.now c.laws.ensures c.args.owners.now.keys c.args.atoms.now.keys c.args.loans.now c.requires.order
