@@ -12,7 +12,8 @@ ghost use Rattle.lx_cli.specs.Runs.{images_of, is_lawful};
 ghost use Rattle.lx_cli.specs.Told.{TellsRun};
 
 use crate::answer::Answer;
-use lx_caps::{CapStore, PlainCaps};
+use lx_cap_tables::CapTables;
+use lx_caps::CapStore;
 use lx_input::Input;
 use lx_model::account::{CallOutcome, ImageCount};
 use lx_model::request::Outcome;
@@ -204,5 +205,11 @@ pub(crate) fn run_input(alloc: Global, input: Input) -> Result<Answer, Memory>
     requires { IsReady input }
     ensures { IfOk result (TellsRun input.program input.script input.schedule) }
 {
-    run_over(alloc, input, PlainCaps::new(alloc))
+    match CapTables::new(alloc) {
+        Ok(caps) => run_over(alloc, input, caps),
+        Err(_) => {
+            drop(input);
+            Err(Memory)
+        }
+    }
 }
