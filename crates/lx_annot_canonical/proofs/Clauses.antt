@@ -1,5 +1,5 @@
 -- The same signatures, items and annotations of tokens with their words given anew.
-use Rattle.std.proofs.Common.{◌≡◌, ℕ, true, false, List, [], ◌∷◌, ◌++◌, map, codes, refl, sym, ap, subst, ◌∙◌}
+use Rattle.std.proofs.Common.{◌≡◌, ℕ, Bool, true, false, List, [], ◌∷◌, ◌++◌, map, codes, refl, sym, ap, subst, ◌∙◌}
 use Rattle.std.proofs.lemmas.List.{map-append}
 use Rattle.lx_annot.specs.declared.expr.Ty.{Ty}
 use Rattle.lx_annot.specs.declared.action.Who.{Who}
@@ -13,7 +13,7 @@ use Rattle.lx_annot_expressions.specs.Exprs.{Scope, names_of_params}
 use Rattle.lx_annot_terms.specs.Lists.{Known}
 use Rattle.lx_annot_terms.specs.Grammar.{IsItem}
 use Rattle.lx_annot_terms.specs.Signatures.{Signature}
-use Rattle.lx_annot_terms.specs.Clauses.{scope_before, scope_behind}
+use Rattle.lx_annot_terms.specs.Clauses.{scope_before, scope_behind, without_lends}
 use Rattle.lx_annot_grammar.specs.Parts.{IsFurther, IsType, IsParamName, IsParam, IsParams, IsSignature, IsItems, Clause, Principal, Pre, Post, IsWho, IsClause, IsClauses, IsAnnotation}
 use Rattle.lx_annot_grammar.specs.Statements.{IsCallable}
 use Rattle.lx_annot_canonical.specs.Renaming.{is_language, IsRenaming, renamed}
@@ -21,7 +21,7 @@ use Rattle.lx_annot_canonical.specs.Anew.{anew_param, anew_signature}
 use Rattle.lx_annot_canonical.proofs.Words.{anew_scope, has_same, reserved_same, type_same, fresh_anew, params_named}
 use Rattle.lx_annot_canonical.proofs.Terms.{anew_known, cut, word, expr, action, item}
 
-module _ (r : List ℕ → List ℕ) (is : IsRenaming r) where
+module _ {lends : Bool} (r : List ℕ → List ℕ) (is : IsRenaming lends r) where
   abbrev S : List Tok → List Tok
   S ts = map (renamed r) ts
 
@@ -61,7 +61,7 @@ module _ (r : List ℕ → List ℕ) (is : IsRenaming r) where
   items scope known (x ∷ xs) ts (le, (a, b, y, z, e)) = (le, (S a, S b, item r is scope known x a y, more_items scope known (x ∷ []) xs b z, slit ts a b e))
 
   -- the next token is still none of the language's
-  not_word : (text : List ℕ) → is_language text ≡ true → (ts : List Tok) → has text ts ≡ false → has text (S ts) ≡ false
+  not_word : (text : List ℕ) → is_language lends text ≡ true → (ts : List Tok) → has text ts ≡ false → has text (S ts) ≡ false
   not_word text l [] h = h
   not_word text l (t ∷ ts) h = has_same r is text l t ∙ h
 
@@ -70,26 +70,29 @@ module _ (r : List ℕ → List ℕ) (is : IsRenaming r) where
   is_who scope who.Global ts x = word r is (codes "global") refl ts x
   is_who scope (who.Value e) ts (s, g, x) = (not_word (codes "shared") refl ts s, not_word (codes "global") refl ts g, expr r is scope e ts x)
 
-  clause : (sig : Signature) (known : Known) (c : Clause) (ts : List Tok) → IsClause sig known c ts → IsClause (anew_signature r sig) (anew_known r known) c (S ts)
-  clause sig known (Principal w) ts (a, b, m, (c, d, o, (e, f, x, p, k), u), v) =
+  no_lends : false ≡ true → lends ≡ true
+  no_lends e = cc
+
+  clause : (sig : Signature) (known : Known) → (known.lends ≡ true → lends ≡ true) → (c : Clause) (ts : List Tok) → IsClause sig known c ts → IsClause (anew_signature r sig) (anew_known r known) c (S ts)
+  clause sig known within (Principal w) ts (a, b, m, (c, d, o, (e, f, x, p, k), u), v) =
       (S a, S b, word r is (codes "principal") refl a m, (S c, S d, word r is (codes "(") refl c o, (S e, S f, is_who (scope_before sig) w e x, word r is (codes ")") refl f p, slit d e f k), slit b c d u), slit ts a b v)
-  clause sig known (Pre y) ts (a, b, m, (c, d, o, (e, f, x, p, k), u), v) =
-      (S a, S b, word r is (codes "pre") refl a m, (S c, S d, word r is (codes "(") refl c o, (S e, S f, action r is (scope_before sig) known y e x, word r is (codes ")") refl f p, slit d e f k), slit b c d u), slit ts a b v)
-  clause sig known (Post y) ts (a, b, m, (c, d, o, (e, f, x, p, k), u), v) =
-      (S a, S b, word r is (codes "post") refl a m, (S c, S d, word r is (codes "(") refl c o, (S e, S f, action r is (scope_behind sig) known y e x, word r is (codes ")") refl f p, slit d e f k), slit b c d u), slit ts a b v)
+  clause sig known within (Pre y) ts (a, b, m, (c, d, o, (e, f, x, p, k), u), v) =
+      (S a, S b, word r is (codes "pre") refl a m, (S c, S d, word r is (codes "(") refl c o, (S e, S f, action r is (scope_before sig) known within y e x, word r is (codes ")") refl f p, slit d e f k), slit b c d u), slit ts a b v)
+  clause sig known within (Post y) ts (a, b, m, (c, d, o, (e, f, x, p, k), u), v) =
+      (S a, S b, word r is (codes "post") refl a m, (S c, S d, word r is (codes "(") refl c o, (S e, S f, action r is (scope_behind sig) (without_lends known) no_lends y e x, word r is (codes ")") refl f p, slit d e f k), slit b c d u), slit ts a b v)
 
-  clauses : (sig : Signature) (known : Known) (cs : List Clause) (ts : List Tok) → IsClauses sig known cs ts → IsClauses (anew_signature r sig) (anew_known r known) cs (S ts)
-  clauses sig known [] ts e = ap S e
-  clauses sig known (c ∷ cs) ts (a, b, x, y, e) = (S a, S b, clause sig known c a x, clauses sig known cs b y, slit ts a b e)
+  clauses : (sig : Signature) (known : Known) → (known.lends ≡ true → lends ≡ true) → (cs : List Clause) (ts : List Tok) → IsClauses sig known cs ts → IsClauses (anew_signature r sig) (anew_known r known) cs (S ts)
+  clauses sig known within [] ts e = ap S e
+  clauses sig known within (c ∷ cs) ts (a, b, x, y, e) = (S a, S b, clause sig known within c a x, clauses sig known within cs b y, slit ts a b e)
 
-  pub annotation : (sig : Signature) (known : Known) (a : Annotation) (ts : List Tok) → IsAnnotation sig known a ts → IsAnnotation (anew_signature r sig) (anew_known r known) a (S ts)
-  annotation sig known a ts (cs, x, says) = (cs, clauses sig known cs ts x, says)
+  pub annotation : (sig : Signature) (known : Known) → (known.lends ≡ true → lends ≡ true) → (a : Annotation) (ts : List Tok) → IsAnnotation sig known a ts → IsAnnotation (anew_signature r sig) (anew_known r known) a (S ts)
+  annotation sig known within a ts (cs, x, says) = (cs, clauses sig known within cs ts x, says)
 
-  pub callable : (known : Known) (sig : Signature) (a : Annotation) (ts : List Tok) → IsCallable known sig a ts → IsCallable (anew_known r known) (anew_signature r sig) a (S ts)
-  callable known sig a ts (f, b, x, y, e) = (S f, S b, signature sig f x, annotation sig known a b y, slit ts f b e)
+  pub callable : (known : Known) → (known.lends ≡ true → lends ≡ true) → (sig : Signature) (a : Annotation) (ts : List Tok) → IsCallable known sig a ts → IsCallable (anew_known r known) (anew_signature r sig) a (S ts)
+  callable known within sig a ts (f, b, x, y, e) = (S f, S b, signature sig f x, annotation sig known within a b y, slit ts f b e)
 
   -- where the names of lists are kept, they are as known as before
-  pub callable_kept : (known : Known) → map r known.reftypes ≡ known.reftypes → map r known.iterators ≡ known.iterators → (sig : Signature) (a : Annotation) (ts : List Tok) → IsCallable known sig a ts → IsCallable known (anew_signature r sig) a (S ts)
-  callable_kept known p q sig a ts x =
-      let kept : anew_known r known ≡ known = λ j. record { reftypes = p j; iterators = q j } in
-      subst (λ k. IsCallable k (anew_signature r sig) a (S ts)) kept (callable known sig a ts x)
+  pub callable_kept : (known : Known) → (known.lends ≡ true → lends ≡ true) → map r known.reftypes ≡ known.reftypes → map r known.iterators ≡ known.iterators → (sig : Signature) (a : Annotation) (ts : List Tok) → IsCallable known sig a ts → IsCallable known (anew_signature r sig) a (S ts)
+  callable_kept known within p q sig a ts x =
+      let kept : anew_known r known ≡ known = λ j. record { reftypes = p j; iterators = q j; lends = known.lends } in
+      subst (λ k. IsCallable k (anew_signature r sig) a (S ts)) kept (callable known within sig a ts x)

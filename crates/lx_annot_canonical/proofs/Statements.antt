@@ -15,6 +15,8 @@ use Rattle.lx_annot_terms.specs.Lists.{Known}
 use Rattle.lx_annot_terms.specs.Grammar.{IsKnown}
 use Rattle.lx_annot_terms.specs.Signatures.{Signature}
 use Rattle.lx_annot_terms.specs.ItemReading.{scope_of_items}
+use Rattle.lx_annot_read.specs.declared.head.Version.{Version}
+use Rattle.lx_annot_read.specs.Head.{may_lend}
 use Rattle.lx_annot_read.specs.Interfaces.{iterator_names, slot_names, export_names, known_in, is_field, is_typed, greatest_index}
 use Rattle.lx_annot_grammar.specs.Statements.{Statement, OfReftype, OfIterator, OfSlot, OfField, OfExport, IsFresh, IsIteratorBody, IsField, IsCallable, IsStatement, IsInLine, with_statement}
 use Rattle.lx_annot_canonical.specs.Renaming.{IsRenaming, renamed}
@@ -70,8 +72,8 @@ module _ (r : List ℕ → List ℕ) (i j : Interface) (anew : IsAnew r i j) whe
   exports_named : export_names j ≡ map r (export_names i)
   exports_named = seen unlined_export (anew_export r) (λ (x : Export). x.name) i.exports j.exports anew.exports ∙ sym (map_map r (λ (x : Export). x.name) i.exports)
 
-  known_anew : known_in j ≡ anew_known r (known_in i)
-  known_anew = λ k. record { reftypes = anew.reftypes k; iterators = iterators_named k }
+  known_anew : (v : Version) → known_in v j ≡ anew_known r (known_in v i)
+  known_anew v = λ k. record { reftypes = anew.reftypes k; iterators = iterators_named k; lends = may_lend v }
 
   typed_anew : (struct : List ℕ) (index : ℕ) → is_typed j struct index ≡ is_typed i struct index
   typed_anew struct index =
@@ -120,7 +122,7 @@ module _ (r : List ℕ → List ℕ) (i j : Interface) (anew : IsAnew r i j) whe
         exports = grown unlined_export (anew_export r) i.exports j.exports x (record { name = r x.name; params = map (anew_param r) x.params; ret = x.ret; annotation = x.annotation; line = line }) anew.exports refl;
       }
 
-  module _ (is : IsRenaming r) where
+  module _ (v : Version) (is : IsRenaming (may_lend v) r) where
     abbrev S : List Tok → List Tok
     S ts = map (renamed r) ts
 
@@ -140,14 +142,14 @@ module _ (r : List ℕ → List ℕ) (i j : Interface) (anew : IsAnew r i j) whe
       (S a, S b, (renamed r t, struct_same r is t.kind t.bytes ∙ h, ap S g), (S c, S d, (renamed r u, number_same r is greatest_index u.kind u.bytes ∙ k, ap S l), (S e, S m, word r is (codes ":") refl e o, subst (λ names. IsKnown names f.slot (S m)) (sym slots_named) (known_name r is (slot_names i) f.slot m x), slit d e m w), slit b c d v), slit ts a b z),
     )
 
-    called : (sig : Signature) (a : Annotation) (ts : List Tok) → IsCallable (known_in i) sig a ts → IsCallable (known_in j) (anew_signature r sig) a (S ts)
-    called sig a ts x = subst (λ k. IsCallable k (anew_signature r sig) a (S ts)) (sym known_anew) (callable r is (known_in i) sig a ts x)
+    called : (sig : Signature) (a : Annotation) (ts : List Tok) → IsCallable (known_in v i) sig a ts → IsCallable (known_in v j) (anew_signature r sig) a (S ts)
+    called sig a ts x = subst (λ k. IsCallable k (anew_signature r sig) a (S ts)) (sym (known_anew v)) (callable r is (known_in v i) (λ e. e) sig a ts x)
 
-    pub statement_anew : (line : ℕ) (s : Statement) (ts : List Tok) → IsStatement i s ts → IsStatement j (again r line s) (S ts)
+    pub statement_anew : (line : ℕ) (s : Statement) (ts : List Tok) → IsStatement v i s ts → IsStatement v j (again r line s) (S ts)
     statement_anew line (OfReftype name) ts (a, b, w, x, e) =
         (S a, S b, word r is (codes "reftype") refl a w, fresh_by i.reftypes j.reftypes name b anew.reftypes x, slit ts a b e)
     statement_anew line (OfIterator s) ts (a, b, w, (c, d, x, y, u), e) =
-        (S a, S b, word r is (codes "iterator") refl a w, (S c, S d, fresh_by (iterator_names i) (iterator_names j) s.name c iterators_named x, subst (λ k. IsIteratorBody k s.items (S d)) (sym known_anew) (body (known_in i) s.items d y), slit b c d u), slit ts a b e)
+        (S a, S b, word r is (codes "iterator") refl a w, (S c, S d, fresh_by (iterator_names i) (iterator_names j) s.name c iterators_named x, subst (λ k. IsIteratorBody k s.items (S d)) (sym (known_anew v)) (body (known_in v i) s.items d y), slit b c d u), slit ts a b e)
     statement_anew line (OfSlot s) ts (a, b, w, (c, d, x, y, u), e) =
         (S a, S b, word r is (codes "slot") refl a w, (S c, S d, fresh_by (slot_names i) (slot_names j) s.name c slots_named x, called (record { ret = s.ret; params = s.params }) s.annotation d y, slit b c d u), slit ts a b e)
     statement_anew line (OfField s) ts (a, b, w, x, e) = (S a, S b, word r is (codes "field") refl a w, field_anew s line b x, slit ts a b e)

@@ -38,7 +38,7 @@ second_of : (x y : Bool) → (x && y) ≡ true → y ≡ true
 second_of true y h = h
 second_of false y h = cc
 
-module _ (r : List ℕ → List ℕ) (is : IsRenaming r) where
+module _ {lends : Bool} (r : List ℕ → List ℕ) (is : IsRenaming lends r) where
   -- two words are the same where they were
   pub same : (x y : List ℕ) → bytes_eq (r x) (r y) ≡ bytes_eq x y
   same x y =
@@ -47,7 +47,7 @@ module _ (r : List ℕ → List ℕ) (is : IsRenaming r) where
       (bytes_eq-Decides x y)
 
   -- a token is a word or a mark of the language where it was
-  pub said_same : (text : List ℕ) → is_language text ≡ true → (kind : TokenKind) (bytes : List ℕ) → bytes_eq (said r kind bytes) text ≡ bytes_eq bytes text
+  pub said_same : (text : List ℕ) → is_language lends text ≡ true → (kind : TokenKind) (bytes : List ℕ) → bytes_eq (said r kind bytes) text ≡ bytes_eq bytes text
   said_same text l kinds.Word bytes = ap (bytes_eq (r bytes)) (sym (is.keeps text l)) ∙ same bytes text
   said_same text l kinds.Local bytes = refl
   said_same text l kinds.Global bytes = refl
@@ -56,7 +56,7 @@ module _ (r : List ℕ → List ℕ) (is : IsRenaming r) where
   said_same text l kinds.Bytes bytes = refl
   said_same text l kinds.Mark bytes = refl
 
-  pub has_same : (text : List ℕ) → is_language text ≡ true → (t : Tok) → has text (renamed r t ∷ []) ≡ has text (t ∷ [])
+  pub has_same : (text : List ℕ) → is_language lends text ≡ true → (t : Tok) → has text (renamed r t ∷ []) ≡ has text (t ∷ [])
   has_same text l t = said_same text l t.kind t.bytes
 
   pub sign_same : (t : Tok) → is_sign (renamed r t) ≡ is_sign t
@@ -76,11 +76,11 @@ module _ (r : List ℕ → List ℕ) (is : IsRenaming r) where
 
   -- Tables of the language's words.
 
-  lookup_same : {X : Type 0} (kind : TokenKind) (bytes : List ℕ) (es : List (List ℕ × X)) → list_all (λ (e : List ℕ × X). is_language e.0) es ≡ true → lookup (bytes_eq (said r kind bytes)) es ≡ lookup (bytes_eq bytes) es
+  lookup_same : {X : Type 0} (kind : TokenKind) (bytes : List ℕ) (es : List (List ℕ × X)) → list_all (λ (e : List ℕ × X). is_language lends e.0) es ≡ true → lookup (bytes_eq (said r kind bytes)) es ≡ lookup (bytes_eq bytes) es
   lookup_same kind bytes [] h = refl
   lookup_same kind bytes (e ∷ es) h =
-      let one = said_same e.0 (first_of (is_language e.0) (list_all (λ e. is_language e.0) es) h) kind bytes in
-      let more = lookup_same kind bytes es (second_of (is_language e.0) (list_all (λ e. is_language e.0) es) h) in
+      let one = said_same e.0 (first_of (is_language lends e.0) (list_all (λ e. is_language lends e.0) es) h) kind bytes in
+      let more = lookup_same kind bytes es (second_of (is_language lends e.0) (list_all (λ e. is_language lends e.0) es) h) in
       ap (λ b. cond b (Some e.1) (lookup (bytes_eq (said r kind bytes)) es)) one ∙ ap (cond (bytes_eq bytes e.0) (Some e.1)) more
 
   operator_of_same : (kind : TokenKind) (bytes : List ℕ) → operator_of (said r kind bytes) ≡ operator_of bytes

@@ -1,5 +1,5 @@
 -- Texts that differ in names, in spaces and in comments alone.
-use Rattle.std.specs.Prelude.{◌≡◌, ℕ, Bool, true, None, List, [], ◌∷◌, map, codes, bytes_eq}
+use Rattle.std.specs.Prelude.{◌≡◌, ℕ, Bool, true, false, None, List, [], ◌∷◌, map, codes, bytes_eq}
 use Rattle.std.specs.List.{list_any}
 use Rattle.lx_words.specs.declared.token.Token.{Token}
 use Rattle.lx_words.specs.declared.token.TokenKind.{TokenKind}
@@ -8,9 +8,15 @@ use Rattle.lx_words.specs.declared.token.TokenRule.TheVariants as rules
 use Rattle.lx_words.specs.Cuts.{Scans}
 use Rattle.lx_annot_expressions.specs.Tokens.{Tok, toks_of}
 
--- What the language says itself: the first line, the words of statements, clauses, lists and types, the marks and the operators.
-abbrev pub language : List (List ℕ)
-language =
+-- what the second version of the language says besides: its number, and the word of the action that lends
+abbrev pub words_of_loans : Bool → List (List ℕ)
+words_of_loans false = []
+words_of_loans true = codes "2" ∷ codes "lend" ∷ []
+
+-- What the language says itself, in a version that may lend or may not: the first line, the words of statements, clauses, lists
+-- and types, the marks and the operators. In the first version `lend` is a name as any other.
+abbrev pub language : Bool → List (List ℕ)
+language lends =
     codes "interface" ∷ codes "1"
     ∷ codes "reftype" ∷ codes "iterator" ∷ codes "slot" ∷ codes "field" ∷ codes "export"
     ∷ codes "principal" ∷ codes "pre" ∷ codes "post" ∷ codes "shared" ∷ codes "global"
@@ -20,15 +26,15 @@ language =
     ∷ codes "(" ∷ codes ")" ∷ codes "{" ∷ codes "}" ∷ codes ":" ∷ codes "," ∷ codes ";"
     ∷ codes "||" ∷ codes "&&" ∷ codes "|" ∷ codes "^" ∷ codes "&" ∷ codes "==" ∷ codes "!="
     ∷ codes "<" ∷ codes "<=" ∷ codes ">" ∷ codes ">=" ∷ codes "<<" ∷ codes ">>" ∷ codes "+" ∷ codes "-" ∷ codes "*" ∷ codes "!"
-    ∷ []
+    ∷ words_of_loans lends
 
 -- whether these bytes are of the language itself
-abbrev pub is_language : List ℕ → Bool
-is_language text = list_any (bytes_eq text) language
+abbrev pub is_language : Bool → List ℕ → Bool
+is_language lends text = list_any (bytes_eq text) (language lends)
 
 -- Words are put in the place of words: what the language says itself is kept, and two words stay two.
-pub record IsRenaming (r : List ℕ → List ℕ) : Type 0 where
-  pub keeps : (text : List ℕ) → is_language text ≡ true → r text ≡ text
+pub record IsRenaming (lends : Bool) (r : List ℕ → List ℕ) : Type 0 where
+  pub keeps : (text : List ℕ) → is_language lends text ≡ true → r text ≡ text
   pub apart : (x y : List ℕ) → r x ≡ r y → x ≡ y
 
 -- the bytes of a token behind a renaming: of a word another one, and of all else the same

@@ -5,7 +5,7 @@ use Rattle.std.proofs.lemmas.List.{append-nil, length-append}
 use Rattle.lx_annot.specs.declared.action.Who.{Who}
 use Rattle.lx_annot.specs.declared.action.Who.TheVariants as who
 use Rattle.lx_annot.specs.declared.action.Annotation.{Annotation}
-use Rattle.lx_annot.specs.Action.{Action}
+use Rattle.lx_annot.specs.Action.{Action, with_end}
 use Rattle.lx_annot.specs.Expr.{Expr}
 use Rattle.lx_annot_expressions.specs.Tokens.{Tok}
 use Rattle.lx_annot_expressions.specs.Reading.{Read, ◌>>=◌, refused, has, behind, next_at, steps_at}
@@ -18,14 +18,14 @@ use Rattle.lx_annot_expressions.proofs.ExprReads.{expr_read}
 use Rattle.lx_annot_terms.specs.Lists.{Known}
 use Rattle.lx_annot_terms.specs.Actions.{action_at}
 use Rattle.lx_annot_terms.specs.Signatures.{Signature}
-use Rattle.lx_annot_terms.specs.Clauses.{scope_before, scope_behind, who_at, principal_at, enclosed_action_at, with_principal, with_pre, with_post, empty_annotation, principal_clause_at, pre_clause_at, post_clause_at, begins_clause, clause_at, clauses_at}
+use Rattle.lx_annot_terms.specs.Clauses.{scope_before, scope_behind, who_at, principal_at, enclosed_action_at, with_principal, with_pre, with_post, empty_annotation, principal_clause_at, pre_clause_at, post_clause_at, begins_clause, clause_at, without_lends, with_loans_ended, written_at, clauses_at}
 use Rattle.lx_annot_terms.specs.Grammar.{IsAction}
 use Rattle.lx_annot_terms.proofs.ListReads.{bracket_closes, other_text}
 use Rattle.lx_annot_terms.proofs.ActionReads.{action_read}
 use Rattle.lx_annot_terms.proofs.ActionFinds.{action_found}
 use Rattle.lx_annot_terms.proofs.Steps.{step_once, steps_end}
 use Rattle.lx_annot_grammar.proofs.Mapping.{mapped_is}
-use Rattle.lx_annot_grammar.specs.Parts.{Clause, Principal, Pre, Post, IsWho, Enclosed, IsClause, IsClauses, principals, pres, posts, listed, Goes, IsAnnotation}
+use Rattle.lx_annot_grammar.specs.Parts.{Clause, Principal, Pre, Post, IsWho, Enclosed, IsClause, IsClauses, principals, pres, posts, listed, Goes, Say, IsAnnotation}
 
 -- Principals.
 
@@ -181,7 +181,7 @@ module _ (sig : Signature) (known : Known) where
       let no : has (codes "principal") (t ∷ (b ++ us)) ≡ false = other_text (codes "post") (codes "principal") (t ∷ (b ++ us)) h refl in
       let nor : has (codes "pre") (t ∷ (b ++ us)) ≡ false = other_text (codes "post") (codes "pre") (t ∷ (b ++ us)) h refl in
       ap (clause_at sig known a) whole ∙ clause_is a (t ∷ (b ++ us)) false false no nor
-      ∙ mapped_is (λ (y : Action). with_post a y) (enclosed_action_at (scope_behind sig) known (b ++ us)) x us (enclosed_read (scope_behind sig) known x b us p)
+      ∙ mapped_is (λ (y : Action). with_post a y) (enclosed_action_at (scope_behind sig) (without_lends known) (b ++ us)) x us (enclosed_read (scope_behind sig) (without_lends known) x b us p)
 
   -- a clause is found where its word stands
   record FoundClause (a new : Annotation) (ts us : List Tok) : Type 0 where
@@ -220,7 +220,7 @@ module _ (sig : Signature) (known : Known) where
         whole = n.whole ∙ ap (λ x. n.token ∷ x) m.2;
       }
   clause_step a new ts us false false hp hq h r =
-      let m = last_finds (enclosed_action_at (scope_behind sig) known) (λ x. with_post a x) (λ x. Is (codes "(") then IsAction (scope_behind sig) known x then Is (codes ")")) (enclosed_found (scope_behind sig) known) (behind ts) us new r in
+      let m = last_finds (enclosed_action_at (scope_behind sig) (without_lends known)) (λ x. with_post a x) (λ x. Is (codes "(") then IsAction (scope_behind sig) (without_lends known) x then Is (codes ")")) (enclosed_found (scope_behind sig) (without_lends known)) (behind ts) us new r in
       let hr = third_of (has (codes "principal") ts) (has (codes "pre") ts) (has (codes "post") ts) hp hq h in
       let n = next_token (codes "post") ts hr in
       record {
@@ -290,7 +290,7 @@ module _ (sig : Signature) (known : Known) where
   clause_some : (c : Clause) (ts : List Tok) → IsClause sig known c ts → (n : ℕ) × (length ts ≡ suc n)
   clause_some (Principal w) ts is = enclosed_some (codes "principal") (IsWho (scope_before sig) w) ts is
   clause_some (Pre x) ts is = enclosed_some (codes "pre") (IsAction (scope_before sig) known x) ts is
-  clause_some (Post x) ts is = enclosed_some (codes "post") (IsAction (scope_behind sig) known x) ts is
+  clause_some (Post x) ts is = enclosed_some (codes "post") (IsAction (scope_behind sig) (without_lends known) x) ts is
 
   clause_begins : (c : Clause) (ts us : List Tok) → IsClause sig known c ts → begins_clause (ts ++ us) ≡ true
   clause_begins (Principal w) ts us is =
@@ -298,7 +298,7 @@ module _ (sig : Signature) (known : Known) where
   clause_begins (Pre x) ts us is =
       (begins_by (has (codes "principal") (ts ++ us)) (has (codes "pre") (ts ++ us)) (has (codes "post") (ts ++ us))).1 (enclosed_begins (codes "pre") (IsAction (scope_before sig) known x) ts us is)
   clause_begins (Post x) ts us is =
-      (begins_by (has (codes "principal") (ts ++ us)) (has (codes "pre") (ts ++ us)) (has (codes "post") (ts ++ us))).2 (enclosed_begins (codes "post") (IsAction (scope_behind sig) known x) ts us is)
+      (begins_by (has (codes "principal") (ts ++ us)) (has (codes "pre") (ts ++ us)) (has (codes "post") (ts ++ us))).2 (enclosed_begins (codes "post") (IsAction (scope_behind sig) (without_lends known) x) ts us is)
 
   clauses_length : (cs : List Clause) (ts : List Tok) → IsClauses sig known cs ts → length cs ≤ length ts
   clauses_length [] ts e = omega arith
@@ -362,16 +362,35 @@ module _ (sig : Signature) (known : Known) where
   clauses_found zero a after ts us e = no_clause a after ts us (Ok (a, ts)) refl e
   clauses_found (suc n) a after ts us e = one_clause n (clauses_found n) a after ts us (begins_clause ts) refl e
 
+  -- clauses are read as what they say without the end of loans
+  written_read : (after : Annotation) (cs : List Clause) (ts us : List Tok) → Goes empty_annotation cs after → begins_clause us ≡ false → IsClauses sig known cs ts → written_at sig known (ts ++ us) ≡ Ok (after, us)
+  unfolding written_at
+  written_read after cs ts us g h is =
+      let size : length (ts ++ us) ≡ length ts + length us = length-append ts us in
+      clauses_read empty_annotation after cs (length (ts ++ us)) ts us g (omega (arith, size, clauses_length cs ts is)) h is
+
+  -- what clauses say but for the end of loans
+  abbrev unended : Annotation → List Clause → Annotation
+  unended a cs = annotation a.principal a.pre (posts cs)
+
   -- the tokens of an annotation are read as it, where no further clause follows
   pub annotation_read : (a : Annotation) (ts us : List Tok) → begins_clause us ≡ false → IsAnnotation sig known a ts → clauses_at sig known (ts ++ us) ≡ Ok (a, us)
   unfolding clauses_at
   annotation_read a ts us h (cs, is, say) =
-      let size : length (ts ++ us) ≡ length ts + length us = length-append ts us in
-      clauses_read empty_annotation a cs (length (ts ++ us)) ts us (record { principal = say.principal; pre = say.pre; post = say.post }) (omega (arith, size, clauses_length cs ts is)) h is
+      let goes : Goes empty_annotation cs (unended a cs) = record { principal = say.principal; pre = say.pre; post = refl } in
+      mapped_is with_loans_ended (written_at sig known (ts ++ us)) (unended a cs) us (written_read (unended a cs) cs ts us goes h is)
+      ∙ ap (λ post. Ok (annotation a.principal a.pre post, us)) say.post
+
+  written_found : (after : Annotation) (ts us : List Tok) → written_at sig known ts ≡ Ok (after, us) → FoundClauses empty_annotation after ts us
+  unfolding written_at
+  written_found after ts us r = clauses_found (length ts) empty_annotation after ts us r
 
   -- what is read as an annotation is in the grammar
   pub annotation_found : Finds (clauses_at sig known) (IsAnnotation sig known)
   unfolding clauses_at
   annotation_found ts us a r =
-      let m = clauses_found (length ts) empty_annotation a ts us r in
-      (m.front, (m.clauses, m.is, record { principal = m.goes.principal; pre = m.goes.pre; post = m.goes.post }), m.whole)
+      let x = bind_ok (written_at sig known ts) (λ x. Ok (with_loans_ended x.0, x.1)) (a, us) r in
+      let k = ok_same (with_loans_ended x.0.0) a x.0.1 us x.2 in
+      let m = written_found x.0.0 ts x.0.1 x.1 in
+      let say : Say m.clauses (with_loans_ended x.0.0) = record { principal = m.goes.principal; pre = m.goes.pre; post = ap (with_end x.0.0.pre) m.goes.post } in
+      (m.front, (m.clauses, m.is, subst (Say m.clauses) k.0 say), m.whole ∙ ap (λ y. m.front ++ y) k.1)

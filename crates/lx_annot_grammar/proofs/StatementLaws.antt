@@ -23,6 +23,7 @@ use Rattle.lx_annot_terms.specs.ItemReading.{scope_of_items, items_at}
 use Rattle.lx_annot_terms.specs.Grammar.{IsKnown}
 use Rattle.lx_annot_terms.proofs.ListReads.{other_text}
 use Rattle.lx_annot_read.specs.declared.draft.Callable.{Callable}
+use Rattle.lx_annot_read.specs.declared.head.Version.{Version}
 use Rattle.lx_annot_read.specs.Interfaces.{iterator_names, slot_names, export_names, known_in, is_typed, with_reftype, with_iterator, with_slot, with_field, with_export, reftype_at, iterator_body_at, iterator_at, callable_at, slot_at, export_at, struct_of_kind, struct_at, greatest_index, untyped, index_at, field_at, statement_at}
 use Rattle.lx_annot_grammar.specs.Parts.{IsParamName, IsItems, IsSignature, IsAnnotation}
 use Rattle.lx_annot_grammar.specs.Statements.{Statement, OfReftype, OfIterator, OfSlot, OfField, OfExport, IsFresh, IsIteratorBody, IsCallable, IsStruct, IsIndex, IsField, IsStatement, IsInLine, with_statement}
@@ -101,7 +102,7 @@ callable_found known ts us c r =
     (λ sig. last_finds (clauses_at sig known) (λ a. callable sig a) (IsAnnotation sig known) (annotation_found sig known)) ts us c r in
     (m.0, callable_part known c m.0 m.1, m.2)
 
-module _ (i : Interface) where
+module _ (v : Version) (i : Interface) where
   fresh_read : (names : List (List ℕ)) (name : List ℕ) → Reads (fresh_at names) name (IsFresh names name)
   fresh_read names name = pick_reads (λ t. fresh_of names t.kind t.bytes) (unless_word Twice) name
 
@@ -114,11 +115,11 @@ module _ (i : Interface) where
   unfolding reftype_at
   reftype_read name = last_reads (fresh_at i.reftypes) (λ n. with_reftype i n) name _ (fresh_read i.reftypes name)
 
-  iterator_read : (x : CapIterator) → Reads (iterator_at x.line i) (with_iterator i x) (IsFresh (iterator_names i) x.name then IsIteratorBody (known_in i) x.items)
+  iterator_read : (x : CapIterator) → Reads (iterator_at v x.line i) (with_iterator i x) (IsFresh (iterator_names i) x.name then IsIteratorBody (known_in v i) x.items)
   unfolding iterator_at
   iterator_read x =
-      bind_reads (fresh_at (iterator_names i)) (λ n. iterator_body_at (known_in i) n.1 >>= λ items. Ok (with_iterator i (record { name = n.0; items = items.0; line = x.line }), items.1)) x.name (with_iterator i x) _ _ (fresh_read (iterator_names i) x.name)
-      (last_reads (iterator_body_at (known_in i)) (λ items. with_iterator i (record { name = x.name; items = items; line = x.line })) x.items _ (body_read (known_in i) x.items))
+      bind_reads (fresh_at (iterator_names i)) (λ n. iterator_body_at (known_in v i) n.1 >>= λ items. Ok (with_iterator i (record { name = n.0; items = items.0; line = x.line }), items.1)) x.name (with_iterator i x) _ _ (fresh_read (iterator_names i) x.name)
+      (last_reads (iterator_body_at (known_in v i)) (λ items. with_iterator i (record { name = x.name; items = items; line = x.line })) x.items _ (body_read (known_in v i) x.items))
 
   abbrev slot_of : List ℕ → ℕ → Callable → Slot
   slot_of name line c = record { name = name; params = c.signature.params; ret = c.signature.ret; annotation = c.annotation; line = line }
@@ -126,19 +127,19 @@ module _ (i : Interface) where
   abbrev export_of : List ℕ → ℕ → Callable → Export
   export_of name line c = record { name = name; params = c.signature.params; ret = c.signature.ret; annotation = c.annotation; line = line }
 
-  slot_read : (x : Slot) (ts us : List Tok) → begins_clause us ≡ false → (IsFresh (slot_names i) x.name then IsCallable (known_in i) (record { ret = x.ret; params = x.params }) x.annotation) ts → slot_at x.line i (ts ++ us) ≡ Ok (with_slot i x, us)
+  slot_read : (x : Slot) (ts us : List Tok) → begins_clause us ≡ false → (IsFresh (slot_names i) x.name then IsCallable (known_in v i) (record { ret = x.ret; params = x.params }) x.annotation) ts → slot_at v x.line i (ts ++ us) ≡ Ok (with_slot i x, us)
   unfolding slot_at
   slot_read x ts us h is =
       let sig : Signature = record { ret = x.ret; params = x.params } in
-      bind_to (fresh_at (slot_names i)) (λ n. callable_at (known_in i) n.1 >>= λ f. Ok (with_slot i (slot_of n.0 x.line f.0), f.1)) x.name (with_slot i x) (IsFresh (slot_names i) x.name) (IsCallable (known_in i) sig x.annotation) us (fresh_read (slot_names i) x.name)
-      (λ vs p. mapped_is (λ (f : Callable). with_slot i (slot_of x.name x.line f)) (callable_at (known_in i) (vs ++ us)) (callable sig x.annotation) us (callable_read (known_in i) sig x.annotation us h vs p)) ts is
+      bind_to (fresh_at (slot_names i)) (λ n. callable_at (known_in v i) n.1 >>= λ f. Ok (with_slot i (slot_of n.0 x.line f.0), f.1)) x.name (with_slot i x) (IsFresh (slot_names i) x.name) (IsCallable (known_in v i) sig x.annotation) us (fresh_read (slot_names i) x.name)
+      (λ vs p. mapped_is (λ (f : Callable). with_slot i (slot_of x.name x.line f)) (callable_at (known_in v i) (vs ++ us)) (callable sig x.annotation) us (callable_read (known_in v i) sig x.annotation us h vs p)) ts is
 
-  export_read : (x : Export) (ts us : List Tok) → begins_clause us ≡ false → (IsFresh (export_names i) x.name then IsCallable (known_in i) (record { ret = x.ret; params = x.params }) x.annotation) ts → export_at x.line i (ts ++ us) ≡ Ok (with_export i x, us)
+  export_read : (x : Export) (ts us : List Tok) → begins_clause us ≡ false → (IsFresh (export_names i) x.name then IsCallable (known_in v i) (record { ret = x.ret; params = x.params }) x.annotation) ts → export_at v x.line i (ts ++ us) ≡ Ok (with_export i x, us)
   unfolding export_at
   export_read x ts us h is =
       let sig : Signature = record { ret = x.ret; params = x.params } in
-      bind_to (fresh_at (export_names i)) (λ n. callable_at (known_in i) n.1 >>= λ f. Ok (with_export i (export_of n.0 x.line f.0), f.1)) x.name (with_export i x) (IsFresh (export_names i) x.name) (IsCallable (known_in i) sig x.annotation) us (fresh_read (export_names i) x.name)
-      (λ vs p. mapped_is (λ (f : Callable). with_export i (export_of x.name x.line f)) (callable_at (known_in i) (vs ++ us)) (callable sig x.annotation) us (callable_read (known_in i) sig x.annotation us h vs p)) ts is
+      bind_to (fresh_at (export_names i)) (λ n. callable_at (known_in v i) n.1 >>= λ f. Ok (with_export i (export_of n.0 x.line f.0), f.1)) x.name (with_export i x) (IsFresh (export_names i) x.name) (IsCallable (known_in v i) sig x.annotation) us (fresh_read (export_names i) x.name)
+      (λ vs p. mapped_is (λ (f : Callable). with_export i (export_of x.name x.line f)) (callable_at (known_in v i) (vs ++ us)) (callable sig x.annotation) us (callable_read (known_in v i) sig x.annotation us h vs p)) ts is
 
   abbrev untyped_by : List Tok → ℕ → List Tok → Bool → Read ℕ
   untyped_by place n us b = if b then Err (at Twice place) else Ok (n, us)
@@ -166,13 +167,13 @@ module _ (i : Interface) where
   abbrev statement_by : ℕ → List Tok → Bool → Bool → Bool → Bool → Bool → Read Interface
   statement_by line ts a b c d e =
       if a then reftype_at i (behind ts)
-      else if b then iterator_at line i (behind ts)
-      else if c then slot_at line i (behind ts)
+      else if b then iterator_at v line i (behind ts)
+      else if c then slot_at v line i (behind ts)
       else if d then field_at line i (behind ts)
-      else if e then export_at line i (behind ts)
+      else if e then export_at v line i (behind ts)
       else refused ts
 
-  statement_is : (line : ℕ) (ts : List Tok) (a b c d e : Bool) → has (codes "reftype") ts ≡ a → has (codes "iterator") ts ≡ b → has (codes "slot") ts ≡ c → has (codes "field") ts ≡ d → has (codes "export") ts ≡ e → statement_at line i ts ≡ statement_by line ts a b c d e
+  statement_is : (line : ℕ) (ts : List Tok) (a b c d e : Bool) → has (codes "reftype") ts ≡ a → has (codes "iterator") ts ≡ b → has (codes "slot") ts ≡ c → has (codes "field") ts ≡ d → has (codes "export") ts ≡ e → statement_at v line i ts ≡ statement_by line ts a b c d e
   unfolding statement_at
   statement_is line ts a b c d e ha hb hc hd he =
       ap (λ x. statement_by line ts x (has (codes "iterator") ts) (has (codes "slot") ts) (has (codes "field") ts) (has (codes "export") ts)) ha
@@ -187,37 +188,37 @@ module _ (i : Interface) where
   word_behind : (text : List ℕ) (q : Part) (ts us : List Tok) → (Is text then q) ts → behind_word text q ts us
   word_behind text q ts us (f, b, (t, h, g), p, w) = (t, b, h, p, ap (λ x. x ++ us) (w ∙ ap (λ x. x ++ b) g))
 
-  at_iterator : (line : ℕ) (ts : List Tok) → has (codes "iterator") ts ≡ true → statement_at line i ts ≡ iterator_at line i (behind ts)
+  at_iterator : (line : ℕ) (ts : List Tok) → has (codes "iterator") ts ≡ true → statement_at v line i ts ≡ iterator_at v line i (behind ts)
   at_iterator line ts h = statement_is line ts false true (has (codes "slot") ts) (has (codes "field") ts) (has (codes "export") ts) (other_text (codes "iterator") (codes "reftype") ts h refl) h refl refl refl
 
-  at_slot : (line : ℕ) (ts : List Tok) → has (codes "slot") ts ≡ true → statement_at line i ts ≡ slot_at line i (behind ts)
+  at_slot : (line : ℕ) (ts : List Tok) → has (codes "slot") ts ≡ true → statement_at v line i ts ≡ slot_at v line i (behind ts)
   at_slot line ts h = statement_is line ts false false true (has (codes "field") ts) (has (codes "export") ts) (other_text (codes "slot") (codes "reftype") ts h refl) (other_text (codes "slot") (codes "iterator") ts h refl) h refl refl
 
-  at_field : (line : ℕ) (ts : List Tok) → has (codes "field") ts ≡ true → statement_at line i ts ≡ field_at line i (behind ts)
+  at_field : (line : ℕ) (ts : List Tok) → has (codes "field") ts ≡ true → statement_at v line i ts ≡ field_at line i (behind ts)
   at_field line ts h =
       statement_is line ts false false false true (has (codes "export") ts) (other_text (codes "field") (codes "reftype") ts h refl) (other_text (codes "field") (codes "iterator") ts h refl) (other_text (codes "field") (codes "slot") ts h refl) h refl
 
-  at_export : (line : ℕ) (ts : List Tok) → has (codes "export") ts ≡ true → statement_at line i ts ≡ export_at line i (behind ts)
+  at_export : (line : ℕ) (ts : List Tok) → has (codes "export") ts ≡ true → statement_at v line i ts ≡ export_at v line i (behind ts)
   at_export line ts h =
       statement_is line ts false false false false true (other_text (codes "export") (codes "reftype") ts h refl) (other_text (codes "export") (codes "iterator") ts h refl) (other_text (codes "export") (codes "slot") ts h refl) (other_text (codes "export") (codes "field") ts h refl) h
 
   -- the tokens of a statement are read as it, where no further clause follows
-  pub statement_read : (line : ℕ) (s : Statement) (ts us : List Tok) → begins_clause us ≡ false → IsInLine line s → IsStatement i s ts → statement_at line i (ts ++ us) ≡ Ok (with_statement i s, us)
+  pub statement_read : (line : ℕ) (s : Statement) (ts us : List Tok) → begins_clause us ≡ false → IsInLine line s → IsStatement v i s ts → statement_at v line i (ts ++ us) ≡ Ok (with_statement i s, us)
   statement_read line (OfReftype name) ts us h l is =
       let (t, vs, o, p, w) = word_behind (codes "reftype") _ ts us is in
-      ap (statement_at line i) w ∙ statement_is line (t ∷ (vs ++ us)) true (has (codes "iterator") (t ∷ (vs ++ us))) (has (codes "slot") (t ∷ (vs ++ us))) (has (codes "field") (t ∷ (vs ++ us))) (has (codes "export") (t ∷ (vs ++ us))) o refl refl refl refl ∙ reftype_read name vs us p
+      ap (statement_at v line i) w ∙ statement_is line (t ∷ (vs ++ us)) true (has (codes "iterator") (t ∷ (vs ++ us))) (has (codes "slot") (t ∷ (vs ++ us))) (has (codes "field") (t ∷ (vs ++ us))) (has (codes "export") (t ∷ (vs ++ us))) o refl refl refl refl ∙ reftype_read name vs us p
   statement_read line (OfIterator x) ts us h l is =
       let (t, vs, o, p, w) = word_behind (codes "iterator") _ ts us is in
-      ap (statement_at line i) w ∙ at_iterator line (t ∷ (vs ++ us)) o ∙ subst (λ n. iterator_at n i (vs ++ us) ≡ Ok (with_iterator i x, us)) l (iterator_read x vs us p)
+      ap (statement_at v line i) w ∙ at_iterator line (t ∷ (vs ++ us)) o ∙ subst (λ n. iterator_at v n i (vs ++ us) ≡ Ok (with_iterator i x, us)) l (iterator_read x vs us p)
   statement_read line (OfSlot x) ts us h l is =
       let (t, vs, o, p, w) = word_behind (codes "slot") _ ts us is in
-      ap (statement_at line i) w ∙ at_slot line (t ∷ (vs ++ us)) o ∙ subst (λ n. slot_at n i (vs ++ us) ≡ Ok (with_slot i x, us)) l (slot_read x vs us h p)
+      ap (statement_at v line i) w ∙ at_slot line (t ∷ (vs ++ us)) o ∙ subst (λ n. slot_at v n i (vs ++ us) ≡ Ok (with_slot i x, us)) l (slot_read x vs us h p)
   statement_read line (OfField x) ts us h l is =
       let (t, vs, o, p, w) = word_behind (codes "field") _ ts us is in
-      ap (statement_at line i) w ∙ at_field line (t ∷ (vs ++ us)) o ∙ subst (λ n. field_at n i (vs ++ us) ≡ Ok (with_field i x, us)) l (field_read x vs us p)
+      ap (statement_at v line i) w ∙ at_field line (t ∷ (vs ++ us)) o ∙ subst (λ n. field_at n i (vs ++ us) ≡ Ok (with_field i x, us)) l (field_read x vs us p)
   statement_read line (OfExport x) ts us h l is =
       let (t, vs, o, p, w) = word_behind (codes "export") _ ts us is in
-      ap (statement_at line i) w ∙ at_export line (t ∷ (vs ++ us)) o ∙ subst (λ n. export_at n i (vs ++ us) ≡ Ok (with_export i x, us)) l (export_read x vs us h p)
+      ap (statement_at v line i) w ∙ at_export line (t ∷ (vs ++ us)) o ∙ subst (λ n. export_at v n i (vs ++ us) ≡ Ok (with_export i x, us)) l (export_read x vs us h p)
 
   -- What is read as a statement is in the grammar.
 
@@ -226,35 +227,35 @@ module _ (i : Interface) where
     pub in_line : IsInLine line statement
     pub made : j ≡ with_statement i statement
     pub front : List Tok
-    pub is : IsStatement i statement front
+    pub is : IsStatement v i statement front
     pub whole : ts ≡ front ++ us
 
   abbrev IteratorParts : ℕ → Interface → Part
-  IteratorParts line = Joint (IsFresh (iterator_names i)) (λ n. Mapped (λ (items : List Item). with_iterator i (record { name = n; items = items; line = line })) (IsIteratorBody (known_in i)))
+  IteratorParts line = Joint (IsFresh (iterator_names i)) (λ n. Mapped (λ (items : List Item). with_iterator i (record { name = n; items = items; line = line })) (IsIteratorBody (known_in v i)))
 
-  iterator_found : (line : ℕ) → Finds (iterator_at line i) (IteratorParts line)
+  iterator_found : (line : ℕ) → Finds (iterator_at v line i) (IteratorParts line)
   unfolding iterator_at
   iterator_found line =
-      bind_finds (fresh_at (iterator_names i)) (λ n. iterator_body_at (known_in i) n.1 >>= λ items. Ok (with_iterator i (record { name = n.0; items = items.0; line = line }), items.1)) (IsFresh (iterator_names i)) _ (fresh_found (iterator_names i))
-      (λ n. last_finds (iterator_body_at (known_in i)) (λ items. with_iterator i (record { name = n; items = items; line = line })) (IsIteratorBody (known_in i)) (body_found (known_in i)))
+      bind_finds (fresh_at (iterator_names i)) (λ n. iterator_body_at (known_in v i) n.1 >>= λ items. Ok (with_iterator i (record { name = n.0; items = items.0; line = line }), items.1)) (IsFresh (iterator_names i)) _ (fresh_found (iterator_names i))
+      (λ n. last_finds (iterator_body_at (known_in v i)) (λ items. with_iterator i (record { name = n; items = items; line = line })) (IsIteratorBody (known_in v i)) (body_found (known_in v i)))
 
   abbrev SlotParts : ℕ → Interface → Part
-  SlotParts line = Joint (IsFresh (slot_names i)) (λ n. Mapped (λ (c : Callable). with_slot i (slot_of n line c)) (λ c. IsCallable (known_in i) c.signature c.annotation))
+  SlotParts line = Joint (IsFresh (slot_names i)) (λ n. Mapped (λ (c : Callable). with_slot i (slot_of n line c)) (λ c. IsCallable (known_in v i) c.signature c.annotation))
 
-  slot_found : (line : ℕ) → Finds (slot_at line i) (SlotParts line)
+  slot_found : (line : ℕ) → Finds (slot_at v line i) (SlotParts line)
   unfolding slot_at
   slot_found line =
-      bind_finds (fresh_at (slot_names i)) (λ n. callable_at (known_in i) n.1 >>= λ f. Ok (with_slot i (slot_of n.0 line f.0), f.1)) (IsFresh (slot_names i)) _ (fresh_found (slot_names i))
-      (λ n. last_finds (callable_at (known_in i)) (λ f. with_slot i (slot_of n line f)) (λ c. IsCallable (known_in i) c.signature c.annotation) (callable_found (known_in i)))
+      bind_finds (fresh_at (slot_names i)) (λ n. callable_at (known_in v i) n.1 >>= λ f. Ok (with_slot i (slot_of n.0 line f.0), f.1)) (IsFresh (slot_names i)) _ (fresh_found (slot_names i))
+      (λ n. last_finds (callable_at (known_in v i)) (λ f. with_slot i (slot_of n line f)) (λ c. IsCallable (known_in v i) c.signature c.annotation) (callable_found (known_in v i)))
 
   abbrev ExportParts : ℕ → Interface → Part
-  ExportParts line = Joint (IsFresh (export_names i)) (λ n. Mapped (λ (c : Callable). with_export i (export_of n line c)) (λ c. IsCallable (known_in i) c.signature c.annotation))
+  ExportParts line = Joint (IsFresh (export_names i)) (λ n. Mapped (λ (c : Callable). with_export i (export_of n line c)) (λ c. IsCallable (known_in v i) c.signature c.annotation))
 
-  export_found : (line : ℕ) → Finds (export_at line i) (ExportParts line)
+  export_found : (line : ℕ) → Finds (export_at v line i) (ExportParts line)
   unfolding export_at
   export_found line =
-      bind_finds (fresh_at (export_names i)) (λ n. callable_at (known_in i) n.1 >>= λ f. Ok (with_export i (export_of n.0 line f.0), f.1)) (IsFresh (export_names i)) _ (fresh_found (export_names i))
-      (λ n. last_finds (callable_at (known_in i)) (λ f. with_export i (export_of n line f)) (λ c. IsCallable (known_in i) c.signature c.annotation) (callable_found (known_in i)))
+      bind_finds (fresh_at (export_names i)) (λ n. callable_at (known_in v i) n.1 >>= λ f. Ok (with_export i (export_of n.0 line f.0), f.1)) (IsFresh (export_names i)) _ (fresh_found (export_names i))
+      (λ n. last_finds (callable_at (known_in v i)) (λ f. with_export i (export_of n line f)) (λ c. IsCallable (known_in v i) c.signature c.annotation) (callable_found (known_in v i)))
 
   abbrev NewIndex : List ℕ → ℕ → Part
   NewIndex struct n ts = (is_typed i struct n ≡ false) × IsIndex n ts
@@ -284,7 +285,7 @@ module _ (i : Interface) where
       (λ c. last_finds (known_at (slot_names i)) (λ t. with_field i (field_of s k t line)) (IsKnown (slot_names i)) (pick_finds (λ t. known_of (slot_names i) t.kind t.bytes) (unless_word Unknown)))))
 
   -- a statement, from what is found behind its word
-  behind_found : (line : ℕ) (j : Interface) (text : List ℕ) (ts us : List Tok) (s : Statement) (q : Part) → ((k : Tok) (vs : List Tok) → has text (k ∷ []) ≡ true → q vs → IsStatement i s (k ∷ vs)) → IsInLine line s → j ≡ with_statement i s → has text ts ≡ true → (vs : List Tok) → q vs → behind ts ≡ vs ++ us → FoundStatement line j ts us
+  behind_found : (line : ℕ) (j : Interface) (text : List ℕ) (ts us : List Tok) (s : Statement) (q : Part) → ((k : Tok) (vs : List Tok) → has text (k ∷ []) ≡ true → q vs → IsStatement v i s (k ∷ vs)) → IsInLine line s → j ≡ with_statement i s → has text ts ≡ true → (vs : List Tok) → q vs → behind ts ≡ vs ++ us → FoundStatement line j ts us
   behind_found line j text ts us s q make l m h vs p w =
       let n = next_token text ts h in
       record { statement = s; in_line = l; made = m; front = n.token ∷ vs; is = make n.token vs n.is p; whole = n.whole ∙ ap (λ x. n.token ∷ x) w }
@@ -300,15 +301,15 @@ module _ (i : Interface) where
 
   iterator_made : (line : ℕ) (j : Interface) (ts us : List Tok) → has (codes "iterator") ts ≡ true → FoundBehind (IteratorParts line) j ts us → FoundStatement line j ts us
   iterator_made line j ts us h (front, (n, (f, b, pn, (items, is, eq), e)), w) =
-      behind_found line j (codes "iterator") ts us (OfIterator (record { name = n; items = items; line = line })) (IsFresh (iterator_names i) n then IsIteratorBody (known_in i) items) (λ k vs o p. (k ∷ [], vs, (k, o, refl), p, refl)) refl (sym eq) h front (f, b, pn, is, e) w
+      behind_found line j (codes "iterator") ts us (OfIterator (record { name = n; items = items; line = line })) (IsFresh (iterator_names i) n then IsIteratorBody (known_in v i) items) (λ k vs o p. (k ∷ [], vs, (k, o, refl), p, refl)) refl (sym eq) h front (f, b, pn, is, e) w
 
   slot_made : (line : ℕ) (j : Interface) (ts us : List Tok) → has (codes "slot") ts ≡ true → FoundBehind (SlotParts line) j ts us → FoundStatement line j ts us
   slot_made line j ts us h (front, (n, (f, b, pn, (c, is, eq), e)), w) =
-      behind_found line j (codes "slot") ts us (OfSlot (slot_of n line c)) (IsFresh (slot_names i) n then IsCallable (known_in i) c.signature c.annotation) (λ k vs o p. (k ∷ [], vs, (k, o, refl), p, refl)) refl (sym eq) h front (f, b, pn, is, e) w
+      behind_found line j (codes "slot") ts us (OfSlot (slot_of n line c)) (IsFresh (slot_names i) n then IsCallable (known_in v i) c.signature c.annotation) (λ k vs o p. (k ∷ [], vs, (k, o, refl), p, refl)) refl (sym eq) h front (f, b, pn, is, e) w
 
   export_made : (line : ℕ) (j : Interface) (ts us : List Tok) → has (codes "export") ts ≡ true → FoundBehind (ExportParts line) j ts us → FoundStatement line j ts us
   export_made line j ts us h (front, (n, (f, b, pn, (c, is, eq), e)), w) =
-      behind_found line j (codes "export") ts us (OfExport (export_of n line c)) (IsFresh (export_names i) n then IsCallable (known_in i) c.signature c.annotation) (λ k vs o p. (k ∷ [], vs, (k, o, refl), p, refl)) refl (sym eq) h front (f, b, pn, is, e) w
+      behind_found line j (codes "export") ts us (OfExport (export_of n line c)) (IsFresh (export_names i) n then IsCallable (known_in v i) c.signature c.annotation) (λ k vs o p. (k ∷ [], vs, (k, o, refl), p, refl)) refl (sym eq) h front (f, b, pn, is, e) w
 
   field_made : (line : ℕ) (j : Interface) (ts us : List Tok) → has (codes "field") ts ≡ true → FoundBehind (FieldParts line) j ts us → FoundStatement line j ts us
   field_made line j ts us h (front, (s, (f, b, ps, (k, (f1, b1, (new, pk), (c, (f2, b2, pc, (t, pt, eq), w2)), w1)), w)), e) =
@@ -326,6 +327,6 @@ module _ (i : Interface) where
   statement_step line j ts us false false false false true ha hb hc hd he r = export_made line j ts us he (export_found line (behind ts) us j r)
   statement_step line j ts us false false false false false ha hb hc hd he r = cc
 
-  pub statement_found : (line : ℕ) (j : Interface) (ts us : List Tok) → statement_at line i ts ≡ Ok (j, us) → FoundStatement line j ts us
+  pub statement_found : (line : ℕ) (j : Interface) (ts us : List Tok) → statement_at v line i ts ≡ Ok (j, us) → FoundStatement line j ts us
   statement_found line j ts us r =
       statement_step line j ts us (has (codes "reftype") ts) (has (codes "iterator") ts) (has (codes "slot") ts) (has (codes "field") ts) (has (codes "export") ts) refl refl refl refl refl (sym (statement_is line ts (has (codes "reftype") ts) (has (codes "iterator") ts) (has (codes "slot") ts) (has (codes "field") ts) (has (codes "export") ts) refl refl refl refl refl) ∙ r)

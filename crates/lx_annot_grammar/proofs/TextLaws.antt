@@ -1,6 +1,6 @@
 -- Whole texts: reading and the grammar agree.
 use Rattle.std.proofs.Common.{◌≡◌, ℕ, zero, suc, ◌+◌, ◌-◌, ◌≤◌, ◌<◌, min, Bool, true, false, Option, Some, None, List, [], ◌∷◌, ◌++◌, length, take, drop, Result, Ok, Err, refl, sym, ap, ◌∙◌, subst, bytes_eq, codes, arith}
-use Rattle.std.specs.Prelude.{◌||◌}
+use Rattle.std.specs.Prelude.{if◌then◌else◌, ◌||◌}
 use Rattle.std.proofs.lemmas.List.{length-append, length-map, length-take, map-append, take-map, take-take, take_at, drop_at, take-append-drop}
 use Rattle.lx_words.specs.declared.token.TokenRule.TheVariants as rules
 use Rattle.lx_words.specs.declared.token.Token.{Token}
@@ -8,18 +8,21 @@ use Rattle.lx_words.specs.declared.token.Stop.{Stop}
 use Rattle.lx_words.specs.Cuts.{OneWay, Scans}
 use Rattle.lx_annot.specs.declared.interface.Interface.{Interface}
 use Rattle.lx_annot_expressions.specs.Tokens.{Tok, tok_of, toks_of, most_tokens}
-use Rattle.lx_annot_expressions.specs.Reading.{Read, has, next_at}
+use Rattle.lx_annot_expressions.specs.Reading.{Read, refused, behind, has, next_at}
 use Rattle.lx_annot_expressions.specs.Grammar.{Part, Is, ◌then◌}
 use Rattle.lx_annot_expressions.specs.Laws.{Reads, Finds}
-use Rattle.lx_annot_expressions.proofs.Parts.{bind_reads, bind_finds, next_reads, next_finds, Joint}
+use Rattle.lx_annot_expressions.proofs.Parts.{ok_same as read_same, bind_reads, bind_finds, next_reads, next_finds, next_token, Joint}
 use Rattle.lx_annot_terms.specs.Clauses.{begins_clause}
 use Rattle.lx_annot_terms.proofs.ListReads.{other_text}
 use Rattle.lx_annot_read.specs.declared.fault.Met.{Met}
 use Rattle.lx_annot_read.specs.declared.fault.InterfaceFault.{InterfaceFault}
 use Rattle.lx_annot_read.specs.Faults.{lexical, answered}
-use Rattle.lx_annot_read.specs.Interfaces.{empty, head_at, statement_at}
+use Rattle.lx_annot_read.specs.declared.head.Version.{Version}
+use Rattle.lx_annot_read.specs.declared.head.Version.TheVariants as versions
+use Rattle.lx_annot_read.specs.Head.{version_at, head_at}
+use Rattle.lx_annot_read.specs.Interfaces.{empty, statement_at}
 use Rattle.lx_annot_read.specs.Texts.{window, rest_behind, seen, limited, first_at, next_at as next_statement_at, ◌and_then◌, body_at, ended, interface_at, SaysInterface, FirstInterfaceFault}
-use Rattle.lx_annot_grammar.specs.Statements.{Statement, OfReftype, OfIterator, OfSlot, OfField, OfExport, IsStatement, IsInLine, with_statement, Stands, AreStatements, IsHead, IsInterface}
+use Rattle.lx_annot_grammar.specs.Statements.{Statement, OfReftype, OfIterator, OfSlot, OfField, OfExport, IsStatement, IsInLine, with_statement, Stands, AreStatements, number_of_version, IsHead, IsInterface}
 use Rattle.lx_annot_grammar.proofs.StatementLaws.{statement_read, statement_found}
 
 -- Answers.
@@ -122,62 +125,110 @@ no_clause_word text ts a b c h =
     none_begins (has (codes "principal") ts) (has (codes "pre") ts) (has (codes "post") ts) (other_text text (codes "principal") ts h a) (other_text text (codes "pre") ts h b) (other_text text (codes "post") ts h c)
 
 -- a statement begins with no clause
-statement_begins : (i : Interface) (s : Statement) (u : Tok) (us : List Tok) → IsStatement i s (u ∷ us) → begins_clause (u ∷ us) ≡ false
-statement_begins i (OfReftype x) u us is = no_clause_word (codes "reftype") (u ∷ us) refl refl refl (first_has (codes "reftype") _ u us is)
-statement_begins i (OfIterator x) u us is = no_clause_word (codes "iterator") (u ∷ us) refl refl refl (first_has (codes "iterator") _ u us is)
-statement_begins i (OfSlot x) u us is = no_clause_word (codes "slot") (u ∷ us) refl refl refl (first_has (codes "slot") _ u us is)
-statement_begins i (OfField x) u us is = no_clause_word (codes "field") (u ∷ us) refl refl refl (first_has (codes "field") _ u us is)
-statement_begins i (OfExport x) u us is = no_clause_word (codes "export") (u ∷ us) refl refl refl (first_has (codes "export") _ u us is)
+statement_begins : (v : Version) (i : Interface) (s : Statement) (u : Tok) (us : List Tok) → IsStatement v i s (u ∷ us) → begins_clause (u ∷ us) ≡ false
+statement_begins v i (OfReftype x) u us is = no_clause_word (codes "reftype") (u ∷ us) refl refl refl (first_has (codes "reftype") _ u us is)
+statement_begins v i (OfIterator x) u us is = no_clause_word (codes "iterator") (u ∷ us) refl refl refl (first_has (codes "iterator") _ u us is)
+statement_begins v i (OfSlot x) u us is = no_clause_word (codes "slot") (u ∷ us) refl refl refl (first_has (codes "slot") _ u us is)
+statement_begins v i (OfField x) u us is = no_clause_word (codes "field") (u ∷ us) refl refl refl (first_has (codes "field") _ u us is)
+statement_begins v i (OfExport x) u us is = no_clause_word (codes "export") (u ∷ us) refl refl refl (first_has (codes "export") _ u us is)
 
 word_some : (text : List ℕ) (q : Part) → (Is text then q) [] → ⊥
 word_some text q (f, b, (t, h, g), p, w) = let e : [] ≡ t ∷ b = w ∙ ap (λ x. x ++ b) g in cc
 
 -- and has a token
-statement_some : (i : Interface) (s : Statement) → IsStatement i s [] → ⊥
-statement_some i (OfReftype x) is = word_some (codes "reftype") _ is
-statement_some i (OfIterator x) is = word_some (codes "iterator") _ is
-statement_some i (OfSlot x) is = word_some (codes "slot") _ is
-statement_some i (OfField x) is = word_some (codes "field") _ is
-statement_some i (OfExport x) is = word_some (codes "export") _ is
+statement_some : (v : Version) (i : Interface) (s : Statement) → IsStatement v i s [] → ⊥
+statement_some v i (OfReftype x) is = word_some (codes "reftype") _ is
+statement_some v i (OfIterator x) is = word_some (codes "iterator") _ is
+statement_some v i (OfSlot x) is = word_some (codes "slot") _ is
+statement_some v i (OfField x) is = word_some (codes "field") _ is
+statement_some v i (OfExport x) is = word_some (codes "export") _ is
 
-module _ (text : List ℕ) where
+-- The first line.
+
+abbrev version_by : List Tok → Bool → Bool → Read Version
+version_by ts a b =
+    if a then Ok (versions.One, behind ts)
+    else if b then Ok (versions.Two, behind ts)
+    else refused ts
+
+version_read : (v : Version) → Reads version_at v (Is (number_of_version v))
+version_read versions.One ts us (t, h, g) =
+    subst (λ x. version_at (x ++ us) ≡ Ok (versions.One, us)) (sym g) (ap (λ a. version_by (t ∷ us) a (has (codes "2") (t ∷ us))) h)
+version_read versions.Two ts us (t, h, g) =
+    let no : has (codes "1") (t ∷ us) ≡ false = other_text (codes "2") (codes "1") (t ∷ us) h refl in
+    subst (λ x. version_at (x ++ us) ≡ Ok (versions.Two, us)) (sym g)
+    (ap (λ a. version_by (t ∷ us) a (has (codes "2") (t ∷ us))) no ∙ ap (version_by (t ∷ us) false) h)
+
+version_step : (ts us : List Tok) (v : Version) (a b : Bool) → has (codes "1") ts ≡ a → has (codes "2") ts ≡ b → version_by ts a b ≡ Ok (v, us) → (front : List Tok) × Is (number_of_version v) front × (ts ≡ front ++ us)
+version_step ts us v true b ha hb r =
+    let k = read_same versions.One v (behind ts) us r in
+    let n = next_token (codes "1") ts ha in
+    (n.token ∷ [], subst (λ z. Is (number_of_version z) (n.token ∷ [])) k.0 (n.token, n.is, refl), n.whole ∙ ap (λ x. n.token ∷ x) k.1)
+version_step ts us v false true ha hb r =
+    let k = read_same versions.Two v (behind ts) us r in
+    let n = next_token (codes "2") ts hb in
+    (n.token ∷ [], subst (λ z. Is (number_of_version z) (n.token ∷ [])) k.0 (n.token, n.is, refl), n.whole ∙ ap (λ x. n.token ∷ x) k.1)
+version_step ts us v false false ha hb r = cc
+
+version_found : Finds version_at (λ v. Is (number_of_version v))
+version_found ts us v r = version_step ts us v (has (codes "1") ts) (has (codes "2") ts) refl refl r
+
+head_read : (v : Version) → Reads head_at v (IsHead v)
+unfolding head_at
+head_read v = bind_reads (next_at (codes "interface")) (λ w. version_at w.1) tt v _ _ (next_reads (codes "interface")) (version_read v)
+
+head_length : (v : Version) (ts : List Tok) → IsHead v ts → length ts ≡ 2
+head_length v ts (f, b, (t, h, g), (u, k, l), w) = ap length (w ∙ ap (λ x. x ++ b) g ∙ ap (λ x. t ∷ x) l)
+
+abbrev HeadParts : Version → Part
+HeadParts = Joint (λ (w : Unit {0}). Is (codes "interface")) (λ w. λ (x : Version). Is (number_of_version x))
+
+head_part : (v : Version) (ts : List Tok) → HeadParts v ts → IsHead v ts
+head_part v ts (w, is) = is
+
+head_found : Finds head_at HeadParts
+unfolding head_at
+head_found =
+    bind_finds (next_at (codes "interface")) (λ w. version_at w.1) (λ (w : Unit {0}). Is (codes "interface")) (λ w. λ (x : Version). Is (number_of_version x)) (next_finds (codes "interface")) (λ w. version_found)
+
+module _ (text : List ℕ) (v : Version) where
   abbrev Says : Interface → List Statement → Interface → List Token → Type 0
-  Says i ss j tokens = AreStatements text i ss j tokens
+  Says i ss j tokens = AreStatements text v i ss j tokens
 
   taken_none : (k : ℕ) (back : List Token) → back ≡ [] → begins_clause (toks_of text (take k back)) ≡ false
   taken_none zero back e = refl
   taken_none (suc k) back e = subst (λ x. begins_clause (toks_of text (take (suc k) x)) ≡ false) (sym e) refl
 
-  taken_first : (k : ℕ) (i : Interface) (s : Statement) (t : Token) (more : List Token) → IsStatement i s (toks_of text (t ∷ more)) → (back rest : List Token) → back ≡ (t ∷ more) ++ rest → begins_clause (toks_of text (take k back)) ≡ false
+  taken_first : (k : ℕ) (i : Interface) (s : Statement) (t : Token) (more : List Token) → IsStatement v i s (toks_of text (t ∷ more)) → (back rest : List Token) → back ≡ (t ∷ more) ++ rest → begins_clause (toks_of text (take k back)) ≡ false
   taken_first zero i s t more is back rest e = refl
   taken_first (suc k) i s t more is back rest e =
-      subst (λ x. begins_clause (toks_of text (take (suc k) x)) ≡ false) (sym e) (statement_begins i s (tok_of text t) (toks_of text more) is)
+      subst (λ x. begins_clause (toks_of text (take (suc k) x)) ≡ false) (sym e) (statement_begins v i s (tok_of text t) (toks_of text more) is)
 
   -- no clause stands where statements begin, or nothing does
   taken : (k : ℕ) (i j : Interface) (ss : List Statement) (back : List Token) → Says i ss j back → begins_clause (toks_of text (take k back)) ≡ false
   taken k i j [] back (same, e) = taken_none k back e
   taken k i j (s ∷ ss) back (front, rest, stands, are, e) =
-      taken_first k i s stands.first stands.more (subst (λ x. IsStatement i s (toks_of text x)) stands.whole stands.is) back rest (e ∙ ap (λ x. x ++ rest) stands.whole)
+      taken_first k i s stands.first stands.more (subst (λ x. IsStatement v i s (toks_of text x)) stands.whole stands.is) back rest (e ∙ ap (λ x. x ++ rest) stands.whole)
 
   -- Statements are read.
 
-  one_read : (i j : Interface) (s : Statement) (ss : List Statement) (front back : List Token) (t : Token) → Stands text i s front → Says (with_statement i s) ss j back → IsInLine t.line s → next_statement_at text None t.line i (front ++ back) ≡ Ok (with_statement i s, back)
+  one_read : (i j : Interface) (s : Statement) (ss : List Statement) (front back : List Token) (t : Token) → Stands text v i s front → Says (with_statement i s) ss j back → IsInLine t.line s → next_statement_at text None v t.line i (front ++ back) ≡ Ok (with_statement i s, back)
   unfolding next_statement_at
   one_read i j s ss front back t stands are line =
-      limited_read text None (statement_at t.line i) (with_statement i s) front back stands.short
-      (statement_read i t.line s (toks_of text front) (further text None front back) (taken (room text None front) (with_statement i s) j ss back are) line stands.is)
+      limited_read text None (statement_at v t.line i) (with_statement i s) front back stands.short
+      (statement_read v i t.line s (toks_of text front) (further text None front back) (taken (room text None front) (with_statement i s) j ss back are) line stands.is)
 
-  step : (n : ℕ) (i j : Interface) (t : Token) (more rest : List Token) → next_statement_at text None t.line i (t ∷ more) ≡ Ok (j, rest) → body_at text None (suc n) i (t ∷ more) ≡ body_at text None n j rest
+  step : (n : ℕ) (i j : Interface) (t : Token) (more rest : List Token) → next_statement_at text None v t.line i (t ∷ more) ≡ Ok (j, rest) → body_at text None v (suc n) i (t ∷ more) ≡ body_at text None v n j rest
   unfolding body_at
   step n i j t more rest h = rw h refl
 
-  at_end : (n : ℕ) (i : Interface) → body_at text None n i [] ≡ Ok i
+  at_end : (n : ℕ) (i : Interface) → body_at text None v n i [] ≡ Ok i
   unfolding body_at
   at_end zero i = refl
   at_end (suc n) i = refl
 
-  body_read : (n : ℕ) (i j : Interface) (ss : List Statement) (tokens : List Token) → length tokens ≤ n → Says i ss j tokens → body_at text None n i tokens ≡ Ok j
-  body_read n i j [] tokens le (same, e) = ap (body_at text None n i) e ∙ at_end n i ∙ ap Ok same
+  body_read : (n : ℕ) (i j : Interface) (ss : List Statement) (tokens : List Token) → length tokens ≤ n → Says i ss j tokens → body_at text None v n i tokens ≡ Ok j
+  body_read n i j [] tokens le (same, e) = ap (body_at text None v n i) e ∙ at_end n i ∙ ap Ok same
   body_read zero i j (s ∷ ss) tokens le (front, back, stands, are, e) =
       let size : length tokens ≡ suc (length (stands.more ++ back)) = ap length (e ∙ ap (λ x. x ++ back) stands.whole) in
       absurd (omega (arith, size, le))
@@ -186,119 +237,105 @@ module _ (text : List ℕ) where
       let size : length tokens ≡ suc (length (stands.more ++ back)) = ap length (e ∙ all) in
       let more : length (stands.more ++ back) ≡ length stands.more + length back = length-append stands.more back in
       let one = one_read i j s ss front back stands.first stands are stands.line in
-      ap (body_at text None (suc n) i) (e ∙ all)
-      ∙ step n i (with_statement i s) stands.first (stands.more ++ back) back (subst (λ x. next_statement_at text None stands.first.line i x ≡ Ok (with_statement i s, back)) all one)
+      ap (body_at text None v (suc n) i) (e ∙ all)
+      ∙ step n i (with_statement i s) stands.first (stands.more ++ back) back (subst (λ x. next_statement_at text None v stands.first.line i x ≡ Ok (with_statement i s, back)) all one)
       ∙ body_read n (with_statement i s) j ss back (omega (arith, size, more, le)) are
 
-  head_read : Reads head_at tt IsHead
-  unfolding head_at
-  head_read = bind_reads (next_at (codes "interface")) (λ w. next_at (codes "1") w.1) tt tt _ _ (next_reads (codes "interface")) (next_reads (codes "1"))
-
-  head_length : (ts : List Tok) → IsHead ts → length ts ≡ 2
-  head_length ts (f, b, (t, h, g), (u, k, l), w) = ap length (w ∙ ap (λ x. x ++ b) g ∙ ap (λ x. t ∷ x) l)
-
-  first_read : (head body : List Token) → IsHead (toks_of text head) → first_at text None (head ++ body) ≡ Ok (tt, body)
+  first_read : (head body : List Token) → IsHead v (toks_of text head) → first_at text None (head ++ body) ≡ Ok (v, body)
   unfolding first_at
   first_read head body is =
       let a : length (toks_of text head) ≡ length head = length-map head (tok_of text) in
-      let b = head_length (toks_of text head) is in
+      let b = head_length v (toks_of text head) is in
       let le : length head ≤ most_tokens = omega (arith, a, b) in
-      limited_read text None head_at tt head body le (head_read (toks_of text head) (further text None head body) is)
+      limited_read text None head_at v head body le (head_read v (toks_of text head) (further text None head body) is)
 
-  all_read : (tokens body : List Token) (i : Interface) → first_at text None tokens ≡ Ok (tt, body) → body_at text None (length body) empty body ≡ Ok i → interface_at text None tokens ≡ Ok i
+  all_read : (tokens body : List Token) (i : Interface) → first_at text None tokens ≡ Ok (v, body) → body_at text None v (length body) empty body ≡ Ok i → interface_at text None tokens ≡ Ok i
   unfolding interface_at
   all_read tokens body i f e = rw (f, e) refl
-
-  -- a text that is an interface is read as it
-  pub interface_read : (i : Interface) → IsInterface text i → SaysInterface text i
-  interface_read i is =
-      (is.tokens, None, is.scans, all_read is.tokens is.body i (ap (first_at text None) is.whole ∙ first_read is.head is.body is.begins) (body_read (length is.body) empty i is.statements is.body (omega arith) is.are))
 
   -- Statements are found.
 
   line_of_first : (t u : Token) (s : Statement) (ts us : List Token) → t ∷ ts ≡ u ∷ us → IsInLine t.line s → IsInLine u.line s
-  line_of_first t u s ts us e h = let same : t ≡ u = cc in subst (λ (v : Token). IsInLine v.line s) same h
+  line_of_first t u s ts us e h = let same : t ≡ u = cc in subst (λ (x : Token). IsInLine x.line s) same h
 
   -- a statement, and the tokens behind it
   record FoundNext (i j : Interface) (t : Token) (tokens rest : List Token) : Type 0 where
     statement : Statement
     front : List Token
-    stands : Stands text i statement front
+    stands : Stands text v i statement front
     made : j ≡ with_statement i statement
     whole : tokens ≡ front ++ rest
     shorter : length rest < length tokens
 
-  stands_by : (i : Interface) (s : Statement) (t : Token) (more front rest : List Token) → t ∷ more ≡ front ++ rest → length front ≤ most_tokens → IsInLine t.line s → IsStatement i s (toks_of text front) → Stands text i s front
-  stands_by i s t more [] rest e short line is = absurd (statement_some i s is)
+  stands_by : (i : Interface) (s : Statement) (t : Token) (more front rest : List Token) → t ∷ more ≡ front ++ rest → length front ≤ most_tokens → IsInLine t.line s → IsStatement v i s (toks_of text front) → Stands text v i s front
+  stands_by i s t more [] rest e short line is = absurd (statement_some v i s is)
   stands_by i s t more (u ∷ us) rest e short line is =
       record { first = u; more = us; whole = refl; short = short; line = line_of_first t u s more (us ++ rest) e line; is = is }
 
-  next_found : (i j : Interface) (t : Token) (more rest : List Token) → next_statement_at text None t.line i (t ∷ more) ≡ Ok (j, rest) → FoundNext i j t (t ∷ more) rest
+  next_found : (i j : Interface) (t : Token) (more rest : List Token) → next_statement_at text None v t.line i (t ∷ more) ≡ Ok (j, rest) → FoundNext i j t (t ∷ more) rest
   unfolding next_statement_at
   next_found i j t more rest e =
       let tokens = t ∷ more in
-      let (us, r, same) = limited_ok text None tokens j rest (statement_at t.line i (seen text tokens)) e in
-      let f = statement_found i t.line j (seen text tokens) us r in
-      let w = front_found text None (IsStatement i f.statement) tokens us f.front f.is f.whole in
+      let (us, r, same) = limited_ok text None tokens j rest (statement_at v t.line i (seen text tokens)) e in
+      let f = statement_found v i t.line j (seen text tokens) us r in
+      let w = front_found text None (IsStatement v i f.statement) tokens us f.front f.is f.whole in
       let whole : tokens ≡ w.front ++ rest = w.whole ∙ ap (λ x. w.front ++ x) same in
       let stands = stands_by i f.statement t more w.front rest whole w.short f.in_line w.is in
       let size : length tokens ≡ length w.front + length rest = ap length whole ∙ length-append w.front rest in
       let some : length w.front ≡ suc (length stands.more) = ap length stands.whole in
       record { statement = f.statement; front = w.front; stands = stands; made = f.made; whole = whole; shorter = omega (arith, size, some) }
 
-  body_found : (n : ℕ) (i j : Interface) (tokens : List Token) → length tokens ≤ n → body_at text None n i tokens ≡ Ok j → (ss : List Statement) × Says i ss j tokens
+  body_found : (n : ℕ) (i j : Interface) (tokens : List Token) → length tokens ≤ n → body_at text None v n i tokens ≡ Ok j → (ss : List Statement) × Says i ss j tokens
   unfolding body_at
   body_found zero i j [] le e = ([], (ok_same i j (Ok i) refl e, refl))
   body_found zero i j (t ∷ more) le e = absurd (omega (arith, le))
   body_found (suc n) i j [] le e = ([], (ok_same i j (Ok i) refl e, refl))
   body_found (suc n) i j (t ∷ more) le e =
-      let x = and_ok (next_statement_at text None t.line i (t ∷ more)) (λ k. body_at text None n k.0 k.1) j e in
+      let x = and_ok (next_statement_at text None v t.line i (t ∷ more)) (λ k. body_at text None v n k.0 k.1) j e in
       let f = next_found i x.0.0 t more x.0.1 x.1 in
       let s = f.shorter in
       let m = body_found n x.0.0 j x.0.1 (omega (arith, s, le)) x.2 in
       (f.statement ∷ m.0, (f.front, x.0.1, f.stands, subst (λ k. Says k m.0 j x.0.1) f.made m.1, f.whole))
 
-  abbrev HeadParts : Part
-  HeadParts = Joint (λ (w : Unit {0}). Is (codes "interface")) (λ w. λ (x : Unit {0}). Is (codes "1")) tt
-
-  head_part : (ts : List Tok) → HeadParts ts → IsHead ts
-  head_part ts (w, is) = is
-
-  head_found : Finds head_at (λ (x : Unit {0}). Joint (λ (w : Unit {0}). Is (codes "interface")) (λ w. λ (x : Unit {0}). Is (codes "1")) x)
-  unfolding head_at
-  head_found = bind_finds (next_at (codes "interface")) (λ w. next_at (codes "1") w.1) (λ (w : Unit {0}). Is (codes "interface")) (λ w. λ (x : Unit {0}). Is (codes "1")) (next_finds (codes "interface")) (λ w. next_finds (codes "1"))
-
-  first_found : (tokens body : List Token) → first_at text None tokens ≡ Ok (tt, body) → Front text None IsHead tokens body
+  first_found : (tokens body : List Token) → first_at text None tokens ≡ Ok (v, body) → Front text None (IsHead v) tokens body
   unfolding first_at
   first_found tokens body e =
-      let (us, r, same) = limited_ok text None tokens tt body (head_at (seen text tokens)) e in
-      let h = head_found (seen text tokens) us tt r in
-      subst (Front text None IsHead tokens) same (front_found text None IsHead tokens us h.0 (head_part h.0 h.1) h.2)
+      let (us, r, same) = limited_ok text None tokens v body (head_at (seen text tokens)) e in
+      let h = head_found (seen text tokens) us v r in
+      subst (Front text None (IsHead v) tokens) same (front_found text None (IsHead v) tokens us h.0 (head_part v h.0 h.1) h.2)
+
+module _ (text : List ℕ) where
+  -- a text that is an interface is read as it
+  pub interface_read : (i : Interface) → IsInterface text i → SaysInterface text i
+  interface_read i is =
+      (is.tokens, None, is.scans, all_read text is.version is.tokens is.body i (ap (first_at text None) is.whole ∙ first_read text is.version is.head is.body is.begins) (body_read text is.version (length is.body) empty i is.statements is.body (omega arith) is.are))
 
   record Parted (stop : Option Stop) (tokens : List Token) (i : Interface) : Type 0 where
     no_stop : stop ≡ None
+    version : Version
     body : List Token
-    head_is : first_at text None tokens ≡ Ok (tt, body)
-    body_is : body_at text None (length body) empty body ≡ Ok i
+    head_is : first_at text None tokens ≡ Ok (version, body)
+    body_is : body_at text None version (length body) empty body ≡ Ok i
 
   parted : (stop : Option Stop) (tokens : List Token) (i : Interface) → interface_at text stop tokens ≡ Ok i → Parted stop tokens i
   unfolding interface_at
   parted (Some s) tokens i e =
-      let h = and_ok (first_at text (Some s) tokens) (λ h. body_at text (Some s) (length h.1) empty h.1 and_then λ k. ended (Some s) k) i e in
-      let b = and_ok (body_at text (Some s) (length h.0.1) empty h.0.1) (λ k. ended (Some s) k) i h.2 in
+      let h = and_ok (first_at text (Some s) tokens) (λ h. body_at text (Some s) h.0 (length h.1) empty h.1 and_then λ k. ended (Some s) k) i e in
+      let b = and_ok (body_at text (Some s) h.0.0 (length h.0.1) empty h.0.1) (λ k. ended (Some s) k) i h.2 in
       absurd (apart i (lexical s) (Err (lexical s)) b.2 refl)
   parted None tokens i e =
-      let h = and_ok (first_at text None tokens) (λ h. body_at text None (length h.1) empty h.1 and_then λ k. ended None k) i e in
-      let b = and_ok (body_at text None (length h.0.1) empty h.0.1) (λ k. ended None k) i h.2 in
-      record { no_stop = refl; body = h.0.1; head_is = h.1; body_is = b.1 ∙ ap Ok (ok_same b.0 i (Ok b.0) refl b.2) }
+      let h = and_ok (first_at text None tokens) (λ h. body_at text None h.0 (length h.1) empty h.1 and_then λ k. ended None k) i e in
+      let b = and_ok (body_at text None h.0.0 (length h.0.1) empty h.0.1) (λ k. ended None k) i h.2 in
+      record { no_stop = refl; version = h.0.0; body = h.0.1; head_is = h.1; body_is = b.1 ∙ ap Ok (ok_same b.0 i (Ok b.0) refl b.2) }
 
   -- what is read of a text is an interface that it is
   pub interface_found : (i : Interface) → SaysInterface text i → IsInterface text i
   interface_found i (tokens, stop, scans, e) =
       let p = parted stop tokens i e in
-      let h = first_found tokens p.body p.head_is in
-      let b = body_found (length p.body) empty i p.body (omega arith) p.body_is in
+      let h = first_found text p.version tokens p.body p.head_is in
+      let b = body_found text p.version (length p.body) empty i p.body (omega arith) p.body_is in
       record {
+        version = p.version;
         tokens = tokens;
         scans = subst (Scans rules.Interface text tokens) p.no_stop scans;
         head = h.front;

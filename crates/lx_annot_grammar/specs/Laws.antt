@@ -12,6 +12,7 @@ use Rattle.lx_annot_terms.specs.Signatures.{Signature, signature_at}
 use Rattle.lx_annot_terms.specs.Clauses.{begins_clause, clauses_at}
 use Rattle.lx_annot_terms.specs.ItemReading.{items_at}
 use Rattle.lx_annot_read.specs.declared.fault.InterfaceFault.{InterfaceFault}
+use Rattle.lx_annot_read.specs.declared.head.Version.{Version}
 use Rattle.lx_annot_read.specs.Interfaces.{statement_at}
 use Rattle.lx_annot_read.specs.Texts.{SaysInterface, FirstInterfaceFault}
 use Rattle.lx_annot_grammar.specs.Parts.{IsSignature, IsItems, IsAnnotation}
@@ -31,7 +32,7 @@ AnnotationsAreRead =
 
 abbrev pub StatementsAreRead : Type 0
 StatementsAreRead =
-    (line : ℕ) (i : Interface) (s : Statement) (ts us : List Tok) → begins_clause us ≡ false → IsInLine line s → IsStatement i s ts → statement_at line i (ts ++ us) ≡ Ok (with_statement i s, us)
+    (v : Version) (line : ℕ) (i : Interface) (s : Statement) (ts us : List Tok) → begins_clause us ≡ false → IsInLine line s → IsStatement v i s ts → statement_at v line i (ts ++ us) ≡ Ok (with_statement i s, us)
 
 -- What is read as a signature, as items or as an annotation are its tokens.
 abbrev pub SignaturesAreFound : Type 0
@@ -46,7 +47,7 @@ AnnotationsAreFound = (sig : Signature) (known : Known) → Finds (clauses_at si
 -- What is read as a statement are the tokens of one that stands in this line.
 abbrev pub StatementsAreFound : Type 0
 StatementsAreFound =
-    (line : ℕ) (i j : Interface) (ts us : List Tok) → statement_at line i ts ≡ Ok (j, us) → (s : Statement) × IsInLine line s × (j ≡ with_statement i s) × (front : List Tok) × IsStatement i s front × (ts ≡ front ++ us)
+    (v : Version) (line : ℕ) (i j : Interface) (ts us : List Tok) → statement_at v line i ts ≡ Ok (j, us) → (s : Statement) × IsInLine line s × (j ≡ with_statement i s) × (front : List Tok) × IsStatement v i s front × (ts ≡ front ++ us)
 
 -- A text that is an interface is read as it, and what is read of a text is an interface that it is.
 abbrev pub InterfacesAreRead : Type 0

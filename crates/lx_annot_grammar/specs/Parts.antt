@@ -6,7 +6,7 @@ use Rattle.lx_annot.specs.declared.interface.Item.{Item}
 use Rattle.lx_annot.specs.declared.action.Who.{Who}
 use Rattle.lx_annot.specs.declared.action.Who.TheVariants as who
 use Rattle.lx_annot.specs.declared.action.Annotation.{Annotation}
-use Rattle.lx_annot.specs.Action.{Action}
+use Rattle.lx_annot.specs.Action.{Action, with_end}
 use Rattle.lx_annot_expressions.specs.Tokens.{Tok}
 use Rattle.lx_annot_expressions.specs.Reading.{has}
 use Rattle.lx_annot_expressions.specs.Names.{fresh_of}
@@ -14,7 +14,7 @@ use Rattle.lx_annot_expressions.specs.Exprs.{Scope, names_of_params}
 use Rattle.lx_annot_expressions.specs.Grammar.{Part, Picks, Is, IsNothing, ◌then◌, IsExpr}
 use Rattle.lx_annot_terms.specs.Lists.{Known}
 use Rattle.lx_annot_terms.specs.Signatures.{Signature, type_of, is_reserved}
-use Rattle.lx_annot_terms.specs.Clauses.{scope_before, scope_behind}
+use Rattle.lx_annot_terms.specs.Clauses.{scope_before, scope_behind, without_lends}
 use Rattle.lx_annot_terms.specs.ItemReading.{most_further_items}
 use Rattle.lx_annot_terms.specs.Grammar.{IsAction, IsItem}
 
@@ -69,11 +69,11 @@ IsWho scope (who.Value e) = λ ts. (has (codes "shared") ts ≡ false) × (has (
 abbrev pub Enclosed : List ℕ → Part → Part
 Enclosed word part = Is word then Is (codes "(") then part then Is (codes ")")
 
--- `principal(..)`, `pre(A)` or `post(A)`
+-- `principal(..)`, `pre(A)`, or `post(A)` where A lends nothing
 abbrev pub IsClause : Signature → Known → Clause → Part
 IsClause sig known (Principal w) = Enclosed (codes "principal") (IsWho (scope_before sig) w)
 IsClause sig known (Pre a) = Enclosed (codes "pre") (IsAction (scope_before sig) known a)
-IsClause sig known (Post a) = Enclosed (codes "post") (IsAction (scope_behind sig) known a)
+IsClause sig known (Post a) = Enclosed (codes "post") (IsAction (scope_behind sig) (without_lends known) a)
 
 abbrev pub IsClauses : Signature → Known → List Clause → Part
 IsClauses sig known [] = IsNothing
@@ -110,11 +110,11 @@ pub record Goes (before : Annotation) (cs : List Clause) (after : Annotation) : 
   pub pre : before.pre ++ pres cs ≡ after.pre
   pub post : before.post ++ posts cs ≡ after.post
 
--- The clauses say this annotation: at most one principal, and the actions in their order.
+-- The clauses say this annotation: at most one principal, the actions in their order, and behind them the end of all loans.
 pub record Say (cs : List Clause) (a : Annotation) : Type 0 where
   pub principal : principals cs ≡ listed a.principal
   pub pre : pres cs ≡ a.pre
-  pub post : posts cs ≡ a.post
+  pub post : with_end a.pre (posts cs) ≡ a.post
 
 -- clauses in any order
 abbrev pub IsAnnotation : Signature → Known → Annotation → Part

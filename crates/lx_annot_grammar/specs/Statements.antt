@@ -18,6 +18,8 @@ use Rattle.lx_annot_terms.specs.Lists.{Known}
 use Rattle.lx_annot_terms.specs.Signatures.{Signature}
 use Rattle.lx_annot_terms.specs.ItemReading.{scope_of_items}
 use Rattle.lx_annot_terms.specs.Grammar.{IsKnown}
+use Rattle.lx_annot_read.specs.declared.head.Version.{Version}
+use Rattle.lx_annot_read.specs.declared.head.Version.TheVariants as versions
 use Rattle.lx_annot_read.specs.Interfaces.{iterator_names, slot_names, export_names, known_in, is_typed, with_reftype, with_iterator, with_slot, with_field, with_export, empty, struct_of_kind, greatest_index}
 use Rattle.lx_annot_grammar.specs.Parts.{IsParamName, IsItems, IsSignature, IsAnnotation}
 
@@ -53,13 +55,13 @@ IsIndex n = Picks (λ t. number_of greatest_index t.kind t.bytes) n
 abbrev pub IsField : Interface → Field → Part
 IsField i f ts = (is_typed i f.name f.index ≡ false) × (IsStruct f.name then IsIndex f.index then Is (codes ":") then IsKnown (slot_names i) f.slot) ts
 
--- a statement behind those that declare this interface
-abbrev pub IsStatement : Interface → Statement → Part
-IsStatement i (OfReftype name) = Is (codes "reftype") then IsFresh i.reftypes name
-IsStatement i (OfIterator x) = Is (codes "iterator") then IsFresh (iterator_names i) x.name then IsIteratorBody (known_in i) x.items
-IsStatement i (OfSlot x) = Is (codes "slot") then IsFresh (slot_names i) x.name then IsCallable (known_in i) (record { ret = x.ret; params = x.params }) x.annotation
-IsStatement i (OfField x) = Is (codes "field") then IsField i x
-IsStatement i (OfExport x) = Is (codes "export") then IsFresh (export_names i) x.name then IsCallable (known_in i) (record { ret = x.ret; params = x.params }) x.annotation
+-- a statement of a text of this version, behind those that declare this interface
+abbrev pub IsStatement : Version → Interface → Statement → Part
+IsStatement v i (OfReftype name) = Is (codes "reftype") then IsFresh i.reftypes name
+IsStatement v i (OfIterator x) = Is (codes "iterator") then IsFresh (iterator_names i) x.name then IsIteratorBody (known_in v i) x.items
+IsStatement v i (OfSlot x) = Is (codes "slot") then IsFresh (slot_names i) x.name then IsCallable (known_in v i) (record { ret = x.ret; params = x.params }) x.annotation
+IsStatement v i (OfField x) = Is (codes "field") then IsField i x
+IsStatement v i (OfExport x) = Is (codes "export") then IsFresh (export_names i) x.name then IsCallable (known_in v i) (record { ret = x.ret; params = x.params }) x.annotation
 
 -- what stands in this line
 abbrev pub IsInLine : ℕ → Statement → Type 0
@@ -78,31 +80,37 @@ with_statement i (OfField x) = with_field i x
 with_statement i (OfExport x) = with_export i x
 
 -- These tokens of a text are a statement, of 1,024 tokens at most; it stands in the line of the first.
-pub record Stands (text : List ℕ) (i : Interface) (s : Statement) (tokens : List Token) : Type 0 where
+pub record Stands (text : List ℕ) (v : Version) (i : Interface) (s : Statement) (tokens : List Token) : Type 0 where
   pub first : Token
   pub more : List Token
   pub whole : tokens ≡ first ∷ more
   pub short : length tokens ≤ most_tokens
   pub line : IsInLine first.line s
-  pub is : IsStatement i s (toks_of text tokens)
+  pub is : IsStatement v i s (toks_of text tokens)
 
 -- The tokens are statements, which make an interface of the one before.
-abbrev pub AreStatements : List ℕ → Interface → List Statement → Interface → List Token → Type 0
-AreStatements text i [] j tokens = (i ≡ j) × (tokens ≡ [])
-AreStatements text i (s ∷ ss) j tokens =
-    (front : List Token) × (back : List Token) × Stands text i s front × AreStatements text (with_statement i s) ss j back × (tokens ≡ front ++ back)
+abbrev pub AreStatements : List ℕ → Version → Interface → List Statement → Interface → List Token → Type 0
+AreStatements text v i [] j tokens = (i ≡ j) × (tokens ≡ [])
+AreStatements text v i (s ∷ ss) j tokens =
+    (front : List Token) × (back : List Token) × Stands text v i s front × AreStatements text v (with_statement i s) ss j back × (tokens ≡ front ++ back)
 
--- `interface 1`
-abbrev pub IsHead : Part
-IsHead = Is (codes "interface") then Is (codes "1")
+-- the number of a version
+abbrev pub number_of_version : Version → List ℕ
+number_of_version versions.One = codes "1"
+number_of_version versions.Two = codes "2"
 
--- The text is this interface: `interface 1`, and its statements.
+-- `interface 1` or `interface 2`
+abbrev pub IsHead : Version → Part
+IsHead v = Is (codes "interface") then Is (number_of_version v)
+
+-- The text is this interface: its first line, and its statements.
 pub record IsInterface (text : List ℕ) (i : Interface) : Type 0 where
+  pub version : Version
   pub tokens : List Token
   pub scans : Scans rules.Interface text tokens None
   pub head : List Token
   pub body : List Token
   pub whole : tokens ≡ head ++ body
-  pub begins : IsHead (toks_of text head)
+  pub begins : IsHead version (toks_of text head)
   pub statements : List Statement
-  pub are : AreStatements text empty statements i body
+  pub are : AreStatements text version empty statements i body

@@ -9,6 +9,7 @@ use Rattle.lx_words.specs.Lexemes.{lexeme_of}
 use Rattle.lx_words.specs.Longest.{Begins}
 use Rattle.lx_words.specs.Cuts.{Piece, Cuts, token_at, tokens_of, feeds, Scans}
 use Rattle.lx_annot.specs.declared.interface.Interface.{Interface}
+use Rattle.lx_annot_read.specs.declared.head.Version.{Version}
 use Rattle.lx_annot_grammar.specs.Statements.{Statement, OfReftype, OfIterator, OfSlot, OfField, OfExport, with_statement, AreStatements}
 
 piece_some : (rule : TokenRule) (text : List ℕ) (lexeme : Lexeme) (n : ℕ) → Begins (lexeme_of rule) text lexeme n → 1 ≤ n
@@ -40,11 +41,11 @@ scanned_few rule text tokens (at, line, r) =
 abbrev pub Slow : (Interface → ℕ) → Type 0
 Slow count = (i : Interface) (s : Statement) → count (with_statement i s) ≤ suc (count i)
 
-pub counted : (text : List ℕ) (count : Interface → ℕ) → Slow count → (i j : Interface) (ss : List Statement) (tokens : List Token) → AreStatements text i ss j tokens → count j ≤ count i + length tokens
-counted text count slow i j [] tokens (same, e) = let k = ap count same in omega (arith, k)
-counted text count slow i j (s ∷ ss) tokens (front, back, stands, are, e) =
+pub counted : (text : List ℕ) (v : Version) (count : Interface → ℕ) → Slow count → (i j : Interface) (ss : List Statement) (tokens : List Token) → AreStatements text v i ss j tokens → count j ≤ count i + length tokens
+counted text v count slow i j [] tokens (same, e) = let k = ap count same in omega (arith, k)
+counted text v count slow i j (s ∷ ss) tokens (front, back, stands, are, e) =
     let one = slow i s in
-    let more = counted text count slow (with_statement i s) j ss back are in
+    let more = counted text v count slow (with_statement i s) j ss back are in
     let some = ap length stands.whole in
     let size : length tokens ≡ length front + length back = ap length e ∙ length-append front back in
     omega (arith, one, more, some, size)

@@ -24,20 +24,22 @@ use Rattle.lx_annot.specs.declared.interface.Slot.{Slot}
 use Rattle.lx_annot.specs.declared.interface.Field.{Field}
 use Rattle.lx_annot.specs.declared.interface.Export.{Export}
 use Rattle.lx_annot.specs.declared.interface.Interface.{Interface}
+use Rattle.lx_annot.specs.Action.{with_end}
 use Rattle.lx_annot_expressions.specs.Tokens.{Tok, toks_of}
 use Rattle.lx_annot_expressions.specs.Names.{number_among, fresh_of}
 use Rattle.lx_annot_expressions.specs.Grammar.{◌then◌}
 use Rattle.lx_annot_expressions.proofs.Numbered.{absent}
 use Rattle.lx_annot_terms.specs.Lists.{Known}
 use Rattle.lx_annot_terms.specs.Signatures.{Signature}
-use Rattle.lx_annot_terms.specs.Clauses.{result_of, scope_before, scope_behind}
+use Rattle.lx_annot_terms.specs.Clauses.{result_of, scope_before, scope_behind, without_lends}
 use Rattle.lx_annot_terms.specs.ItemReading.{scope_of_items}
 use Rattle.lx_annot_terms.specs.Grammar.{IsItem}
+use Rattle.lx_annot_read.specs.declared.head.Version.{Version}
 use Rattle.lx_annot_read.specs.Interfaces.{iterator_names, slot_names, export_names, known_in, is_typed, with_reftype, with_iterator, with_slot, with_field, with_export, empty}
-use Rattle.lx_annot_lawful.specs.Lawful.{Nameable, Declared, IsLawfulAction, IsLawfulItem, IsLawfulIterator, IsLawfulPrincipal, IsLawfulCallable, IsLawfulSlot, IsLawfulExport, IsNamed, IsLawfulInterface, named_before, named_behind, result_type, types_of, declared_in, same_field}
+use Rattle.lx_annot_lawful.specs.Lawful.{Nameable, Declared, IsLawfulAction, IsLawfulBehind, IsLawfulItem, IsLawfulIterator, IsLawfulPrincipal, IsLawfulCallable, IsLawfulSlot, IsLawfulExport, IsNamed, IsLawfulInterface, named_before, named_behind, result_type, types_of, declared_in, same_field}
 use Rattle.lx_annot_grammar.specs.Parts.{IsFurther, IsParam, IsParams, IsSignature, IsItems, Clause, Principal, Pre, Post, IsWho, IsClauses, principals, pres, posts, listed}
 use Rattle.lx_annot_grammar.specs.Statements.{Statement, OfReftype, OfIterator, OfSlot, OfField, OfExport, IsFresh, IsCallable, IsStatement, with_statement, AreStatements, IsInterface}
-use Rattle.lx_annot_laws.proofs.Named.{expr_named, action_named, item_named, known_there}
+use Rattle.lx_annot_laws.proofs.Named.{expr_named, action_named, no_lend, item_named, known_there}
 use Rattle.lx_annot_laws.proofs.Grown.{Within, callable_grows, iterator_grows}
 use Rattle.lx_annot_laws.proofs.Counts.{scanned_few, counted, slow_reftypes, slow_iterators, slow_slots, slow_fields, slow_exports}
 
@@ -160,10 +162,10 @@ module _ (sig : Signature) (known : Known) where
   record Clean (cs : List Clause) : Type 0 where
     principals_are : All (λ w. IsLawfulPrincipal may_before (Some w)) (principals cs)
     pres_are : All (IsLawfulAction declared_there may_before) (pres cs)
-    posts_are : All (IsLawfulAction declared_there may_behind) (posts cs)
+    posts_are : All (IsLawfulBehind declared_there may_behind) (posts cs)
 
   clean : (cs : List Clause) (ts : List Tok) → IsClauses sig known cs ts → Clean cs
-  clean [] ts e = record { principals_are = All-nil (λ w. IsLawfulPrincipal may_before (Some w)); pres_are = All-nil (IsLawfulAction declared_there may_before); posts_are = All-nil (IsLawfulAction declared_there may_behind) }
+  clean [] ts e = record { principals_are = All-nil (λ w. IsLawfulPrincipal may_before (Some w)); pres_are = All-nil (IsLawfulAction declared_there may_before); posts_are = All-nil (IsLawfulBehind declared_there may_behind) }
   clean (Principal w ∷ cs) ts (f, b, (f1, b1, word, (f2, b2, round, (f3, b3, is, close, w3), w2), w1), more, v) =
       let k = clean cs b more in
       record { principals_are = All-cons (λ x. IsLawfulPrincipal may_before (Some x)) w (principals cs) (who_lawful w f3 is) k.principals_are; pres_are = k.pres_are; posts_are = k.posts_are }
@@ -172,8 +174,9 @@ module _ (sig : Signature) (known : Known) where
       record { principals_are = k.principals_are; pres_are = All-cons (IsLawfulAction declared_there may_before) a (pres cs) (action_named (scope_before sig) known a f3 is) k.pres_are; posts_are = k.posts_are }
   clean (Post a ∷ cs) ts (f, b, (f1, b1, word, (f2, b2, round, (f3, b3, is, close, w3), w2), w1), more, v) =
       let k = clean cs b more in
-      let one = subst (λ r. IsLawfulAction declared_there (with_result r) a) (same_result sig.ret) (action_named (scope_behind sig) known a f3 is) in
-      record { principals_are = k.principals_are; pres_are = k.pres_are; posts_are = All-cons (IsLawfulAction declared_there may_behind) a (posts cs) one k.posts_are }
+      let named = subst (λ r. IsLawfulAction declared_there (with_result r) a) (same_result sig.ret) (action_named (scope_behind sig) (without_lends known) a f3 is) in
+      let one : IsLawfulBehind declared_there may_behind a = record { is = named; lends_nothing = no_lend (scope_behind sig) (without_lends known) refl a f3 is } in
+      record { principals_are = k.principals_are; pres_are = k.pres_are; posts_are = All-cons (IsLawfulBehind declared_there may_behind) a (posts cs) one k.posts_are }
 
   one_lawful : (p : Option Who) → All (λ w. IsLawfulPrincipal may_before (Some w)) (listed p) → IsLawfulPrincipal may_before p
   one_lawful None h = tt
@@ -186,7 +189,7 @@ module _ (sig : Signature) (known : Known) where
         names = signature_differs sig f is;
         principal = one_lawful a.principal (subst (All (λ w. IsLawfulPrincipal may_before (Some w))) say.principal k.principals_are);
         pre = subst (All (IsLawfulAction declared_there may_before)) say.pre k.pres_are;
-        post = subst (All (IsLawfulAction declared_there may_behind)) say.post k.posts_are;
+        post = record { written = posts cs; lawful = k.posts_are; whole = sym say.post };
       }
 
 -- Fields.
@@ -309,23 +312,23 @@ field_named i x n new lt = record {
   fields = All-push (λ (f : Field). f.slot < length i.slots) i.fields x n.fields lt;
 }
 
-statement_named : (i : Interface) (s : Statement) (ts : List Tok) → IsNamed i → IsStatement i s ts → IsNamed (with_statement i s)
-statement_named i (OfReftype name) ts n (f, b, word, is, w) = reftype_named i name b n is
-statement_named i (OfIterator x) ts n (f, b, word, (f1, b1, fresh, (p, (f2, b2, round, (f3, b3, pn, (f4, b4, close, (f5, b5, brace, (f6, b6, is, end, w6), w5), w4), w3), w2)), w1), w) =
-    iterator_named i x f1 n fresh (items_lawful p (known_in i) x.items x.name x.line f6 is)
-statement_named i (OfSlot x) ts n (f, b, word, (f1, b1, fresh, is, w1), w) =
+statement_named : (v : Version) (i : Interface) (s : Statement) (ts : List Tok) → IsNamed i → IsStatement v i s ts → IsNamed (with_statement i s)
+statement_named v i (OfReftype name) ts n (f, b, word, is, w) = reftype_named i name b n is
+statement_named v i (OfIterator x) ts n (f, b, word, (f1, b1, fresh, (p, (f2, b2, round, (f3, b3, pn, (f4, b4, close, (f5, b5, brace, (f6, b6, is, end, w6), w5), w4), w3), w2)), w1), w) =
+    iterator_named i x f1 n fresh (items_lawful p (known_in v i) x.items x.name x.line f6 is)
+statement_named v i (OfSlot x) ts n (f, b, word, (f1, b1, fresh, is, w1), w) =
     let sig : Signature = record { ret = x.ret; params = x.params } in
-    slot_named i x f1 n fresh (here_is i x.annotation sig (callable_lawful sig (known_in i) x.annotation b1 is))
-statement_named i (OfField x) ts n (f, b, word, (new, (f1, b1, struct, (f2, b2, index, (f3, b3, colon, is, w3), w2), w1)), w) =
+    slot_named i x f1 n fresh (here_is i x.annotation sig (callable_lawful sig (known_in v i) x.annotation b1 is))
+statement_named v i (OfField x) ts n (f, b, word, (new, (f1, b1, struct, (f2, b2, index, (f3, b3, colon, is, w3), w2), w1)), w) =
     field_named i x n new (subst (λ m. x.slot < m) (length-map i.slots slot_name) (known_there (slot_names i) x.slot b3 is))
-statement_named i (OfExport x) ts n (f, b, word, (f1, b1, fresh, is, w1), w) =
+statement_named v i (OfExport x) ts n (f, b, word, (f1, b1, fresh, is, w1), w) =
     let sig : Signature = record { ret = x.ret; params = x.params } in
-    export_named i x f1 n fresh (here_is i x.annotation sig (callable_lawful sig (known_in i) x.annotation b1 is))
+    export_named i x f1 n fresh (here_is i x.annotation sig (callable_lawful sig (known_in v i) x.annotation b1 is))
 
-all_named : (text : List ℕ) (i j : Interface) (ss : List Statement) (tokens : List Token) → IsNamed i → AreStatements text i ss j tokens → IsNamed j
-all_named text i j [] tokens n (same, e) = subst IsNamed same n
-all_named text i j (s ∷ ss) tokens n (front, back, stands, are, e) =
-    all_named text (with_statement i s) j ss back (statement_named i s (toks_of text front) n stands.is) are
+all_named : (text : List ℕ) (v : Version) (i j : Interface) (ss : List Statement) (tokens : List Token) → IsNamed i → AreStatements text v i ss j tokens → IsNamed j
+all_named text v i j [] tokens n (same, e) = subst IsNamed same n
+all_named text v i j (s ∷ ss) tokens n (front, back, stands, are, e) =
+    all_named text v (with_statement i s) j ss back (statement_named v i s (toks_of text front) n stands.is) are
 
 none_named : IsNamed empty
 unfolding IsDistinct
@@ -351,12 +354,12 @@ lawful text i short is =
     let size : length is.tokens ≡ length is.head + length is.body = ap length is.whole ∙ length-append is.head is.body in
     let body : length is.body ≤ length is.tokens = omega (arith, size) in
     record {
-      named = all_named text empty i is.statements is.body none_named is.are;
+      named = all_named text is.version empty i is.statements is.body none_named is.are;
       numbered = record {
-        reftypes = below (length i.reftypes) (length is.body) (length is.tokens) (length text) (2 ^ 32) (counted text (λ j. length j.reftypes) slow_reftypes empty i is.statements is.body is.are) body few short;
-        iterators = below (length i.iterators) (length is.body) (length is.tokens) (length text) (2 ^ 32) (counted text (λ j. length j.iterators) slow_iterators empty i is.statements is.body is.are) body few short;
-        slots = below (length i.slots) (length is.body) (length is.tokens) (length text) (2 ^ 32) (counted text (λ j. length j.slots) slow_slots empty i is.statements is.body is.are) body few short;
-        fields = below (length i.fields) (length is.body) (length is.tokens) (length text) (2 ^ 32) (counted text (λ j. length j.fields) slow_fields empty i is.statements is.body is.are) body few short;
-        exports = below (length i.exports) (length is.body) (length is.tokens) (length text) (2 ^ 32) (counted text (λ j. length j.exports) slow_exports empty i is.statements is.body is.are) body few short;
+        reftypes = below (length i.reftypes) (length is.body) (length is.tokens) (length text) (2 ^ 32) (counted text is.version (λ j. length j.reftypes) slow_reftypes empty i is.statements is.body is.are) body few short;
+        iterators = below (length i.iterators) (length is.body) (length is.tokens) (length text) (2 ^ 32) (counted text is.version (λ j. length j.iterators) slow_iterators empty i is.statements is.body is.are) body few short;
+        slots = below (length i.slots) (length is.body) (length is.tokens) (length text) (2 ^ 32) (counted text is.version (λ j. length j.slots) slow_slots empty i is.statements is.body is.are) body few short;
+        fields = below (length i.fields) (length is.body) (length is.tokens) (length text) (2 ^ 32) (counted text is.version (λ j. length j.fields) slow_fields empty i is.statements is.body is.are) body few short;
+        exports = below (length i.exports) (length is.body) (length is.tokens) (length text) (2 ^ 32) (counted text is.version (λ j. length j.exports) slow_exports empty i is.statements is.body is.are) body few short;
       };
     }

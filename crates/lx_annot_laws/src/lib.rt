@@ -1,7 +1,7 @@
-//! What is read of an interface text is a lawful interface.
+//! What is read of an interface text is a lawful interface, and one of a text of version 1 lends nothing.
 #![tactic(auto)]
 
-ghost use Rattle.lx_annot_laws.specs.Laws.{ReadIsLawful};
+ghost use Rattle.lx_annot_laws.specs.Laws.{FirstVersionLendsNothing, ReadIsLawful};
 
 use lx_annot_grammar::interface_laws;
 
@@ -11,3 +11,8 @@ pub fn lawful_laws()
 {
     interface_laws();
 }
+
+/// No interface of a text of version 1 lends anything.
+pub fn first_version_laws()
+    ensures { FirstVersionLendsNothing }
+{}

@@ -13,6 +13,8 @@ use Rattle.lx_annot_expressions.specs.Tokens.{Tok}
 use Rattle.lx_annot_expressions.specs.Reading.{Read, ◌>>=◌, at, behind, has, next_at, number_at}
 use Rattle.lx_annot_expressions.specs.Names.{fresh_at, known_at}
 use Rattle.lx_annot_terms.specs.Lists.{Known}
+use Rattle.lx_annot_read.specs.declared.head.Version.{Version}
+use Rattle.lx_annot_read.specs.Head.{may_lend}
 use Rattle.lx_annot_read.specs.Interfaces.{iterator_names, slot_names, export_names, known_in, is_field, is_typed, with_reftype, with_iterator, with_slot, with_field, with_export, reftype_at, iterator_body_at, iterator_at, callable_at, slot_at, export_at, struct_at, greatest_index, untyped, index_at, field_at, statement_at}
 use Rattle.lx_annot_read.specs.Aside.{iterator_aside, slot_aside, field_aside, export_aside, lines_aside}
 
@@ -49,8 +51,8 @@ same_typed : (i j : Interface) (struct : List ℕ) (n : ℕ) → Same i j → is
 same_typed i j struct n s =
     sym (any_aside (is_field struct n) field_aside (λ x. refl) i.fields) ∙ ap (λ (k : Interface). list_any (is_field struct n) k.fields) s ∙ any_aside (is_field struct n) field_aside (λ x. refl) j.fields
 
-same_known : (i j : Interface) → Same i j → known_in i ≡ known_in j
-same_known i j s = λ k. record { reftypes = same_reftypes i j s k; iterators = same_iterators i j s k }
+same_known : (v : Version) (i j : Interface) → Same i j → known_in v i ≡ known_in v j
+same_known v i j s = λ k. record { reftypes = same_reftypes i j s k; iterators = same_iterators i j s k; lends = may_lend v }
 
 -- One more of a kind.
 
@@ -122,12 +124,12 @@ iterator_by_same : (names : List (List ℕ)) (known : Known) (l m : ℕ) (i j : 
 iterator_by_same names known l m i j ts s =
     bind_same (fresh_at names ts) _ _ (λ n. bind_same (iterator_body_at known n.1) _ _ (λ x. (iterator_more i j _ _ s refl, refl)))
 
-iterator_same : (l m : ℕ) (i j : Interface) (ts : List Tok) → Same i j → SameRead (iterator_at l i ts) (iterator_at m j ts)
+iterator_same : (v : Version) (l m : ℕ) (i j : Interface) (ts : List Tok) → Same i j → SameRead (iterator_at v l i ts) (iterator_at v m j ts)
 unfolding iterator_at
-iterator_same l m i j ts s =
-    subst (λ ns. SameRead (iterator_by (iterator_names i) (known_in i) l i ts) (iterator_by ns (known_in j) m j ts)) (same_iterators i j s)
-    (subst (λ k. SameRead (iterator_by (iterator_names i) (known_in i) l i ts) (iterator_by (iterator_names i) k m j ts)) (same_known i j s)
-    (iterator_by_same (iterator_names i) (known_in i) l m i j ts s))
+iterator_same v l m i j ts s =
+    subst (λ ns. SameRead (iterator_by (iterator_names i) (known_in v i) l i ts) (iterator_by ns (known_in v j) m j ts)) (same_iterators i j s)
+    (subst (λ k. SameRead (iterator_by (iterator_names i) (known_in v i) l i ts) (iterator_by (iterator_names i) k m j ts)) (same_known v i j s)
+    (iterator_by_same (iterator_names i) (known_in v i) l m i j ts s))
 
 abbrev slot_by : List (List ℕ) → Known → ℕ → Interface → List Tok → Read Interface
 slot_by names known line i ts = do
@@ -139,12 +141,12 @@ slot_by_same : (names : List (List ℕ)) (known : Known) (l m : ℕ) (i j : Inte
 slot_by_same names known l m i j ts s =
     bind_same (fresh_at names ts) _ _ (λ n. bind_same (callable_at known n.1) _ _ (λ f. (slot_more i j _ _ s refl, refl)))
 
-slot_same : (l m : ℕ) (i j : Interface) (ts : List Tok) → Same i j → SameRead (slot_at l i ts) (slot_at m j ts)
+slot_same : (v : Version) (l m : ℕ) (i j : Interface) (ts : List Tok) → Same i j → SameRead (slot_at v l i ts) (slot_at v m j ts)
 unfolding slot_at
-slot_same l m i j ts s =
-    subst (λ ns. SameRead (slot_by (slot_names i) (known_in i) l i ts) (slot_by ns (known_in j) m j ts)) (same_slots i j s)
-    (subst (λ k. SameRead (slot_by (slot_names i) (known_in i) l i ts) (slot_by (slot_names i) k m j ts)) (same_known i j s)
-    (slot_by_same (slot_names i) (known_in i) l m i j ts s))
+slot_same v l m i j ts s =
+    subst (λ ns. SameRead (slot_by (slot_names i) (known_in v i) l i ts) (slot_by ns (known_in v j) m j ts)) (same_slots i j s)
+    (subst (λ k. SameRead (slot_by (slot_names i) (known_in v i) l i ts) (slot_by (slot_names i) k m j ts)) (same_known v i j s)
+    (slot_by_same (slot_names i) (known_in v i) l m i j ts s))
 
 abbrev export_by : List (List ℕ) → Known → ℕ → Interface → List Tok → Read Interface
 export_by names known line i ts = do
@@ -156,12 +158,12 @@ export_by_same : (names : List (List ℕ)) (known : Known) (l m : ℕ) (i j : In
 export_by_same names known l m i j ts s =
     bind_same (fresh_at names ts) _ _ (λ n. bind_same (callable_at known n.1) _ _ (λ f. (export_more i j _ _ s refl, refl)))
 
-export_same : (l m : ℕ) (i j : Interface) (ts : List Tok) → Same i j → SameRead (export_at l i ts) (export_at m j ts)
+export_same : (v : Version) (l m : ℕ) (i j : Interface) (ts : List Tok) → Same i j → SameRead (export_at v l i ts) (export_at v m j ts)
 unfolding export_at
-export_same l m i j ts s =
-    subst (λ ns. SameRead (export_by (export_names i) (known_in i) l i ts) (export_by ns (known_in j) m j ts)) (same_exports i j s)
-    (subst (λ k. SameRead (export_by (export_names i) (known_in i) l i ts) (export_by (export_names i) k m j ts)) (same_known i j s)
-    (export_by_same (export_names i) (known_in i) l m i j ts s))
+export_same v l m i j ts s =
+    subst (λ ns. SameRead (export_by (export_names i) (known_in v i) l i ts) (export_by ns (known_in v j) m j ts)) (same_exports i j s)
+    (subst (λ k. SameRead (export_by (export_names i) (known_in v i) l i ts) (export_by (export_names i) k m j ts)) (same_known v i j s)
+    (export_by_same (export_names i) (known_in v i) l m i j ts s))
 
 same_index : (i j : Interface) (place : List Tok) (struct : List ℕ) (n : ℕ × List Tok) → Same i j → untyped i place struct n ≡ untyped j place struct n
 same_index i j place struct n s = ap (λ b. if b then Err (at Twice place) else Ok (n.0, n.1)) (same_typed i j struct n.0 s)
@@ -189,11 +191,11 @@ field_same l m i j ts s =
     (subst (λ r. SameRead (field_by (slot_names i) (index_at i ts x.0 x.1) l i x.0) (field_by (slot_names i) r m j x.0)) (bind_alike (number_at greatest_index x.1) (untyped i ts x.0) (untyped j ts x.0) (λ n. same_index i j ts x.0 n s))
     (field_by_same (slot_names i) (index_at i ts x.0 x.1) l m i j x.0 s)))
 
-pub statement_same : (l m : ℕ) (i j : Interface) (ts : List Tok) → Same i j → SameRead (statement_at l i ts) (statement_at m j ts)
+pub statement_same : (v : Version) (l m : ℕ) (i j : Interface) (ts : List Tok) → Same i j → SameRead (statement_at v l i ts) (statement_at v m j ts)
 unfolding statement_at
-statement_same l m i j ts s =
+statement_same v l m i j ts s =
     if_same (has (codes "reftype") ts) _ _ _ _ (reftype_same i j (behind ts) s)
-    (if_same (has (codes "iterator") ts) _ _ _ _ (iterator_same l m i j (behind ts) s)
-    (if_same (has (codes "slot") ts) _ _ _ _ (slot_same l m i j (behind ts) s)
+    (if_same (has (codes "iterator") ts) _ _ _ _ (iterator_same v l m i j (behind ts) s)
+    (if_same (has (codes "slot") ts) _ _ _ _ (slot_same v l m i j (behind ts) s)
     (if_same (has (codes "field") ts) _ _ _ _ (field_same l m i j (behind ts) s)
-    (if_same (has (codes "export") ts) _ _ _ _ (export_same l m i j (behind ts) s) refl))))
+    (if_same (has (codes "export") ts) _ _ _ _ (export_same v l m i j (behind ts) s) refl))))

@@ -6,7 +6,9 @@ use Rattle.lx_annot.specs.declared.interface.Interface.{Interface}
 use Rattle.lx_annot_expressions.specs.Tokens.{Tok, tok_of, toks_of, most_tokens}
 use Rattle.lx_annot_expressions.specs.Reading.{Read}
 use Rattle.lx_annot_read.specs.declared.fault.Met.{Met}
-use Rattle.lx_annot_read.specs.Interfaces.{empty, head_at, statement_at}
+use Rattle.lx_annot_read.specs.declared.head.Version.{Version}
+use Rattle.lx_annot_read.specs.Head.{head_at}
+use Rattle.lx_annot_read.specs.Interfaces.{empty, statement_at}
 use Rattle.lx_annot_read.specs.Texts.{window, rest_behind, seen, limited, first_at, next_at, ◌and_then◌, body_at, ended, interface_at}
 use Rattle.lx_annot_read.proofs.Aside.{Same, SameRead, statement_same}
 
@@ -54,10 +56,10 @@ module _ (text other : List ℕ) where
   step_alike (Ok x) (Err f) same i tokens others rest a e = absurd same
   step_alike (Err d) s same i tokens others rest a e = cc
 
-  next_alike : (l m : ℕ) (i j i' : Interface) (tokens others rest : List Token) → Same i j → Alike tokens others → next_at text None l i tokens ≡ Ok (i', rest) → Followed i' rest (next_at other None m j others)
+  next_alike : (v : Version) (l m : ℕ) (i j i' : Interface) (tokens others rest : List Token) → Same i j → Alike tokens others → next_at text None v l i tokens ≡ Ok (i', rest) → Followed i' rest (next_at other None v m j others)
   unfolding next_at
-  next_alike l m i j i' tokens others rest s a e =
-      step_alike (statement_at l i (seen text tokens)) (statement_at m j (seen other others)) (subst (λ ts. SameRead (statement_at l i (seen text tokens)) (statement_at m j ts)) (seen_alike tokens others a) (statement_same l m i j (seen text tokens) s)) i' tokens others rest a e
+  next_alike v l m i j i' tokens others rest s a e =
+      step_alike (statement_at v l i (seen text tokens)) (statement_at v m j (seen other others)) (subst (λ ts. SameRead (statement_at v l i (seen text tokens)) (statement_at v m j ts)) (seen_alike tokens others a) (statement_same v l m i j (seen text tokens) s)) i' tokens others rest a e
 
   abbrev Said : Interface → Result Interface Met → Type 0
   Said i r = (j : Interface) × (r ≡ Ok j) × Same i j
@@ -65,19 +67,19 @@ module _ (text other : List ℕ) where
   stays : (i j i' : Interface) → Same i j → i ≡ i' → Said i' (Ok j)
   stays i j i' s e = (j, refl, subst (λ k. Same k j) e s)
 
-  goes : (m n : ℕ) (i' j : Interface) (u : Token) (us : List Token) (x : Interface) (rest : List Token) → Followed x rest (next_at other None u.line j (u ∷ us)) → ((k : Interface) (rest' : List Token) → Same x k → Alike rest rest' → Said i' (body_at other None n k rest')) → Said i' (body_at other None (suc n) j (u ∷ us))
+  goes : (v : Version) (n : ℕ) (i' j : Interface) (u : Token) (us : List Token) (x : Interface) (rest : List Token) → Followed x rest (next_at other None v u.line j (u ∷ us)) → ((k : Interface) (rest' : List Token) → Same x k → Alike rest rest' → Said i' (body_at other None v n k rest')) → Said i' (body_at other None v (suc n) j (u ∷ us))
   unfolding body_at
-  goes m n i' j u us x rest (k, rest', e, s, a) further = subst (λ r. Said i' (r and_then λ p. body_at other None n p.0 p.1)) (sym e) (further k rest' s a)
+  goes v n i' j u us x rest (k, rest', e, s, a) further = subst (λ r. Said i' (r and_then λ p. body_at other None v n p.0 p.1)) (sym e) (further k rest' s a)
 
-  body_alike : (n : ℕ) (i j i' : Interface) (tokens others : List Token) → Same i j → Alike tokens others → body_at text None n i tokens ≡ Ok i' → Said i' (body_at other None n j others)
+  body_alike : (v : Version) (n : ℕ) (i j i' : Interface) (tokens others : List Token) → Same i j → Alike tokens others → body_at text None v n i tokens ≡ Ok i' → Said i' (body_at other None v n j others)
   unfolding body_at
-  body_alike zero i j i' tokens others s a e = stays i j i' s (ok_alike i i' e)
-  body_alike (suc n) i j i' [] [] s a e = stays i j i' s (ok_alike i i' e)
-  body_alike (suc n) i j i' [] (u ∷ us) s a e = cc
-  body_alike (suc n) i j i' (t ∷ ts) [] s a e = cc
-  body_alike (suc n) i j i' (t ∷ ts) (u ∷ us) s a e =
-      let x = and_ok (next_at text None t.line i (t ∷ ts)) (λ p. body_at text None n p.0 p.1) i' e in
-      goes 0 n i' j u us x.0.0 x.0.1 (next_alike t.line u.line i j x.0.0 (t ∷ ts) (u ∷ us) x.0.1 s a x.1) (λ k rest' s' a'. body_alike n x.0.0 k i' x.0.1 rest' s' a' x.2)
+  body_alike v zero i j i' tokens others s a e = stays i j i' s (ok_alike i i' e)
+  body_alike v (suc n) i j i' [] [] s a e = stays i j i' s (ok_alike i i' e)
+  body_alike v (suc n) i j i' [] (u ∷ us) s a e = cc
+  body_alike v (suc n) i j i' (t ∷ ts) [] s a e = cc
+  body_alike v (suc n) i j i' (t ∷ ts) (u ∷ us) s a e =
+      let x = and_ok (next_at text None v t.line i (t ∷ ts)) (λ p. body_at text None v n p.0 p.1) i' e in
+      goes v n i' j u us x.0.0 x.0.1 (next_alike v t.line u.line i j x.0.0 (t ∷ ts) (u ∷ us) x.0.1 s a x.1) (λ k rest' s' a'. body_alike v n x.0.0 k i' x.0.1 rest' s' a' x.2)
 
   length_alike : (tokens others : List Token) → Alike tokens others → length tokens ≡ length others
   length_alike tokens others a = sym (length-map tokens (tok_of text)) ∙ ap length a ∙ length-map others (tok_of other)
@@ -85,28 +87,28 @@ module _ (text other : List ℕ) where
   ends_alike : (i : Interface) (r : Result Interface Met) → Said i r → Said i (r and_then λ k. ended None k)
   ends_alike i r (j, e, s) = subst (λ q. Said i (q and_then λ k. ended None k)) (sym e) (j, refl, s)
 
-  behind_alike : (i : Interface) (others rest : List Token) (rest' : List Token) → Alike rest rest' → first_at other None others ≡ Ok (tt, rest') → body_at text None (length rest) empty rest ≡ Ok i → Said i (interface_at other None others)
+  behind_alike : (v : Version) (i : Interface) (others rest : List Token) (rest' : List Token) → Alike rest rest' → first_at other None others ≡ Ok (v, rest') → body_at text None v (length rest) empty rest ≡ Ok i → Said i (interface_at other None others)
   unfolding interface_at
-  behind_alike i others rest rest' a f e =
-      subst (λ q. Said i (q and_then λ h. body_at other None (length h.1) empty h.1 and_then λ k. ended None k)) (sym f)
-      (ends_alike i (body_at other None (length rest') empty rest')
-      (subst (λ n. Said i (body_at other None n empty rest')) (length_alike rest rest' a) (body_alike (length rest) empty empty i rest rest' refl a e)))
+  behind_alike v i others rest rest' a f e =
+      subst (λ q. Said i (q and_then λ h. body_at other None h.0 (length h.1) empty h.1 and_then λ k. ended None k)) (sym f)
+      (ends_alike i (body_at other None v (length rest') empty rest')
+      (subst (λ n. Said i (body_at other None v n empty rest')) (length_alike rest rest' a) (body_alike v (length rest) empty empty i rest rest' refl a e)))
 
-  first_alike : (tokens others rest : List Token) → Alike tokens others → first_at text None tokens ≡ Ok (tt, rest) → (rest' : List Token) × (first_at other None others ≡ Ok (tt, rest')) × Alike rest rest'
+  first_alike : (v : Version) (tokens others rest : List Token) → Alike tokens others → first_at text None tokens ≡ Ok (v, rest) → (rest' : List Token) × (first_at other None others ≡ Ok (v, rest')) × Alike rest rest'
   unfolding first_at
-  first_alike tokens others rest a e =
-      let w = head_alike (head_at (seen text tokens)) tt tokens others rest a e in
-      (w.0, subst (λ ts. limited other None others (head_at ts) ≡ Ok (tt, w.0)) (seen_alike tokens others a) w.1, w.2)
+  first_alike v tokens others rest a e =
+      let w = head_alike (head_at (seen text tokens)) v tokens others rest a e in
+      (w.0, subst (λ ts. limited other None others (head_at ts) ≡ Ok (v, w.0)) (seen_alike tokens others a) w.1, w.2)
 
-  parts : (tokens : List Token) (i : Interface) → interface_at text None tokens ≡ Ok i → (rest : List Token) × (first_at text None tokens ≡ Ok (tt, rest)) × (body_at text None (length rest) empty rest ≡ Ok i)
+  parts : (tokens : List Token) (i : Interface) → interface_at text None tokens ≡ Ok i → (v : Version) × (rest : List Token) × (first_at text None tokens ≡ Ok (v, rest)) × (body_at text None v (length rest) empty rest ≡ Ok i)
   unfolding interface_at
   parts tokens i e =
-      let h = and_ok (first_at text None tokens) (λ h. body_at text None (length h.1) empty h.1 and_then λ k. ended None k) i e in
-      let b = and_ok (body_at text None (length h.0.1) empty h.0.1) (λ k. ended None k) i h.2 in
-      (h.0.1, h.1, b.1 ∙ ap Ok (ok_alike b.0 i b.2))
+      let h = and_ok (first_at text None tokens) (λ h. body_at text None h.0 (length h.1) empty h.1 and_then λ k. ended None k) i e in
+      let b = and_ok (body_at text None h.0.0 (length h.0.1) empty h.0.1) (λ k. ended None k) i h.2 in
+      (h.0.0, h.0.1, h.1, b.1 ∙ ap Ok (ok_alike b.0 i b.2))
 
   pub tokens_say : (tokens others : List Token) (i : Interface) → Alike tokens others → interface_at text None tokens ≡ Ok i → (j : Interface) × (interface_at other None others ≡ Ok j) × Same i j
   tokens_say tokens others i a e =
       let p = parts tokens i e in
-      let f = first_alike tokens others p.0 a p.1 in
-      behind_alike i others p.0 f.0 f.2 f.1 p.2
+      let f = first_alike p.0 tokens others p.1 a p.2 in
+      behind_alike p.0 i others p.1 f.0 f.2 f.1 p.3

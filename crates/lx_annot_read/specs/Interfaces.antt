@@ -18,6 +18,8 @@ use Rattle.lx_annot_terms.specs.Signatures.{signature_at, param_name_at}
 use Rattle.lx_annot_terms.specs.Clauses.{clauses_at}
 use Rattle.lx_annot_terms.specs.ItemReading.{scope_of_items, items_at}
 use Rattle.lx_annot_read.specs.declared.draft.Callable.{Callable}
+use Rattle.lx_annot_read.specs.declared.head.Version.{Version}
+use Rattle.lx_annot_read.specs.Head.{may_lend}
 use Rattle.lx_annot_read.specs.Said.{struct_of}
 
 -- Names that are declared so far.
@@ -31,8 +33,9 @@ slot_names i = map (λ (x : Slot). x.name) i.slots
 abbrev pub export_names : Interface → List (List ℕ)
 export_names i = map (λ (x : Export). x.name) i.exports
 
-abbrev pub known_in : Interface → Known
-known_in i = record { reftypes = i.reftypes; iterators = iterator_names i }
+-- what actions may use behind these statements
+abbrev pub known_in : Version → Interface → Known
+known_in version i = record { reftypes = i.reftypes; iterators = iterator_names i; lends = may_lend version }
 
 -- the field of this number of a struct
 abbrev pub is_field : List ℕ → ℕ → Field → Bool
@@ -80,10 +83,10 @@ iterator_body_at known ts = do
   Ok (items.0, e.1)
 
 -- `NAME(P) { ITEM; .. }`
-unfoldable pub iterator_at : ℕ → Interface → List Tok → Read Interface
-iterator_at line i ts = do
+unfoldable pub iterator_at : Version → ℕ → Interface → List Tok → Read Interface
+iterator_at version line i ts = do
   n ← fresh_at (iterator_names i) ts
-  items ← iterator_body_at (known_in i) n.1
+  items ← iterator_body_at (known_in version i) n.1
   Ok (with_iterator i (record { name = n.0; items = items.0; line = line }), items.1)
 
 -- `: T (T P, ..) CLAUSE ..`
@@ -94,16 +97,16 @@ callable_at known ts = do
   Ok (record { signature = s.0; annotation = a.0 }, a.1)
 
 -- `NAME : T (T P, ..) CLAUSE ..`
-unfoldable pub slot_at : ℕ → Interface → List Tok → Read Interface
-slot_at line i ts = do
+unfoldable pub slot_at : Version → ℕ → Interface → List Tok → Read Interface
+slot_at version line i ts = do
   n ← fresh_at (slot_names i) ts
-  f ← callable_at (known_in i) n.1
+  f ← callable_at (known_in version i) n.1
   Ok (with_slot i (record { name = n.0; params = f.0.signature.params; ret = f.0.signature.ret; annotation = f.0.annotation; line = line }), f.1)
 
-unfoldable pub export_at : ℕ → Interface → List Tok → Read Interface
-export_at line i ts = do
+unfoldable pub export_at : Version → ℕ → Interface → List Tok → Read Interface
+export_at version line i ts = do
   n ← fresh_at (export_names i) ts
-  f ← callable_at (known_in i) n.1
+  f ← callable_at (known_in version i) n.1
   Ok (with_export i (record { name = n.0; params = f.0.signature.params; ret = f.0.signature.ret; annotation = f.0.annotation; line = line }), f.1)
 
 abbrev pub struct_of_kind : TokenKind → List ℕ → Option (List ℕ)
@@ -133,18 +136,12 @@ field_at line i ts = do
   t ← known_at (slot_names i) c.1
   Ok (with_field i (record { name = s.0; index = k.0; slot = t.0; line = line }), t.1)
 
--- a statement, by its word
-unfoldable pub statement_at : ℕ → Interface → List Tok → Read Interface
-statement_at line i ts =
+-- a statement of a text of this version, by its word
+unfoldable pub statement_at : Version → ℕ → Interface → List Tok → Read Interface
+statement_at version line i ts =
     if has (codes "reftype") ts then reftype_at i (behind ts)
-    else if has (codes "iterator") ts then iterator_at line i (behind ts)
-    else if has (codes "slot") ts then slot_at line i (behind ts)
+    else if has (codes "iterator") ts then iterator_at version line i (behind ts)
+    else if has (codes "slot") ts then slot_at version line i (behind ts)
     else if has (codes "field") ts then field_at line i (behind ts)
-    else if has (codes "export") ts then export_at line i (behind ts)
+    else if has (codes "export") ts then export_at version line i (behind ts)
     else refused ts
-
--- `interface 1`
-unfoldable pub head_at : List Tok → Read (Unit {0})
-head_at ts = do
-  w ← next_at (codes "interface") ts
-  next_at (codes "1") w.1

@@ -1,4 +1,5 @@
 pub mod Said
+pub mod Head
 pub mod Interfaces
 pub mod Faults
 pub mod Texts

@@ -16,7 +16,9 @@ use Rattle.lx_annot_read.specs.declared.fault.Failure.TheVariants as failures
 use Rattle.lx_annot_read.specs.declared.fault.InterfaceFault.{InterfaceFault}
 use Rattle.lx_annot_read.specs.declared.fault.InterfaceFault.TheVariants as faults
 use Rattle.lx_annot_read.specs.Faults.{met_at, lexical, answered, IsError}
-use Rattle.lx_annot_read.specs.Interfaces.{empty, head_at, statement_at}
+use Rattle.lx_annot_read.specs.declared.head.Version.{Version}
+use Rattle.lx_annot_read.specs.Head.{head_at}
+use Rattle.lx_annot_read.specs.Interfaces.{empty, statement_at}
 
 -- A statement is read from the next 1,024 tokens; where it wants one more, that one cannot stand there.
 abbrev pub window : List Token → List Token
@@ -47,13 +49,13 @@ limited text stop tokens (Err f) = Err (fault_in text stop tokens f)
 abbrev pub seen : List ℕ → List Token → List Tok
 seen text tokens = toks_of text (window tokens)
 
--- `interface 1`
-unfoldable pub first_at : List ℕ → Option Stop → List Token → Result (Unit {0} × List Token) Met
+-- the version of a text
+unfoldable pub first_at : List ℕ → Option Stop → List Token → Result (Version × List Token) Met
 first_at text stop tokens = limited text stop tokens (head_at (seen text tokens))
 
 -- a statement in a line, put to those before it
-unfoldable pub next_at : List ℕ → Option Stop → ℕ → Interface → List Token → Result (Interface × List Token) Met
-next_at text stop line i tokens = limited text stop tokens (statement_at line i (seen text tokens))
+unfoldable pub next_at : List ℕ → Option Stop → Version → ℕ → Interface → List Token → Result (Interface × List Token) Met
+next_at text stop version line i tokens = limited text stop tokens (statement_at version line i (seen text tokens))
 
 infixl 10 ◌and_then◌
 abbrev pub ◌and_then◌ : {A B : Type 0} → Result A Met → (A → Result B Met) → Result B Met
@@ -61,10 +63,10 @@ abbrev pub ◌and_then◌ : {A B : Type 0} → Result A Met → (A → Result B 
 (Err e) and_then f = Err e
 
 -- The statements up to the end; the number is at least that of the tokens. The line of a statement is that of its first token.
-unfoldable pub body_at : List ℕ → Option Stop → ℕ → Interface → List Token → Result Interface Met
-body_at text stop zero i tokens = Ok i
-body_at text stop (suc n) i [] = Ok i
-body_at text stop (suc n) i (t ∷ ts) = next_at text stop t.line i (t ∷ ts) and_then λ j. body_at text stop n j.0 j.1
+unfoldable pub body_at : List ℕ → Option Stop → Version → ℕ → Interface → List Token → Result Interface Met
+body_at text stop version zero i tokens = Ok i
+body_at text stop version (suc n) i [] = Ok i
+body_at text stop version (suc n) i (t ∷ ts) = next_at text stop version t.line i (t ∷ ts) and_then λ j. body_at text stop version n j.0 j.1
 
 -- The tokens before a byte that begins none are read first.
 abbrev pub ended : Option Stop → Interface → Result Interface Met
@@ -74,7 +76,7 @@ ended (Some s) i = Err (lexical s)
 -- what the tokens of a text say
 unfoldable pub interface_at : List ℕ → Option Stop → List Token → Result Interface Met
 interface_at text stop tokens =
-    first_at text stop tokens and_then λ h. body_at text stop (length h.1) empty h.1 and_then λ i. ended stop i
+    first_at text stop tokens and_then λ h. body_at text stop h.0 (length h.1) empty h.1 and_then λ i. ended stop i
 
 -- The text says this interface.
 abbrev pub SaysInterface : List ℕ → Interface → Type 0

@@ -4,8 +4,10 @@ ghost use Rattle.std.specs.Prelude.{◌≡◌, ◌<◌, ◌≤◌, length, IfOk,
 ghost use Rattle.std.specs.List.{list_any};
 ghost use Rattle.lx_annot_expressions.specs.Reading.{Gives, GivesBy, Leaves};
 ghost use Rattle.lx_annot_read.specs.Draft.{IsTabled};
+ghost use Rattle.lx_annot_read.specs.Head.{may_lend};
 ghost use Rattle.lx_annot_read.specs.Interfaces.{callable_at, empty, export_at, field_at, index_at, is_field, iterator_at, iterator_body_at, reftype_at, slot_at, statement_at, struct_at};
 
+use crate::head::Version;
 use crate::said::struct_of;
 use lx_annot::action::Annotation;
 use lx_annot::expr::Ty;
@@ -19,9 +21,10 @@ use std::marker::Model;
 /// The greatest number of a field.
 const GREATEST_INDEX: u64 = u32::MAX as u64;
 
-/// What the statements so far say, with tables of the names that they declare.
+/// What the statements so far say, with tables of the names that they declare, in a text of this version.
 #[derive(Drop)]
 pub struct Draft<'a> {
+    pub version: Version,
     pub interface: Interface,
     pub reftypes: NameTable<'a>,
     pub iterators: NameTable<'a>,
@@ -110,13 +113,18 @@ fn is_typed(fields: &[Field], name: &[u8], index: u32) -> bool
     fields.iter().any(|field| is_field(field, name, index))
 }
 
-/// The names that lists may use.
-fn known<'k>(reftypes: &'k NameTable<'_>, iterators: &'k NameTable<'_>) -> Known<'k>
-    ensures { result ≡ record { reftypes = reftypes.now; iterators = iterators.now } }
+/// What actions may use in a text of this version.
+fn known<'k>(
+    version: Version,
+    reftypes: &'k NameTable<'_>,
+    iterators: &'k NameTable<'_>,
+) -> Known<'k>
+    ensures { result ≡ record { reftypes = reftypes.now; iterators = iterators.now; lends = may_lend version } }
 {
     Known {
         reftypes,
         iterators,
+        lends: version.may_lend(),
     }
 }
 
@@ -135,11 +143,13 @@ fn empty(alloc: Global) -> Interface
 
 impl<'a> Draft<'a> {
     /// Nothing.
-    pub fn new(alloc: Global) -> Self
+    pub fn new(alloc: Global, version: Version) -> Self
+        ensures version { result.version ≡ version }
         ensures empty { result.interface ≡ empty }
         ensures tabled { IsTabled result }
     {
         Draft {
+            version,
             interface: empty(alloc),
             reftypes: NameTable::new(alloc),
             iterators: NameTable::new(alloc),
@@ -154,6 +164,7 @@ impl<'a> Draft<'a> {
         requires { IsTabled self.old }
         ensures reads { Leaves self.new.interface result reader.new (reftype_at self.old.interface reader.old) }
         ensures shrinks { OnOk result (length reader.new ≤ length reader.old) }
+        ensures version { OnOk result (self.new.version ≡ self.old.version) }
         ensures tabled { OnOk result (IsTabled self.new) }
     {
         let name = reader.fresh(&self.reftypes)?;
@@ -172,12 +183,13 @@ impl<'a> Draft<'a> {
         reader: &mut Reader<'a>,
     ) -> Result<(), ReadError>
         requires { IsTabled self.old }
-        ensures reads { Leaves self.new.interface result reader.new (iterator_at line self.old.interface reader.old) }
+        ensures reads { Leaves self.new.interface result reader.new (iterator_at self.old.version line self.old.interface reader.old) }
         ensures shrinks { OnOk result (length reader.new ≤ length reader.old) }
+        ensures version { OnOk result (self.new.version ≡ self.old.version) }
         ensures tabled { OnOk result (IsTabled self.new) }
     {
         let name = reader.fresh(&self.iterators)?;
-        let known = known(&self.reftypes, &self.iterators);
+        let known = known(self.version, &self.reftypes, &self.iterators);
         let items = iterator_body(alloc, &known, reader)?;
         let owned = Name::from_bytes(alloc, name)?;
         self.iterators.add(name)?;
@@ -199,12 +211,13 @@ impl<'a> Draft<'a> {
         reader: &mut Reader<'a>,
     ) -> Result<(), ReadError>
         requires { IsTabled self.old }
-        ensures reads { Leaves self.new.interface result reader.new (slot_at line self.old.interface reader.old) }
+        ensures reads { Leaves self.new.interface result reader.new (slot_at self.old.version line self.old.interface reader.old) }
         ensures shrinks { OnOk result (length reader.new ≤ length reader.old) }
+        ensures version { OnOk result (self.new.version ≡ self.old.version) }
         ensures tabled { OnOk result (IsTabled self.new) }
     {
         let name = reader.fresh(&self.slots)?;
-        let known = known(&self.reftypes, &self.iterators);
+        let known = known(self.version, &self.reftypes, &self.iterators);
         let callable = read_callable(alloc, &known, reader)?;
         let owned = Name::from_bytes(alloc, name)?;
         self.slots.add(name)?;
@@ -228,12 +241,13 @@ impl<'a> Draft<'a> {
         reader: &mut Reader<'a>,
     ) -> Result<(), ReadError>
         requires { IsTabled self.old }
-        ensures reads { Leaves self.new.interface result reader.new (export_at line self.old.interface reader.old) }
+        ensures reads { Leaves self.new.interface result reader.new (export_at self.old.version line self.old.interface reader.old) }
         ensures shrinks { OnOk result (length reader.new ≤ length reader.old) }
+        ensures version { OnOk result (self.new.version ≡ self.old.version) }
         ensures tabled { OnOk result (IsTabled self.new) }
     {
         let name = reader.fresh(&self.exports)?;
-        let known = known(&self.reftypes, &self.iterators);
+        let known = known(self.version, &self.reftypes, &self.iterators);
         let callable = read_callable(alloc, &known, reader)?;
         let owned = Name::from_bytes(alloc, name)?;
         self.exports.add(name)?;
@@ -276,6 +290,7 @@ impl<'a> Draft<'a> {
         requires { IsTabled self.old }
         ensures reads { Leaves self.new.interface result reader.new (field_at line self.old.interface reader.old) }
         ensures shrinks { OnOk result (length reader.new ≤ length reader.old) }
+        ensures version { OnOk result (self.new.version ≡ self.old.version) }
         ensures tabled { OnOk result (IsTabled self.new) }
     {
         let place = reader.here();
@@ -303,8 +318,9 @@ impl<'a> Draft<'a> {
         reader: &mut Reader<'a>,
     ) -> Result<(), ReadError>
         requires { IsTabled self.old }
-        ensures reads { Leaves self.new.interface result reader.new (statement_at line self.old.interface reader.old) }
+        ensures reads { Leaves self.new.interface result reader.new (statement_at self.old.version line self.old.interface reader.old) }
         ensures shrinks { OnOk result (length reader.new < length reader.old) }
+        ensures version { OnOk result (self.new.version ≡ self.old.version) }
         ensures tabled { OnOk result (IsTabled self.new) }
     {
         if reader.takes(b"reftype") {

@@ -8,12 +8,16 @@
 //! export kmalloc : ptr (i64 n) post(if (return != 0) transfer(write, return, n))
 //! ```
 //!
+//! A text that begins with `interface 2` may lend capabilities for the length of a call: `pre(lend(write, p, n))`. The
+//! loans that a call's actions open end behind all its other actions.
+//!
 //! [`read_interface`] answers the interface that a text says, or the first fault that is met in it, with its line and
 //! its words. [`tokens_say_all`] states that spaces and comments say nothing.
 #![tactic(auto)]
 
 mod draft;
 mod fault;
+mod head;
 mod said;
 mod text;
 

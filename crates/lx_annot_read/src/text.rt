@@ -2,16 +2,16 @@
 
 ghost use Rattle.std.specs.Prelude.{◌≡◌, ◌+◌, ◌<◌, ◌≤◌, ◌^◌, All, drop, length, IfOk, IfErr, OnOk};
 ghost use Rattle.lx_words.specs.Cuts.{IsWithin};
-ghost use Rattle.lx_annot_expressions.specs.Reading.{Passes};
 ghost use Rattle.lx_annot_expressions.specs.Tokens.{most_tokens};
 ghost use Rattle.lx_annot_read.specs.Aside.{TokensSayAll};
 ghost use Rattle.lx_annot_read.specs.Draft.{IsTabled};
 ghost use Rattle.lx_annot_read.specs.Faults.{Gives};
-ghost use Rattle.lx_annot_read.specs.Interfaces.{empty, head_at};
+ghost use Rattle.lx_annot_read.specs.Interfaces.{empty};
 ghost use Rattle.lx_annot_read.specs.Texts.{InterfaceFails, IsFailed, SaysInterface, body_at, first_at, interface_at, next_at, window};
 
 use crate::draft::Draft;
 use crate::fault::{Failure, InterfaceFault, lexical, met_at};
+use crate::head::{Version, read_head};
 use lx_annot::interface::Interface;
 use lx_annot_expressions::{Fault, MOST_TOKENS, ReadError, Reader};
 use lx_words::{Stop, Token, TokenRule, scan};
@@ -64,33 +64,22 @@ fn behind<'a>(text: &[u8], tokens: &'a [Token], count: usize) -> &'a [Token]
     tokens.split_at(count).1
 }
 
-/// The first two tokens.
-#[tactic(auto, unfolding(crate::specs::Interfaces::head_at))]
-fn head(reader: &mut Reader<'_>) -> Result<(), ReadError>
-    ensures reads { Passes result reader.new (head_at reader.old) }
-    ensures shrinks { length reader.new ≤ length reader.old }
-{
-    reader.expect(b"interface")?;
-    reader.expect(b"1")?;
-    Ok(())
-}
-
-/// The tokens behind `interface 1`.
+/// The version of a text, and the tokens behind it.
 #[tactic(auto, unfolding(crate::specs::Texts::first_at))]
 fn behind_head<'a>(
     alloc: Global,
     text: &'a [u8],
     stop: Option<Stop>,
     tokens: &'a [Token],
-) -> Result<&'a [Token], Failure>
+) -> Result<(Version, &'a [Token]), Failure>
     requires { All (IsWithin text.now) tokens.now }
-    ensures reads { Gives (λ ts. (tt, ts.now)) result (first_at text.now stop tokens.now) }
-    ensures within { IfOk result (λ ts. All (IsWithin text.now) ts.now) }
+    ensures reads { Gives (λ h. (h.0, h.1.now)) result (first_at text.now stop tokens.now) }
+    ensures within { IfOk result (λ h. All (IsWithin text.now) h.1.now) }
 {
     let window = window(text, tokens);
     let mut reader = Reader::new(text, window);
-    match head(&mut reader) {
-        Ok(()) => Ok(behind(text, tokens, window.len() - reader.left())),
+    match read_head(&mut reader) {
+        Ok(version) => Ok((version, behind(text, tokens, window.len() - reader.left()))),
         Err(error) => Err(failed(alloc, text, stop, tokens, error)),
     }
 }
@@ -107,7 +96,8 @@ fn add_next<'a>(
 ) -> Result<&'a [Token], Failure>
     requires within { All (IsWithin text.now) tokens.now }
     requires tabled { IsTabled draft.old }
-    ensures reads { Gives (λ ts. (draft.new.interface, ts.now)) result (next_at text.now stop line draft.old.interface tokens.now) }
+    ensures reads { Gives (λ ts. (draft.new.interface, ts.now)) result (next_at text.now stop draft.old.version line draft.old.interface tokens.now) }
+    ensures version { OnOk result (draft.new.version ≡ draft.old.version) }
     ensures tabled { OnOk result (IsTabled draft.new) }
     ensures within { IfOk result (λ ts. All (IsWithin text.now) ts.now) }
     ensures shrinks { IfOk result (λ ts. length ts.now < length tokens.now) }
@@ -120,17 +110,18 @@ fn add_next<'a>(
     }
 }
 
-/// The interface that the statements say.
+/// The interface that the statements of a text of this version say.
 fn body(
     alloc: Global,
     text: &[u8],
     stop: Option<Stop>,
+    version: Version,
     tokens: &[Token],
 ) -> Result<Interface, Failure>
     requires { All (IsWithin text.now) tokens.now }
-    ensures { Gives (λ i. i) result (body_at text.now stop (length tokens.now) empty tokens.now) }
+    ensures { Gives (λ i. i) result (body_at text.now stop version (length tokens.now) empty tokens.now) }
 {
-    let mut draft = Draft::new(alloc);
+    let mut draft = Draft::new(alloc, version);
     let mut rest = tokens;
     while let Some(first) = rest.first() {
         rest = add_next(alloc, text, stop, first.line, &mut draft, rest)?;
@@ -149,8 +140,8 @@ fn interface_in(
     requires { All (IsWithin text.now) tokens.now }
     ensures { Gives (λ i. i) result (interface_at text.now stop tokens.now) }
 {
-    let rest = behind_head(alloc, text, stop, tokens)?;
-    let interface = body(alloc, text, stop, rest)?;
+    let (version, rest) = behind_head(alloc, text, stop, tokens)?;
+    let interface = body(alloc, text, stop, version, rest)?;
     match stop {
         Some(stop) => Err(lexical(alloc, stop)),
         None => Ok(interface),

@@ -1,6 +1,7 @@
 -- Actions and items: what is read is in the grammar.
-use Rattle.std.proofs.Common.{◌≡◌, ℕ, zero, suc, Bool, true, false, cond, Some, None, List, [], ◌∷◌, ◌++◌, length, Ok, refl, sym, ap, ◌∙◌, subst, bytes_eq, codes}
-use Rattle.std.specs.Prelude.{if◌then◌else◌}
+use Rattle.std.proofs.Common.{◌≡◌, ℕ, zero, suc, Bool, true, false, cond, Option, Some, None, List, [], ◌∷◌, ◌++◌, length, Ok, refl, sym, ap, ◌∙◌, subst, bytes_eq, codes}
+use Rattle.std.specs.Prelude.{if◌then◌else◌, ◌&&◌}
+use Rattle.std.specs.Map.{lookup}
 use Rattle.lx_annot.specs.declared.action.CapSpec.{CapSpec}
 use Rattle.lx_annot.specs.declared.interface.Item.{Item}
 use Rattle.lx_annot.specs.Action.{Action, If}
@@ -10,7 +11,7 @@ use Rattle.lx_annot_expressions.specs.Tokens.{Tok}
 use Rattle.lx_annot_expressions.specs.Reading.{Read, ◌>>=◌, has, behind, next_at, pick_at, always_refused}
 use Rattle.lx_annot_expressions.specs.Exprs.{Scope, expr_at, bracketed_at}
 use Rattle.lx_annot_terms.specs.Lists.{Known, list_at, item_list_at}
-use Rattle.lx_annot_terms.specs.Actions.{deed_of, action_of, deed_at, condition_at, action_within, action_at}
+use Rattle.lx_annot_terms.specs.Actions.{deeds, deed_of, action_of, deed_at, condition_at, action_within, action_at}
 use Rattle.lx_annot_terms.specs.ItemReading.{guarded_item_at, plain_item_at, item_at}
 use Rattle.lx_annot_expressions.specs.Grammar.{Part, Picks, Is, ◌then◌, InBrackets}
 use Rattle.lx_annot_terms.specs.Grammar.{IsList, IsItemList, IsAction, IsItem}
@@ -18,44 +19,64 @@ use Rattle.lx_annot_expressions.specs.Laws.{Finds}
 use Rattle.lx_annot_expressions.proofs.Parts.{pick_finds, next_finds, next_token, bind_finds, last_finds, Joint, Mapped}
 use Rattle.lx_annot_terms.proofs.ListFinds.{list_found, item_list_found, bracketed_finds}
 
-word_of : Deed → List ℕ
+abbrev word_of : Deed → List ℕ
 word_of deed.Copy = codes "copy"
 word_of deed.Transfer = codes "transfer"
 word_of deed.Check = codes "check"
+word_of deed.Lend = codes "lend"
 
-deed_step : (bytes : List ℕ) (d : Deed) (a b c : Bool) → bytes_eq bytes (codes "copy") ≡ a → bytes_eq bytes (codes "transfer") ≡ b → bytes_eq bytes (codes "check") ≡ c → cond a (Some deed.Copy) (cond b (Some deed.Transfer) (cond c (Some deed.Check) None)) ≡ Some d → bytes_eq bytes (word_of d) ≡ true
-unfolding word_of
-deed_step bytes d true b c p q r h = let s : deed.Copy ≡ d = cc in subst (λ x. bytes_eq bytes (word_of x) ≡ true) s p
-deed_step bytes d false true c p q r h = let s : deed.Transfer ≡ d = cc in subst (λ x. bytes_eq bytes (word_of x) ≡ true) s q
-deed_step bytes d false false true p q r h = let s : deed.Check ≡ d = cc in subst (λ x. bytes_eq bytes (word_of x) ≡ true) s r
-deed_step bytes d false false false p q r h = cc
+-- a lend stands only where it may
+abbrev May : Bool → Deed → Type 0
+May lends deed.Copy = Unit {0}
+May lends deed.Transfer = Unit {0}
+May lends deed.Check = Unit {0}
+May lends deed.Lend = lends ≡ true
 
-deed_word : (bytes : List ℕ) (d : Deed) → deed_of bytes ≡ Some d → bytes_eq bytes (word_of d) ≡ true
+abbrev Worded : Bool → List ℕ → Deed → Type 0
+Worded lends bytes d = (bytes_eq bytes (word_of d) ≡ true) × May lends d
+
+table_step : (lends : Bool) (bytes : List ℕ) (d : Deed) (a b c : Bool) → bytes_eq bytes (codes "copy") ≡ a → bytes_eq bytes (codes "transfer") ≡ b → bytes_eq bytes (codes "check") ≡ c → cond a (Some deed.Copy) (cond b (Some deed.Transfer) (cond c (Some deed.Check) None)) ≡ Some d → Worded lends bytes d
+table_step lends bytes d true b c p q r h = let s : deed.Copy ≡ d = cc in subst (Worded lends bytes) s (p, tt)
+table_step lends bytes d false true c p q r h = let s : deed.Transfer ≡ d = cc in subst (Worded lends bytes) s (q, tt)
+table_step lends bytes d false false true p q r h = let s : deed.Check ≡ d = cc in subst (Worded lends bytes) s (r, tt)
+table_step lends bytes d false false false p q r h = cc
+
+abbrev deed_by : List ℕ → Bool → Option Deed
+deed_by bytes b = if b then Some deed.Lend else lookup (bytes_eq bytes) deeds
+
+deed_step : (lends : Bool) (bytes : List ℕ) (d : Deed) (w l : Bool) → bytes_eq bytes (codes "lend") ≡ w → lends ≡ l → deed_by bytes (w && l) ≡ Some d → Worded lends bytes d
+deed_step lends bytes d true true p q h = let s : deed.Lend ≡ d = cc in subst (Worded lends bytes) s (p, q)
+deed_step lends bytes d true false p q h =
+    table_step lends bytes d (bytes_eq bytes (codes "copy")) (bytes_eq bytes (codes "transfer")) (bytes_eq bytes (codes "check")) refl refl refl h
+deed_step lends bytes d false l p q h =
+    table_step lends bytes d (bytes_eq bytes (codes "copy")) (bytes_eq bytes (codes "transfer")) (bytes_eq bytes (codes "check")) refl refl refl h
+
+deed_word : (lends : Bool) (bytes : List ℕ) (d : Deed) → deed_of lends bytes ≡ Some d → Worded lends bytes d
 unfolding deed_of
-deed_word bytes d h = deed_step bytes d (bytes_eq bytes (codes "copy")) (bytes_eq bytes (codes "transfer")) (bytes_eq bytes (codes "check")) refl refl refl h
+deed_word lends bytes d h = deed_step lends bytes d (bytes_eq bytes (codes "lend")) lends refl refl h
 
 module _ (scope : Scope) (known : Known) where
   abbrev Inside : CapSpec → Part
   Inside list = Is (codes "(") then IsList scope known list then Is (codes ")")
 
-  deed_part : (d : Deed) (list : CapSpec) (t : Tok) (ts : List Tok) → bytes_eq t.bytes (word_of d) ≡ true → Inside list ts → IsAction scope known (action_of d list) (t ∷ ts)
-  unfolding word_of
-  deed_part deed.Copy list t ts h p = (t ∷ [], ts, (t, h, refl), p, refl)
-  deed_part deed.Transfer list t ts h p = (t ∷ [], ts, (t, h, refl), p, refl)
-  deed_part deed.Check list t ts h p = (t ∷ [], ts, (t, h, refl), p, refl)
+  deed_part : (d : Deed) (list : CapSpec) (t : Tok) (ts : List Tok) → Worded known.lends t.bytes d → Inside list ts → IsAction scope known (action_of d list) (t ∷ ts)
+  deed_part deed.Copy list t ts (h, may) p = (t ∷ [], ts, (t, h, refl), p, refl)
+  deed_part deed.Transfer list t ts (h, may) p = (t ∷ [], ts, (t, h, refl), p, refl)
+  deed_part deed.Check list t ts (h, may) p = (t ∷ [], ts, (t, h, refl), p, refl)
+  deed_part deed.Lend list t ts (h, may) p = (may, (t ∷ [], ts, (t, h, refl), p, refl))
 
   abbrev DeedParts : Action → Part
-  DeedParts = Joint (λ d. Picks (λ (t : Tok). deed_of t.bytes) d) (λ d. Joint (λ (o : Unit {0}). Is (codes "(")) (λ o. Joint (IsList scope known) (λ l. Mapped (λ (c : Unit {0}). action_of d l) (λ c. Is (codes ")")))))
+  DeedParts = Joint (λ d. Picks (λ (t : Tok). deed_of known.lends t.bytes) d) (λ d. Joint (λ (o : Unit {0}). Is (codes "(")) (λ o. Joint (IsList scope known) (λ l. Mapped (λ (c : Unit {0}). action_of d l) (λ c. Is (codes ")")))))
 
   deed_parts : (a : Action) (ts : List Tok) → DeedParts a ts → IsAction scope known a ts
   deed_parts a ts (d, (f, b, (t, e, ft), (o, (g, h, po, (l, (i, j, pl, (c, pc, eq), e3)), e2)), e1)) =
       subst (λ z. IsAction scope known z ts) eq
-      (subst (λ z. IsAction scope known (action_of d l) z) (sym (e1 ∙ ap (λ x. x ++ b) ft)) (deed_part d l t b (deed_word t.bytes d e) (g, h, po, (i, j, pl, pc, e3), e2)))
+      (subst (λ z. IsAction scope known (action_of d l) z) (sym (e1 ∙ ap (λ x. x ++ b) ft)) (deed_part d l t b (deed_word known.lends t.bytes d e) (g, h, po, (i, j, pl, pc, e3), e2)))
 
   deed_found : Finds (deed_at scope known) (IsAction scope known)
   unfolding deed_at
   deed_found ts us y r =
-      let w = bind_finds (pick_at (λ t. deed_of t.bytes) always_refused) (λ d. next_at (codes "(") d.1 >>= λ o. list_at scope known o.1 >>= λ l. next_at (codes ")") l.1 >>= λ c. Ok (action_of d.0 l.0, c.1)) _ _ (pick_finds (λ t. deed_of t.bytes) always_refused)
+      let w = bind_finds (pick_at (λ t. deed_of known.lends t.bytes) always_refused) (λ d. next_at (codes "(") d.1 >>= λ o. list_at scope known o.1 >>= λ l. next_at (codes ")") l.1 >>= λ c. Ok (action_of d.0 l.0, c.1)) _ _ (pick_finds (λ t. deed_of known.lends t.bytes) always_refused)
       (λ d. bind_finds (next_at (codes "(")) (λ o. list_at scope known o.1 >>= λ l. next_at (codes ")") l.1 >>= λ c. Ok (action_of d l.0, c.1)) _ _ (next_finds (codes "("))
       (λ o. bind_finds (list_at scope known) (λ l. next_at (codes ")") l.1 >>= λ c. Ok (action_of d l.0, c.1)) _ _ (list_found scope known)
       (λ l. last_finds (next_at (codes ")")) (λ c. action_of d l) (λ (c : Unit {0}). Is (codes ")")) (next_finds (codes ")"))))) ts us y r in

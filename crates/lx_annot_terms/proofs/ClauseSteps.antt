@@ -5,11 +5,11 @@ use Rattle.lx_annot_expressions.specs.Tokens.{Tok}
 use Rattle.lx_annot_expressions.specs.Reading.{behind, steps_at}
 use Rattle.lx_annot_terms.specs.Lists.{Known}
 use Rattle.lx_annot_terms.specs.Signatures.{Signature}
-use Rattle.lx_annot_terms.specs.Clauses.{begins_clause, clause_at, clauses_at, empty_annotation}
+use Rattle.lx_annot_terms.specs.Clauses.{begins_clause, clause_at, written_at, empty_annotation}
 use Rattle.lx_annot_terms.proofs.Steps.{Stepping, steps_begin}
 
-pub clauses_begin : (sig : Signature) (known : Known) (a : Annotation) (ts : List Tok) → a ≡ empty_annotation → Stepping begins_clause (clause_at sig known) a ts (clauses_at sig known ts)
-unfolding clauses_at
+pub clauses_begin : (sig : Signature) (known : Known) (a : Annotation) (ts : List Tok) → a ≡ empty_annotation → Stepping begins_clause (clause_at sig known) a ts (written_at sig known ts)
+unfolding written_at
 clauses_begin sig known a ts e = steps_begin begins_clause (clause_at sig known) a ts _ (ap (λ b. steps_at begins_clause (clause_at sig known) (length ts) b ts) (sym e))
 
 pub clause_shorter : (ts : List Tok) → begins_clause ts ≡ true → length (behind ts) < length ts

@@ -3,4 +3,5 @@ pub mod ActionReads
 pub mod ClauseSteps
 pub mod ListFinds
 pub mod ListReads
+pub mod Loans
 pub mod Steps

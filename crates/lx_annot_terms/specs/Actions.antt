@@ -1,8 +1,8 @@
 -- Reading actions.
-use Rattle.std.specs.Prelude.{ℕ, zero, suc, Option, List, [], ◌∷◌, length, Ok, if◌then◌else◌, codes, bytes_eq}
+use Rattle.std.specs.Prelude.{ℕ, zero, suc, Bool, ◌&&◌, Option, Some, List, [], ◌∷◌, length, Ok, if◌then◌else◌, codes, bytes_eq}
 use Rattle.std.specs.Map.{lookup}
 use Rattle.lx_annot.specs.declared.action.CapSpec.{CapSpec}
-use Rattle.lx_annot.specs.Action.{Action, Copy, Transfer, Check, If}
+use Rattle.lx_annot.specs.Action.{Action, Copy, Transfer, Check, Lend, If}
 use Rattle.lx_annot_terms.specs.declared.actions.Deed.{Deed}
 use Rattle.lx_annot_terms.specs.declared.actions.Deed.TheVariants as deed
 use Rattle.lx_annot_expressions.specs.Tokens.{Tok}
@@ -10,23 +10,24 @@ use Rattle.lx_annot_expressions.specs.Reading.{Read, ◌>>=◌, refused, behind,
 use Rattle.lx_annot_expressions.specs.Exprs.{Scope, expr_at, bracketed_at}
 use Rattle.lx_annot_terms.specs.Lists.{Known, list_at}
 
--- the words of actions
+-- the words of actions, wherever they stand
 abbrev pub deeds : List (List ℕ × Deed)
 deeds = (codes "copy", deed.Copy) ∷ (codes "transfer", deed.Transfer) ∷ (codes "check", deed.Check) ∷ []
 
--- the action that a word stands for
-unfoldable pub deed_of : List ℕ → Option Deed
-deed_of bytes = lookup (bytes_eq bytes) deeds
+-- the action that a word stands for; `lend` is one where it may stand
+unfoldable pub deed_of : Bool → List ℕ → Option Deed
+deed_of lends bytes = if bytes_eq bytes (codes "lend") && lends then Some deed.Lend else lookup (bytes_eq bytes) deeds
 
 abbrev pub action_of : Deed → CapSpec → Action
 action_of deed.Copy list = Copy list
 action_of deed.Transfer list = Transfer list
 action_of deed.Check list = Check list
+action_of deed.Lend list = Lend list
 
--- `copy(L)`, `transfer(L)` or `check(L)`
+-- `copy(L)`, `transfer(L)`, `check(L)` or `lend(L)`
 unfoldable pub deed_at : Scope → Known → List Tok → Read Action
 deed_at scope known ts = do
-  d ← pick_at (λ t. deed_of t.bytes) always_refused ts
+  d ← pick_at (λ t. deed_of known.lends t.bytes) always_refused ts
   o ← next_at (codes "(") d.1
   l ← list_at scope known o.1
   c ← next_at (codes ")") l.1

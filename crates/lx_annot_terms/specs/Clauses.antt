@@ -1,11 +1,11 @@
 -- Reading the clauses of a slot or an export.
-use Rattle.std.specs.Prelude.{Bool, ◌||◌, Option, Some, None, is_some, List, [], ◌∷◌, ◌++◌, length, Ok, if◌then◌else◌, codes}
+use Rattle.std.specs.Prelude.{Bool, false, ◌||◌, Option, Some, None, is_some, List, [], ◌∷◌, ◌++◌, length, Ok, if◌then◌else◌, codes}
 use Rattle.lx_annot.specs.declared.expr.Ty.{Ty}
 use Rattle.lx_annot.specs.declared.expr.Ty.TheVariants as ty
 use Rattle.lx_annot.specs.declared.action.Who.{Who}
 use Rattle.lx_annot.specs.declared.action.Who.TheVariants as who
 use Rattle.lx_annot.specs.declared.action.Annotation.{Annotation}
-use Rattle.lx_annot.specs.Action.{Action}
+use Rattle.lx_annot.specs.Action.{Action, with_end}
 use Rattle.lx_annot_expressions.specs.Tokens.{Tok}
 use Rattle.lx_annot_expressions.specs.Reading.{Read, ◌>>=◌, refused, behind, has, next_at, steps_at}
 use Rattle.lx_annot_expressions.specs.Exprs.{Scope, expr_at}
@@ -24,6 +24,10 @@ scope_before sig = record { params = sig.params; ret = None }
 
 abbrev pub scope_behind : Signature → Scope
 scope_behind sig = record { params = sig.params; ret = result_of sig.ret }
+
+-- what an action behind the body may use: it lends nothing
+abbrev pub without_lends : Known → Known
+without_lends known = record { reftypes = known.reftypes; iterators = known.iterators; lends = false }
 
 -- `shared`, `global` or an expression
 abbrev pub who_at : Scope → List Tok → Read Who
@@ -57,6 +61,10 @@ with_pre a x = record { principal = a.principal; pre = a.pre ++ x ∷ []; post =
 abbrev pub with_post : Annotation → Action → Annotation
 with_post a x = record { principal = a.principal; pre = a.pre; post = a.post ++ x ∷ [] }
 
+-- the actions behind the body, and the end of the loans that those before it open
+abbrev pub with_loans_ended : Annotation → Annotation
+with_loans_ended a = record { principal = a.principal; pre = a.pre; post = with_end a.pre a.post }
+
 abbrev pub empty_annotation : Annotation
 empty_annotation = record { principal = None; pre = []; post = [] }
 
@@ -70,7 +78,7 @@ abbrev pub pre_clause_at : Signature → Known → Annotation → List Tok → R
 pre_clause_at sig known a ts = enclosed_action_at (scope_before sig) known (behind ts) >>= λ x. Ok (with_pre a x.0, x.1)
 
 abbrev pub post_clause_at : Signature → Known → Annotation → List Tok → Read Annotation
-post_clause_at sig known a ts = enclosed_action_at (scope_behind sig) known (behind ts) >>= λ x. Ok (with_post a x.0, x.1)
+post_clause_at sig known a ts = enclosed_action_at (scope_behind sig) (without_lends known) (behind ts) >>= λ x. Ok (with_post a x.0, x.1)
 
 -- the word of a clause stands next
 abbrev pub begins_clause : List Tok → Bool
@@ -83,6 +91,10 @@ clause_at sig known a ts =
     else if has (codes "pre") ts then pre_clause_at sig known a ts
     else post_clause_at sig known a ts
 
--- all clauses that stand there
+-- all clauses that are written there
+unfoldable pub written_at : Signature → Known → List Tok → Read Annotation
+written_at sig known ts = steps_at begins_clause (clause_at sig known) (length ts) empty_annotation ts
+
+-- the annotation that they say
 unfoldable pub clauses_at : Signature → Known → List Tok → Read Annotation
-clauses_at sig known ts = steps_at begins_clause (clause_at sig known) (length ts) empty_annotation ts
+clauses_at sig known ts = written_at sig known ts >>= λ a. Ok (with_loans_ended a.0, a.1)

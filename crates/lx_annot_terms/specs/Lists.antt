@@ -10,10 +10,11 @@ use Rattle.lx_annot_expressions.specs.Reading.{Read, ◌>>=◌, at, refused, beh
 use Rattle.lx_annot_expressions.specs.Names.{known_at}
 use Rattle.lx_annot_expressions.specs.Exprs.{Scope, expr_at, bracketed_at}
 
--- The names that lists may use: reference types and iterators.
+-- What an action may use: the names of reference types and iterators, and whether it may lend.
 pub record Known : Type 0 where
   pub reftypes : List (List ℕ)
   pub iterators : List (List ℕ)
+  pub lends : Bool
 
 -- the mark that ends a list, or an item, stands next
 abbrev pub ends : Within → List Tok → Bool

@@ -18,20 +18,24 @@ pub enum Deed {
     Copy,
     Transfer,
     Check,
+    Lend,
 }
 
-/// The words of actions.
+/// The words of actions, wherever they stand.
 const DEEDS: [(&[u8], Deed); 3] = [
     (b"copy", Deed::Copy),
     (b"transfer", Deed::Transfer),
     (b"check", Deed::Check),
 ];
 
-/// The action that a word stands for.
+/// The action that a word stands for; `lend` is one where it may stand.
 #[tactic(auto, unfolding(crate::specs::Actions::deed_of))]
-fn deed_of(bytes: &[u8]) -> Option<Deed>
-    ensures { result ≡ deed_of bytes.now }
+fn deed_of(lends: bool, bytes: &[u8]) -> Option<Deed>
+    ensures { result ≡ deed_of lends bytes.now }
 {
+    if bytes == b"lend".as_slice() && lends {
+        return Some(Deed::Lend);
+    }
     found(&DEEDS, bytes)
 }
 
@@ -42,6 +46,7 @@ fn action_of(deed: Deed, list: CapSpec) -> Action
         Deed::Copy => ActionNode::Copy(list),
         Deed::Transfer => ActionNode::Transfer(list),
         Deed::Check => ActionNode::Check(list),
+        Deed::Lend => ActionNode::Lend(list),
     };
     Action { node }
 }
@@ -53,15 +58,15 @@ fn guarded(alloc: Global, condition: Expr, action: Action) -> Result<Action, Mem
     Ok(Action { node })
 }
 
-/// The word of an action.
-fn deed_word(reader: &mut Reader<'_>) -> Result<Deed, ReadError>
-    ensures reads { Gives result reader.new (pick_at (λ t. deed_of t.bytes) always_refused reader.old) }
+/// The word of an action, which may be `lend` where `lends` says so.
+fn deed_word(reader: &mut Reader<'_>, lends: bool) -> Result<Deed, ReadError>
+    ensures reads { Gives result reader.new (pick_at (λ t. deed_of lends t.bytes) always_refused reader.old) }
     ensures shrinks { length reader.new ≤ length reader.old }
 {
     let Some((_, bytes)) = reader.token() else {
         return Err(reader.fault(FaultKind::Statement));
     };
-    let deed = reader.picked(deed_of(bytes), FaultKind::Statement)?;
+    let deed = reader.picked(deed_of(lends, bytes), FaultKind::Statement)?;
     Ok(deed)
 }
 
@@ -76,7 +81,7 @@ fn plain_action(
     ensures reads { Gives result reader.new (deed_at scope.now known.now reader.old) }
     ensures shrinks { length reader.new ≤ length reader.old }
 {
-    let deed = deed_word(reader)?;
+    let deed = deed_word(reader, known.lends)?;
     reader.expect(b"(")?;
     let list = list(alloc, reader, scope, known)?;
     reader.expect(b")")?;

@@ -1,16 +1,21 @@
 //! Reading the clauses of a slot or an export.
 
-ghost use Rattle.std.specs.Prelude.{◌≡◌, ◌≤◌, length, OnOk};
+ghost use Rattle.std.specs.Prelude.{◌≡◌, ◌++◌, ◌≤◌, filter, length, IfOk, OnOk};
+ghost use Rattle.lx_annot.specs.Action.{end_of, is_lend};
 ghost use Rattle.lx_annot_expressions.specs.Reading.{Gives, Leaves, behind};
-ghost use Rattle.lx_annot_terms.specs.Clauses.{begins_clause, clause_at, clauses_at, empty_annotation, enclosed_action_at, post_clause_at, pre_clause_at, principal_at, principal_clause_at, result_of, scope_before, scope_behind, who_at};
+ghost use Rattle.lx_annot_terms.specs.Clauses.{begins_clause, clause_at, clauses_at, empty_annotation, enclosed_action_at, post_clause_at, pre_clause_at, principal_at, principal_clause_at, result_of, scope_before, scope_behind, who_at, with_loans_ended, without_lends, written_at};
 
 use crate::actions::action;
 use crate::lists::Known;
 use crate::signatures::Signature;
-use lx_annot::action::{Action, Actions, Annotation, Who};
+use lx_annot::action::{Action, ActionNode, Actions, Annotation, Who};
 use lx_annot::expr::Ty;
 use lx_annot_expressions::{FaultKind, ReadError, Reader, Scope};
+use lx_words::Memory;
 use std::alloc::Global;
+
+/// How many loans the end of loans may count.
+const MOST_LOANS: usize = u32::MAX as usize;
 
 /// The type of `return` behind the body of a function with this result.
 fn result_of(ty: Ty) -> Option<Ty>
@@ -35,6 +40,19 @@ impl Signature {
         ensures { result ≡ scope_behind self.now }
     {
         Scope::new(self.params.as_slice(), result_of(self.ret))
+    }
+}
+
+impl<'a> Known<'a> {
+    /// What an action behind the body may use.
+    fn without_lends(&self) -> Known<'a>
+        ensures { result ≡ without_lends self.now }
+    {
+        Known {
+            reftypes: self.reftypes,
+            iterators: self.iterators,
+            lends: false,
+        }
     }
 }
 
@@ -136,7 +154,12 @@ fn post_clause(
     ensures shrinks { OnOk result (length reader.new ≤ length (behind reader.old)) }
 {
     reader.skip();
-    let action = enclosed_action(alloc, reader, &signature.scope_behind(), known)?;
+    let action = enclosed_action(
+        alloc,
+        reader,
+        &signature.scope_behind(),
+        &known.without_lends(),
+    )?;
     annotation.post.push(action)?;
     Ok(())
 }
@@ -170,7 +193,70 @@ fn clause(
     Ok(())
 }
 
-/// All clauses that stand next, of a function of this signature.
+/// All clauses that are written next, of a function of this signature.
+fn written_clauses(
+    alloc: Global,
+    reader: &mut Reader<'_>,
+    signature: &Signature,
+    known: &Known<'_>,
+) -> Result<Annotation, ReadError>
+    ensures reads { Gives result reader.new (written_at signature.now known.now reader.old) }
+    ensures shrinks { OnOk result (length reader.new ≤ length reader.old) }
+{
+    let mut annotation = empty_annotation(alloc);
+    while begins_clause(reader) {
+        clause(alloc, reader, signature, known, &mut annotation)?;
+    }
+    Ok(annotation)
+}
+
+/// Whether an action is a lend, also behind conditions.
+fn is_lend(action: &Action) -> bool
+    ensures { result ≡ is_lend action.now }
+{
+    match &action.node {
+        ActionNode::Lend(_) => true,
+        ActionNode::If(_, inner) => is_lend(inner),
+        _ => false,
+    }
+}
+
+/// How many of these actions are lends.
+#[tactic(auto, using(crate::proofs::Loans::lends_counted))]
+fn count_of_lends(actions: &[Action]) -> usize
+    ensures { result ≡ length (filter is_lend actions.now) }
+{
+    actions.iter().filter(|action| is_lend(action)).count()
+}
+
+/// Puts the end of so many loans behind these actions, where there are any.
+#[tactic(auto, using(crate::proofs::Loans::end_none, crate::proofs::Loans::end_some))]
+fn put_end(actions: &mut Actions, count: u32) -> Result<(), Memory>
+    ensures { OnOk result (actions.new ≡ actions.old ++ end_of count) }
+{
+    if count > 0 {
+        let node = ActionNode::End(count);
+        actions.push(Action { node })?;
+    }
+    Ok(())
+}
+
+/// The annotation with the end of the loans that it opens. There is no memory for so many lends that no number is
+/// left for them.
+fn with_loans_ended(annotation: Annotation) -> Result<Annotation, Memory>
+    ensures { IfOk result (λ a. a ≡ with_loans_ended annotation) }
+{
+    let mut annotation = annotation;
+    let count = count_of_lends(annotation.pre.as_slice());
+    if count > MOST_LOANS {
+        return Err(Memory);
+    }
+    put_end(&mut annotation.post, count as u32)?;
+    Ok(annotation)
+}
+
+/// The annotation that all clauses say that stand next, of a function of this signature.
+#[tactic(auto, unfolding(crate::specs::Clauses::clauses_at))]
 pub fn read_clauses(
     alloc: Global,
     reader: &mut Reader<'_>,
@@ -180,9 +266,7 @@ pub fn read_clauses(
     ensures reads { Gives result reader.new (clauses_at signature.now known.now reader.old) }
     ensures shrinks { OnOk result (length reader.new ≤ length reader.old) }
 {
-    let mut annotation = empty_annotation(alloc);
-    while begins_clause(reader) {
-        clause(alloc, reader, signature, known, &mut annotation)?;
-    }
+    let written = written_clauses(alloc, reader, signature, known)?;
+    let annotation = with_loans_ended(written)?;
     Ok(annotation)
 }

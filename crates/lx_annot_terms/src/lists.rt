@@ -9,11 +9,12 @@ use lx_annot_expressions::{FaultKind, NameTable, ReadError, Reader, Scope};
 use std::alloc::Global;
 use std::marker::Model;
 
-/// The names that lists may use: reference types and iterators.
+/// What an action may use: the names of reference types and iterators, and whether it may lend.
 #[derive(Drop)]
 pub struct Known<'a> {
     pub reftypes: &'a NameTable<'a>,
     pub iterators: &'a NameTable<'a>,
+    pub lends: bool,
 }
 
 impl<'a> Model for Known<'a> {
@@ -21,7 +22,7 @@ impl<'a> Model for Known<'a> {
 
     ghost Value = { Meaning };
 
-    ghost view = { λ k. record { reftypes = k.reftypes.now; iterators = k.iterators.now } };
+    ghost view = { λ k. record { reftypes = k.reftypes.now; iterators = k.iterators.now; lends = k.lends } };
 }
 
 /// In what a list stands.

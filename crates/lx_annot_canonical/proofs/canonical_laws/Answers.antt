@@ -6,4 +6,4 @@ pub returns-clause-lists : goal.returns-clause-lists
 returns-clause-lists c i j a p q = text_same i j p q a
 
 pub returns-clause-parameters : goal.returns-clause-parameters
-returns-clause-parameters c r is known p q sig a ts h = callable_kept r is known p q sig a ts h
+returns-clause-parameters c r known is p q sig a ts h = callable_kept r is known (λ e. e) p q sig a ts h

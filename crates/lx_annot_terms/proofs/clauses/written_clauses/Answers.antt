@@ -3,7 +3,7 @@ use Rattle.std.proofs.lemmas.Result.{err_from_is_err_and}
 use Rattle.lx_annot_terms.specs.Clauses.{begins_clause, clause_at}
 use Rattle.lx_annot_terms.proofs.Steps.{steps_go_on, steps_fail, steps_done}
 use Rattle.lx_annot_terms.proofs.ClauseSteps.{clauses_begin, clause_shorter}
-use Rattle.lx_annot_terms.proofs.clauses.read_clauses.Goals as goal
+use Rattle.lx_annot_terms.proofs.clauses.written_clauses.Goals as goal
 
 pub loop-alloc-init : goal.loop-alloc-init
 loop-alloc-init c = record {
