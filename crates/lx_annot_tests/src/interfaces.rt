@@ -1,6 +1,6 @@
 //! Interfaces, with the first fault or the canonical texts that each has.
 
-use lx_annot::action::Annotation;
+use lx_annot::action::{ActionNode, Annotation};
 use lx_annot::canonical::canonical;
 use lx_annot::interface::Interface;
 use lx_annot_read::{InterfaceFault, read_interface};
@@ -40,12 +40,14 @@ fn fails(alloc: Global, text: &[u8], kind: u8, line: u32, what: &[u8]) -> bool {
     }
 }
 
-static HEADS: [Row; 8] = [
+static HEADS: [Row; 10] = [
     Row(b"", 2, 1, b"end"),
     Row(b"interface", 2, 1, b"end"),
     Row(b"# nothing\n\ninterface\n# more\n", 2, 3, b"end"),
     Row(b"interface 01", 2, 1, b"01"),
-    Row(b"interface 2\n", 2, 1, b"2"),
+    Row(b"interface 02", 2, 1, b"02"),
+    Row(b"interface 2\nfoo", 2, 2, b"foo"),
+    Row(b"interface 3\n", 2, 1, b"3"),
     Row(b"reftype a\n", 2, 1, b"reftype"),
     Row(b"@", 1, 1, b"0x40"),
     Row(b"interface 1\nreftype a\n\"b\"", 1, 3, b"0x22"),
@@ -272,6 +274,89 @@ fn the_first_fault_of_clauses(rt: HostRuntime) {
     assert_eq!(rt; CLAUSES.iter().position(|row| !row_fails(alloc, row)), None);
 }
 
+/// Lends where none may stand, and lends that are not whole.
+static LENDS: [Row; 13] = [
+    Row(
+        b"interface 1\nslot s : i32 (ptr p)\npre(if (p)\nlend(call, p))",
+        2,
+        4,
+        b"lend",
+    ),
+    Row(
+        b"interface 1\nexport f : i32 (ptr p)\npost(lend(call, p))",
+        2,
+        3,
+        b"lend",
+    ),
+    Row(
+        b"interface 2\nexport f : i32 (ptr p)\npost(lend(call, p))",
+        2,
+        3,
+        b"lend",
+    ),
+    Row(
+        b"interface 2\nslot s : i32 (ptr p) pre(lend(call, p)) post(if (p)\nlend(call, p))",
+        2,
+        3,
+        b"lend",
+    ),
+    Row(
+        b"interface 2\nexport f : i32 (ptr p) pre(\nlend(write, p))",
+        5,
+        3,
+        b"write",
+    ),
+    Row(b"interface 2\nexport f : i32 (ptr p) pre(lend)", 2, 2, b")"),
+    Row(
+        b"interface 2\nexport f : i32 (ptr p) pre(lend(call, return))",
+        3,
+        2,
+        b"return",
+    ),
+    Row(
+        b"interface 2\nexport f : i32 (ptr p) pre(lend(each(p)))",
+        3,
+        2,
+        b"each",
+    ),
+    Row(
+        b"interface 2\nexport f : i32 (ptr p) pre(lend(lend(call, p)))",
+        3,
+        2,
+        b"lend",
+    ),
+    Row(
+        b"interface 2\niterator i(p) { lend write p, 8 }",
+        2,
+        2,
+        b"lend",
+    ),
+    Row(
+        b"interface 2\nexport f : i32 (ptr p) pre(lend(call, p))\npost(end)",
+        2,
+        3,
+        b"end",
+    ),
+    Row(
+        b"interface 2\nexport f : i32 (ptr p) pre(lend(call, p))\npost(end(1))",
+        2,
+        3,
+        b"end",
+    ),
+    Row(
+        b"interface 2\nexport f : i32 (ptr p) pre(end)",
+        2,
+        2,
+        b"end",
+    ),
+];
+
+#[test]
+fn the_first_fault_of_lends(rt: HostRuntime) {
+    let alloc = rt.alloc();
+    assert_eq!(rt; LENDS.iter().position(|row| !row_fails(alloc, row)), None);
+}
+
 /// An expression over `p` and `q`, and its canonical text.
 struct Sample(&'static str, &'static [u8]);
 
@@ -355,6 +440,99 @@ fn operators_bind_by_their_level_and_from_the_left(rt: HostRuntime) {
             .iter()
             .position(|sample| !is_sample(alloc, sample).unwrap_or(false)),
         None
+    );
+}
+
+/// An interface, the canonical text of its first export, and how many loans the last action of that ends, or none.
+struct Lending(&'static [u8], &'static [u8], Option<u32>);
+
+static LENDINGS: [Lending; 9] = [
+    Lending(
+        b"interface 2 export f : void (ptr p) pre(lend(write, p, 8))",
+        b"pre(lend(write, $0, 8)) post(end)",
+        Some(1),
+    ),
+    Lending(
+        b"interface 2 export f : i32 (ptr p, i8 n) principal(p) pre(if (n) if (p) lend(call, p)) post(copy(call, return))",
+        b"principal($0) pre(if ($1) if ($0) lend(call, $0)) post(copy(call, return)) post(end)",
+        Some(1),
+    ),
+    // the end stands last, in whatever order the clauses do
+    Lending(
+        b"interface 2 export f : void (ptr p) post(copy(call, p)) pre(lend(call, 1)) pre(check(call, 2)) pre(if (p) lend(call, 3)) post(check(call, 4))",
+        b"pre(lend(call, 1)) pre(check(call, 2)) pre(if ($0) lend(call, 3)) post(copy(call, $0)) post(check(call, 4)) post(end)",
+        Some(2),
+    ),
+    Lending(
+        b"interface 2 export f : void (ptr p) pre(lend(call, p)) pre(lend(call, p)) pre(lend(call, p))",
+        b"pre(lend(call, $0)) pre(lend(call, $0)) pre(lend(call, $0)) post(end)",
+        Some(3),
+    ),
+    Lending(
+        b"interface 2 export f : void (ptr p) pre(transfer(call, p)) post(copy(call, p))",
+        b"pre(transfer(call, $0)) post(copy(call, $0))",
+        None,
+    ),
+    Lending(b"interface 2 export f : void (ptr p)", b"", None),
+    // `lend` as a name
+    Lending(
+        b"interface 1 reftype lend iterator lend(lend) { call lend } slot lend : void () export lend : void (ptr lend) pre(check(lend(lend))) post(copy(ref(lend), lend))",
+        b"pre(check(lend($0))) post(copy(ref(lend), $0))",
+        None,
+    ),
+    Lending(
+        b"interface 2 reftype lend iterator lend(lend) { call lend } slot lend : void () export lend : void (ptr lend) pre(check(lend(lend))) post(copy(ref(lend), lend))",
+        b"pre(check(lend($0))) post(copy(ref(lend), $0))",
+        None,
+    ),
+    Lending(
+        b"interface 2 reftype lend iterator lend(lend) { call lend } export lend : void (ptr lend) pre(lend(lend(lend))) pre(lend(ref(lend), lend))",
+        b"pre(lend(lend($0))) pre(lend(ref(lend), $0)) post(end)",
+        Some(2),
+    ),
+];
+
+/// How many loans the last action of the first export ends, where it ends any.
+fn last_end(alloc: Global, text: &[u8]) -> Result<Option<u32>, InterfaceFault> {
+    let interface = interface_in(alloc, text)?;
+    let Some(export) = interface.exports.as_slice().first() else {
+        return Err(InterfaceFault::Memory);
+    };
+    let Some(action) = export.annotation.post.as_slice().last() else {
+        return Ok(None);
+    };
+    match &action.node {
+        ActionNode::End(count) => Ok(Some(*count)),
+        _ => Ok(None),
+    }
+}
+
+/// Whether an interface is read as it says.
+fn is_lending(alloc: Global, row: &Lending) -> Result<bool, InterfaceFault> {
+    let found = export_text(alloc, row.0)?;
+    let end = last_end(alloc, row.0)?;
+    Ok(found.as_slice() == row.1 && end == row.2)
+}
+
+#[test]
+fn the_end_of_all_loans_stands_behind_all_actions(rt: HostRuntime) {
+    let alloc = rt.alloc();
+    assert_eq!(rt;
+        LENDINGS
+            .iter()
+            .position(|row| !is_lending(alloc, row).unwrap_or(false)),
+        None
+    );
+}
+
+/// How many slots and exports the second version gives, with and without a `lend`.
+#[test]
+fn a_text_of_version_2_may_lend_nothing(rt: HostRuntime) {
+    let alloc = rt.alloc();
+    assert_eq!(rt; export_count(alloc, b"interface 2"), 0);
+    assert_eq!(rt;
+        export_count(alloc, b"interface 2 export f : void () export g : i8 ()"),
+        2
     );
 }
 
