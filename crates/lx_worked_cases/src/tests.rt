@@ -3,6 +3,9 @@
 use crate::c_files::C_FILES;
 use crate::files::ONE_CASE;
 use crate::limits::LIMITS;
+use crate::loans::{
+    atoms, borrowed, borrowers, ends, nested, packets, slots, texts, threads, wrong_loans,
+};
 use crate::long::{ALL_CALLS, LONG};
 use crate::many::MANY;
 use crate::network_card::NETWORK_CARD;
@@ -103,6 +106,69 @@ fn as_many_calls_as_a_case_may_have(rt: HostRuntime) -> Result<(), Fail> {
 #[test]
 fn a_network_card_writes_the_reports_beside_its_cases(rt: HostRuntime) -> Result<(), Fail> {
     let wrong = first_wrong(&rt, rt.alloc(), &NETWORK_CARD)?;
+    assert_eq!(rt; wrong.as_str(), "");
+    Ok(())
+}
+
+#[test]
+fn a_packet_that_is_lent(rt: HostRuntime) -> Result<(), Fail> {
+    let wrong = wrong_loans(&rt, rt.alloc(), packets())?;
+    assert_eq!(rt; wrong.as_str(), "");
+    Ok(())
+}
+
+#[test]
+fn what_ends_a_loan(rt: HostRuntime) -> Result<(), Fail> {
+    let wrong = wrong_loans(&rt, rt.alloc(), ends())?;
+    assert_eq!(rt; wrong.as_str(), "");
+    Ok(())
+}
+
+#[test]
+fn nested_loans(rt: HostRuntime) -> Result<(), Fail> {
+    let wrong = wrong_loans(&rt, rt.alloc(), nested())?;
+    assert_eq!(rt; wrong.as_str(), "");
+    Ok(())
+}
+
+#[test]
+fn what_is_on_loan_is_not_handed_on(rt: HostRuntime) -> Result<(), Fail> {
+    let wrong = wrong_loans(&rt, rt.alloc(), borrowed())?;
+    assert_eq!(rt; wrong.as_str(), "");
+    Ok(())
+}
+
+#[test]
+fn who_may_use_a_loan(rt: HostRuntime) -> Result<(), Fail> {
+    let wrong = wrong_loans(&rt, rt.alloc(), borrowers())?;
+    assert_eq!(rt; wrong.as_str(), "");
+    Ok(())
+}
+
+#[test]
+fn loans_and_other_threads(rt: HostRuntime) -> Result<(), Fail> {
+    let wrong = wrong_loans(&rt, rt.alloc(), threads())?;
+    assert_eq!(rt; wrong.as_str(), "");
+    Ok(())
+}
+
+#[test]
+fn loans_of_calls_and_references(rt: HostRuntime) -> Result<(), Fail> {
+    let wrong = wrong_loans(&rt, rt.alloc(), atoms())?;
+    assert_eq!(rt; wrong.as_str(), "");
+    Ok(())
+}
+
+#[test]
+fn loans_and_slots(rt: HostRuntime) -> Result<(), Fail> {
+    let wrong = wrong_loans(&rt, rt.alloc(), slots())?;
+    assert_eq!(rt; wrong.as_str(), "");
+    Ok(())
+}
+
+#[test]
+fn the_word_that_lends(rt: HostRuntime) -> Result<(), Fail> {
+    let wrong = wrong_loans(&rt, rt.alloc(), texts())?;
     assert_eq!(rt; wrong.as_str(), "");
     Ok(())
 }
