@@ -8,6 +8,8 @@ mod files;
 #[cfg(test)]
 mod limits;
 #[cfg(test)]
+mod loan_users;
+#[cfg(test)]
 mod loans;
 #[cfg(test)]
 mod long;

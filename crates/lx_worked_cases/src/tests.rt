@@ -3,9 +3,8 @@
 use crate::c_files::C_FILES;
 use crate::files::ONE_CASE;
 use crate::limits::LIMITS;
-use crate::loans::{
-    atoms, borrowed, borrowers, ends, nested, packets, slots, texts, threads, wrong_loans,
-};
+use crate::loan_users::{atoms, borrowed, borrowers, slots, texts, threads};
+use crate::loans::{ends, nested, packets, wrong_loans};
 use crate::long::{ALL_CALLS, LONG};
 use crate::many::MANY;
 use crate::network_card::NETWORK_CARD;
