@@ -18,8 +18,6 @@ pub struct LongRow {
 }
 
 /// Calls through a slot, each of eight events, and references that are copied, each in three events.
-///
-/// The lines of owners are what takes time: each is asked of a store that is a list of acts.
 pub static LONG: [LongRow; 3] = [
     LongRow {
         name: "2,000 slot calls",

@@ -6,11 +6,6 @@ use crate::row::{Row, Wanted};
 /// Pairs of kmalloc and kfree, each of nine events; transfers to the kernel and back by dev_wipe, each of five; a principal
 /// for each number up to 300, each of three events, where a reference is copied to those whose numbers agree in their low
 /// eight bits; and address 0, of which no call is owned at first, and then one.
-///
-/// The store that runs them is a list of acts. What takes their time is the report: of each place where what is owned may
-/// begin it looks back through all acts, so the time grows with the square of the actions, and with each principal. That is
-/// why there are two thousand of each here, and 300 instances: 65,537 of them, built as the gate builds them, did not end in
-/// two minutes.
 pub static MANY: [Row; 5] = [
     Row {
         name: "28 pairs of kmalloc and kfree",
