@@ -1,5 +1,5 @@
 //! Calls that enter a function, and as whom it runs.
-ghost use Rattle.std.specs.Prelude.{◌≡◌, ℕ, List, IsTrue, None, Some, IfOk, option_copied, unwrap_or};
+ghost use Rattle.std.specs.Prelude.{◌≡◌, ℕ, List, IsTrue, None, Some, option_copied, unwrap_or};
 ghost use Rattle.lx_words.specs.Word.{Word};
 ghost use Rattle.lx_annot.specs.Value.{value};
 ghost use Rattle.lx_caps.specs.Memory.{Memory as Writes, load64};
