@@ -1,5 +1,5 @@
 -- The nodes of a place are no more than those who have something there.
-use Rattle.std.proofs.Common.{◌≡◌, ◌≢◌, ℕ, zero, suc, ◌+◌, ◌-◌, ◌*◌, ◌/◌, ◌%◌, ◌<◌, ◌≤◌, Bool, true, false, not, ◌&&◌, ◌||◌, nat_eq, nat_le, cond, List, [], ◌∷◌, ◌++◌, length, map, Option, Some, None, refl, sym, ap, ◌∙◌, subst, arith, append_assoc}
+use Rattle.std.proofs.Common.{◌≡◌, ℕ, zero, suc, ◌+◌, ◌-◌, ◌*◌, ◌/◌, ◌≤◌, Bool, true, false, not, ◌&&◌, ◌||◌, nat_eq, nat_le, cond, List, [], ◌∷◌, ◌++◌, length, map, Some, None, refl, sym, ap, ◌∙◌, subst, arith, append_assoc}
 use Rattle.std.proofs.lemmas.Bool.Decides.{nat_tests}
 use Rattle.std.proofs.lemmas.List.{length-map}
 use Rattle.lx_caps.specs.declared.Cap.{Cap}
@@ -14,10 +14,9 @@ use Rattle.lx_cap_tables.specs.declared.entry.Entry.{Entry}
 use Rattle.lx_cap_tables.specs.declared.holder.Holder.{Holder}
 use Rattle.lx_cap_tables.specs.declared.holder.Holder.TheVariants.{Keeper, Borrower}
 use Rattle.lx_cap_tables.specs.Bits.{is_set}
-use Rattle.lx_cap_tables.specs.Entries.{is_holder, gives_bit, bit_among}
+use Rattle.lx_cap_tables.specs.Entries.{is_holder, bit_among}
 use Rattle.lx_cap_tables.specs.Holders.{had, left_by, open_count, same_holder}
-use Rattle.lx_cap_tables.specs.Kept.{width_of, AreNodes, AllNodes}
-use Rattle.lx_cap_tables.specs.Lists.{some_below}
+use Rattle.lx_cap_tables.specs.Kept.{AreNodes, AllNodes}
 use Rattle.lx_cap_tables.specs.Tables.{Key, Shows, shown_at, part_list, behind_parts, place_in, place_of, bit_of, call_key, ref_key, count_in, work_in, cap_work}
 use Rattle.lx_cap_tables.specs.Work.{is_among, and_one, count_of, holders, has_now, has_in_part, parts_and_pairs, strip_bound}
 use Rattle.lx_cap_tables.proofs.AtomLemmas.{behind_far}

@@ -1,5 +1,5 @@
 -- Things that differ, each of which passes and is among others, are no more than those that pass.
-use Rattle.std.proofs.Common.{◌≡◌, ℕ, suc, ◌≤◌, Bool, true, false, ◌||◌, cond, List, [], ◌∷◌, length, refl, sym, ap, ◌∙◌, subst, arith}
+use Rattle.std.proofs.Common.{◌≡◌, suc, ◌≤◌, Bool, true, false, ◌||◌, cond, List, [], ◌∷◌, length, refl, sym, ap, ◌∙◌, subst, arith}
 use Rattle.lx_cap_tables.specs.Work.{is_among, and_one, count_of}
 
 or_cases : (a b : Bool) → (a || b) ≡ true → a ≡ false → b ≡ true

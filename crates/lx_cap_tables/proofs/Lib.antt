@@ -13,6 +13,7 @@ mod NearLemmas
 mod EntryLemmas
 mod KeptLemmas
 mod TieLemmas
+mod AloneLemmas
 mod NodeLemmas
 mod Few
 mod BoundLemmas

@@ -1,6 +1,5 @@
 -- The nodes of a loan are no more than those who have something on it, spot by spot.
-use Rattle.std.proofs.Common.{◌≡◌, ◌≢◌, inl, inr, ℕ, zero, suc, ◌+◌, ◌-◌, ◌*◌, ◌/◌, ◌%◌, ◌<◌, ◌≤◌, min, Bool, true, false, not, ◌&&◌, ◌||◌, nat_eq, nat_le, nat_lt, cond, List, [], ◌∷◌, ◌++◌, length, map, Option, Some, None, refl, sym, ap, ◌∙◌, subst, arith, append_assoc}
-use Rattle.std.proofs.lemmas.Bool.{cases_lt}
+use Rattle.std.proofs.Common.{◌≡◌, ℕ, zero, suc, ◌+◌, ◌-◌, ◌*◌, ◌/◌, ◌<◌, ◌≤◌, min, Bool, true, false, not, ◌&&◌, ◌||◌, nat_eq, nat_le, List, [], ◌∷◌, ◌++◌, map, Some, None, refl, sym, ap, ◌∙◌, subst, arith, append_assoc}
 use Rattle.std.proofs.lemmas.Bool.Decides.{nat_tests}
 use Rattle.std.proofs.lemmas.List.{length-map}
 use Rattle.lx_caps.specs.declared.Principal.{Principal}
@@ -12,7 +11,6 @@ use Rattle.lx_caps.specs.declared.Act.TheVariants.{Grant, Strip, Zero, Loan, Len
 use Rattle.lx_caps.specs.Loans.{lends}
 use Rattle.lx_caps.specs.History.{History, has}
 use Rattle.lx_cap_nodes.specs.declared.pool.Family.TheVariants as family
-use Rattle.lx_cap_nodes.specs.declared.pool.ListName.TheVariants as name
 use Rattle.lx_cap_nodes.specs.Names.{has as has_number, Apart}
 use Rattle.lx_cap_nodes.specs.Pool.{Pool}
 use Rattle.lx_cap_nodes.specs.Words.{names, nodes_at, PoolLaws}
@@ -24,11 +22,10 @@ use Rattle.lx_cap_tables.specs.declared.holder.Holder.TheVariants.{Keeper, Borro
 use Rattle.lx_cap_tables.specs.Bits.{is_set}
 use Rattle.lx_cap_tables.specs.Entries.{is_holder}
 use Rattle.lx_cap_tables.specs.Holders.{had, left_by, open_count, same_holder}
-use Rattle.lx_cap_tables.specs.Kept.{all_nodes, AreAll, IsMask, width_of, AreNodes, AllNodes}
-use Rattle.lx_cap_tables.specs.Lists.{some_below}
-use Rattle.lx_cap_tables.specs.Loans.{loans_of, is_open, is_on}
-use Rattle.lx_cap_tables.specs.Tables.{Key, Shows, loan_key, holder_key, place_in, part_list, behind_parts, place_of, place_of_spot, bit_of, call_key, ref_key, is_place, is_in_order, count_in, loans_work}
-use Rattle.lx_cap_tables.specs.Work.{is_among, and_one, count_of, same_spot, parts_from, spots_of, Pair, same_pair, and_each, lent_pairs, has_now, has_in_part, has_at, is_lent, loans_and_pairs, shut_bound}
+use Rattle.lx_cap_tables.specs.Kept.{AreAll, IsMask, width_of, AreNodes, AllNodes}
+use Rattle.lx_cap_tables.specs.Loans.{loans_of, is_on}
+use Rattle.lx_cap_tables.specs.Tables.{Key, Shows, loan_key, holder_key, place_in, part_list, place_of_spot, call_key, ref_key, is_in_order, count_in, loans_work}
+use Rattle.lx_cap_tables.specs.Work.{is_among, and_one, count_of, same_spot, parts_from, spots_of, Pair, same_pair, and_each, lent_pairs, has_now, has_at, is_lent, loans_and_pairs, shut_bound}
 use Rattle.lx_cap_tables.proofs.AtomLemmas.{behind_far}
 use Rattle.lx_cap_tables.proofs.Below.{some_from}
 use Rattle.lx_cap_tables.proofs.BitLemmas.{same_is}

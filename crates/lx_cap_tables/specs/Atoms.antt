@@ -8,18 +8,13 @@ use Rattle.lx_cap_tables.specs.declared.entry.Entry.{Entry}
 use Rattle.lx_cap_tables.specs.declared.entry.Spot.{Spot}
 use Rattle.lx_cap_tables.specs.declared.entry.Spot.TheVariants as spot
 use Rattle.lx_cap_tables.specs.Bits.{is_set}
+pub use Rattle.lx_caps.specs.Order.{same_atom}
 
 -- the atom is a byte of the part that has its bit
 abbrev pub part_atom : ℕ → ℕ → Atom → Bool
 part_atom part bits (atom.Byte b) = nat_eq part (b / 64) && is_set bits (b % 64)
 part_atom part bits (atom.Call a) = false
 part_atom part bits (atom.Ref t a) = false
-
-abbrev pub same_atom : Atom → Atom → Bool
-same_atom (atom.Byte a) (atom.Byte b) = nat_eq a b
-same_atom (atom.Call a) (atom.Call b) = nat_eq a b
-same_atom (atom.Ref t a) (atom.Ref u b) = nat_eq t u && nat_eq a b
-same_atom _ _ = false
 
 abbrev pub spot_atom : Spot → ℕ → Atom → Bool
 spot_atom (spot.Part part) mask x = part_atom part mask x

@@ -18,9 +18,8 @@ use crate::holder::Holder;
 use crate::keys::{Key, call_key, place_for, place_in, ref_key};
 use crate::lists::{Pool, give, take};
 use crate::parts::{give_range, take_range};
-use crate::steps::Steps;
 use indexmap::IndexSet;
-use lx_caps::Cap;
+use lx_caps::{Cap, Steps};
 use std::sync::ledger::Ledger;
 
 /// How many lists of parts there are. Those of calls and references stand behind them.

@@ -2,13 +2,14 @@
 ghost use Rattle.std.specs.Prelude.{◌≡◌, ◌+◌, ◌*◌, ◌/◌, ◌%◌, ◌^◌, ◌<◌, ℕ, Bool, ◌&&◌, ◌||◌, nat_le, Some, true};
 ghost use Rattle.lx_caps.specs.declared.Atom.{Atom};
 ghost use Rattle.lx_caps.specs.declared.Atom.TheVariants.{Byte};
-ghost use Rattle.lx_caps.specs.Order.{is_before, is_behind, IsFirst};
+ghost use Rattle.lx_caps.specs.Order.{is_behind, IsFirst};
 ghost use Rattle.lx_cap_tables.specs.Bits.{is_set};
 ghost use Rattle.lx_cap_tables.specs.Atoms.{entry_atom, part_atom, same_atom, spot_fits};
+ghost use Rattle.lx_cap_tables.specs.Owned.{alone};
 
 use crate::bits::{between, is_set};
 use crate::holder::Holder;
-use lx_caps::Atom;
+use lx_caps::{Atom, is_before, is_behind};
 
 /// Where something is had: in a part of memory, by its number, at a call, or at a reference.
 #[derive(Clone, Copy)]
@@ -90,25 +91,14 @@ pub(crate) fn atom_behind(entry: Entry, after: Option<Atom>) -> Option<Atom>
     }
 }
 
-fn is_before(x: Atom, y: Atom) -> bool
-    ensures { result ≡ is_before x y }
+/// The call or the reference of an entry.
+pub(crate) fn atom_alone(entry: Entry) -> Option<Atom>
+    ensures { result ≡ alone entry.spot (is_set entry.mask 0) }
 {
-    match (x, y) {
-        (Atom::Byte(a), Atom::Byte(b)) => a < b,
-        (Atom::Call(a), Atom::Call(b)) => a < b,
-        (Atom::Ref(t, a), Atom::Ref(u, b)) => t < u || (t == u && a < b),
-        (Atom::Byte(_), _) => true,
-        (Atom::Call(_), Atom::Ref(..)) => true,
-        _ => false,
-    }
-}
-
-fn is_behind(after: Option<Atom>, atom: Atom) -> bool
-    ensures { result ≡ is_behind after atom }
-{
-    match after {
-        None => true,
-        Some(last) => is_before(last, atom),
+    match entry.spot {
+        Spot::Call(at) if is_set(entry.mask, 0) => Some(Atom::Call(at)),
+        Spot::Ref(ty, at) if is_set(entry.mask, 0) => Some(Atom::Ref(ty, at)),
+        _ => None,
     }
 }
 

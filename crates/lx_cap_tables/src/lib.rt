@@ -26,9 +26,7 @@ mod lists;
 mod loans;
 mod parts;
 mod piece;
-mod steps;
 mod tables;
 
 pub use laws::{holder_laws, worked_bounds};
-pub use steps::Steps;
 pub use tables::CapTables;

@@ -10,8 +10,8 @@ ghost use Rattle.lx_cap_tables.specs.Tables.{Key, count_in, is_in_order, loan_ke
 
 use crate::keys::{Key, loan_key, place_in};
 use crate::lists::{Pool, take_all};
-use crate::steps::Steps;
 use indexmap::IndexSet;
+use lx_caps::Steps;
 use std::sync::ledger::Ledger;
 
 /// Threads are below this number.

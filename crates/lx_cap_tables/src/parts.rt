@@ -13,7 +13,7 @@ use crate::entry::{Entry, Spot};
 use crate::holder::Holder;
 use crate::lists::{Pool, give, take};
 use crate::piece::{PART, parts_end, piece_bits, piece_of};
-use crate::steps::Steps;
+use lx_caps::Steps;
 use std::sync::ledger::Ledger;
 
 /// The number of a part's list, where the part lies in memory.

@@ -13,15 +13,14 @@ ghost use Rattle.lx_cap_tables.specs.Tables.{loans_work};
 ghost use Rattle.lx_cap_tables.specs.Work.{shut_bound, strip_bound};
 
 use crate::caps::{PARTS, give_cap, take_cap};
-use crate::held::{Wanted, holds_cap, owned_behind, owner_behind};
+use crate::held::{Wanted, calls_and_refs, holds_cap, owned_behind, owner_behind};
 use crate::holder::{Holder, InReach};
 use crate::keys::{Key, loan_key, owner_key, place_for};
 use crate::lists::Pool;
 use crate::loans::{Ended, THREADS, shut_loans};
-use crate::steps::Steps;
 use indexmap::IndexSet;
 use lx_cap_nodes::{Family, NodePool};
-use lx_caps::{Atom, Cap, CapStore, Memory, Principal, cells};
+use lx_caps::{Atom, Cap, CapStore, Memory, Principal, Steps, cells, in_order};
 use std::alloc::Global;
 use std::marker::{Brand, Model};
 use std::sync::ledger::{Blank, Ledger};
@@ -410,5 +409,12 @@ impl CapStore for CapTables {
             self.loans.as_slice(),
             Wanted { who, after },
         )
+    }
+
+    fn calls_and_refs(&self, alloc: Global, who: Principal) -> Result<Vec<Atom>, Memory> {
+        self.pool.laws();
+        let found = calls_and_refs(alloc, &self.pool, &self.owners, self.loans.as_slice(), who)?;
+        let listed = in_order(alloc, found)?;
+        Ok(listed)
     }
 }

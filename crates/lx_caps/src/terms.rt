@@ -142,7 +142,9 @@ pub(crate) fn has(cap: Cap, atom: Atom) -> bool
     }
 }
 
-pub(crate) fn is_before(x: Atom, y: Atom) -> bool
+/// Says whether the first atom comes before the second one: bytes by address, then calls by address, then references by
+/// type and address.
+pub fn is_before(x: Atom, y: Atom) -> bool
     ensures { result ≡ is_before x y }
 {
     match (x, y) {
@@ -155,7 +157,8 @@ pub(crate) fn is_before(x: Atom, y: Atom) -> bool
     }
 }
 
-pub(crate) fn is_behind(after: Option<Atom>, atom: Atom) -> bool
+/// Says whether an atom comes behind `after`: any does behind `None`.
+pub fn is_behind(after: Option<Atom>, atom: Atom) -> bool
     ensures { result ≡ is_behind after atom }
 {
     match after {

@@ -2,5 +2,6 @@ pub mod Cuts
 pub mod Mentioned
 pub mod Ranges
 pub mod Listed
-pub mod Numbers
+pub mod NextByte
+pub mod Atoms
 pub mod Steps

@@ -1,18 +1,13 @@
--- One more number, and one more range.
+-- One more range, and one more byte of a range.
 use Rattle.std.proofs.Common.{◌≡◌, ℕ, suc, ◌+◌, ◌-◌, ◌^◌, ◌<◌, ◌≤◌, Bool, true, false, List, [], ◌∷◌, ◌++◌, Some, inl, inr, sym, ap, ◌∙◌, subst, append_assoc, arith}
 use Rattle.std.proofs.lemmas.Bool.{true≢false}
 use Rattle.lx_caps.specs.declared.Cap.{Cap}
 use Rattle.lx_caps.specs.declared.Cap.TheVariants as cap
 use Rattle.lx_caps.specs.History.{History}
-use Rattle.lx_owners.specs.Listing.{IsListing, IsRanges, IsFirstFrom}
+use Rattle.lx_owners.specs.Listing.{IsRanges, IsFirstFrom}
 use Rattle.lx_owners.proofs.Cuts.{split_at}
 
--- the store stands for some history, and with the numbers that are left the listing is whole
-pub record Listed {C : Type 0} (stands : C → History → Type 0) (p : History → ℕ → Bool) (caps : C) (from : ℕ) (done : List ℕ) : Type 0 where
-  pub some : (h : History) × stands caps h
-  pub lists : (h : History) → stands caps h → (rest : List ℕ) → IsListing (p h) from rest → IsListing (p h) 0 (done ++ rest)
-
--- the same of ranges, where nobody owns the last byte
+-- the store stands for some history, and with the ranges that are left the list is whole, where nobody owns the last byte
 pub record Ranged {C : Type 0} (stands : C → History → Type 0) (p : History → ℕ → Bool) (caps : C) (from : ℕ) (done : List Cap) : Type 0 where
   pub some : (h : History) × stands caps h
   pub lists : (h : History) → stands caps h → p h (2 ^ 64 - 1) ≡ false → (rest : List Cap) → IsRanges (p h) from rest → IsRanges (p h) 0 (done ++ rest)
@@ -24,17 +19,6 @@ pub record Reaches {C : Type 0} (stands : C → History → Type 0) (p : History
   pub owned : (h : History) → stands caps h → p h at ≡ true → (m : ℕ) → at ≤ m → m < suc last → p h m ≡ true
 
 module _ {C : Type 0} (stands : C → History → Type 0) (p : History → ℕ → Bool) (caps : C) where
-  pub none_listed : (done : List ℕ) → done ≡ [] → (h : History) × stands caps h → Listed stands p caps 0 done
-  none_listed done e some = record { some = some; lists = λ h st rest l. subst (λ ds. IsListing (p h) 0 (ds ++ rest)) (sym e) l }
-
-  pub one_listed : (from n : ℕ) (done new : List ℕ) → Listed stands p caps from done → ((h : History) → stands caps h → IsFirstFrom (p h) from (Some n)) → new ≡ done ++ n ∷ [] → Listed stands p caps (suc n) new
-  one_listed from n done new f first e =
-      record {
-        some = f.some;
-        lists = λ h st rest l. (let x : IsFirstFrom (p h) from (Some n) = first h st in
-            subst (λ ds. IsListing (p h) 0 ds) (sym (ap (λ ds. ds ++ rest) e ∙ append_assoc done (n ∷ []) rest)) (f.lists h st (n ∷ rest) (x.0, x.1, x.2, l)));
-      }
-
   pub falls : (from n : ℕ) → (h : History) × stands caps h → ((h : History) → stands caps h → IsFirstFrom (p h) from (Some n)) → (last : ℕ) → n ≤ last → last < 2 ^ 64 → 2 ^ 64 - suc last < 2 ^ 64 - from
   falls from n some first last le lt = let x : IsFirstFrom (p some.0) from (Some n) = first some.0 some.1 in omega (arith, x.0, le, lt)
 

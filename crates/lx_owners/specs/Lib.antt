@@ -1,3 +1,3 @@
-pub mod Kind
+pub mod Atoms
 pub mod Listing
 pub mod Laws

@@ -3,7 +3,7 @@
 
 ghost use Rattle.lx_owners.specs.Laws.{OwnedLaws};
 
-mod number;
+mod byte;
 mod owned;
 
 pub use owned::owned_caps;

@@ -1,10 +1,10 @@
-use Rattle.std.proofs.Common.{◌≡◌, ◌&&◌, ℕ, Bool, Some, None, refl, sym, ap, ◌∙◌, subst, arith}
+use Rattle.std.proofs.Common.{◌≡◌, Bool, Some, sym, ◌∙◌, subst, arith}
 use Rattle.std.proofs.lemmas.Bool.Decides.{nat_tests}
 use Rattle.lx_caps.specs.declared.Atom.{Atom}
 use Rattle.lx_caps.specs.Order.{IsFirst}
 use Rattle.lx_cap_tables.specs.Tables.{part_list}
 use Rattle.lx_cap_tables.proofs.NearLemmas.{part_is, none_there}
-use Rattle.lx_cap_tables.proofs.PartLemmas.{list_below, part_small}
+use Rattle.lx_cap_tables.proofs.PartLemmas.{part_small}
 use Rattle.lx_cap_tables.proofs.held.owned_from.Goals as goal
 
 pub first_byte-requires : goal.first_byte-requires

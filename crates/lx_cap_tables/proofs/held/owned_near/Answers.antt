@@ -1,4 +1,4 @@
-use Rattle.std.proofs.Common.{◌≡◌, ◌&&◌, ◌+◌, ◌/◌, ◌%◌, ℕ, Bool, List, Option, Some, None, IfSome, refl, sym, ap, ◌∙◌, subst}
+use Rattle.std.proofs.Common.{◌&&◌, ◌+◌, ◌/◌, ◌%◌, List, Option, Some, None, IfSome, subst}
 use Rattle.lx_caps.specs.declared.Atom.{Atom}
 use Rattle.lx_caps.specs.declared.Atom.TheVariants.{Byte}
 use Rattle.lx_caps.specs.Order.{is_behind, IsFirst}

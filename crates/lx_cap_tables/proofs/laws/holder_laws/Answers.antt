@@ -1,4 +1,4 @@
-use Rattle.std.proofs.Common.{◌∙◌, sym, ap, refl, Bool}
+use Rattle.std.proofs.Common.{◌∙◌, sym, ap}
 use Rattle.lx_caps.specs.History.{same_principal}
 use Rattle.lx_cap_tables.specs.Holders.{had}
 use Rattle.lx_cap_tables.proofs.HadLemmas.{kept_is, owned_is, keeper_is}

@@ -1,4 +1,4 @@
-use Rattle.std.proofs.Common.{◌≡◌, ◌+◌, ◌<◌, ℕ, Some, None, IfSome, Option, length, sym, ap, ◌∙◌, arith}
+use Rattle.std.proofs.Common.{◌≡◌, ◌<◌, ℕ, Some, None, IfSome, Option, length, sym, ap, ◌∙◌, arith}
 use Rattle.lx_cap_tables.specs.Kept.{StayBut}
 use Rattle.lx_cap_tables.specs.Tables.{count_in, loan_key, place_in, is_in_order}
 use Rattle.lx_cap_tables.proofs.AtomLemmas.{list_within}

@@ -1,7 +1,7 @@
 use Rattle.std.proofs.Common.{◌-◌, ◌^◌}
 use Rattle.lx_caps.specs.declared.Atom.TheVariants.{Byte}
 use Rattle.lx_caps.specs.History.{owns}
-use Rattle.lx_owners.specs.Kind.{behind}
+use Rattle.lx_owners.specs.Atoms.{behind}
 use Rattle.lx_owners.proofs.Steps.{Ranged}
 use Rattle.lx_owners.proofs.owned.owned_ranges.Given as goal
 

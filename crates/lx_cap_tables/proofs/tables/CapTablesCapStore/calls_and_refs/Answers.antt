@@ -1,0 +1,35 @@
+use Rattle.std.proofs.Common.{◌&&◌, None, length, sym, ap, ◌∙◌, subst, arith}
+use Rattle.lx_caps.specs.History.{owns, same_principal}
+use Rattle.lx_caps.specs.Order.{is_call_or_ref, stands_in}
+use Rattle.lx_caps.proofs.InOrder.{all_behind-same}
+use Rattle.lx_cap_tables.specs.Holders.{held_by}
+use Rattle.lx_cap_tables.specs.Kept.{AreAll}
+use Rattle.lx_cap_tables.specs.Tables.{is_in_order}
+use Rattle.lx_cap_tables.specs.Sound.{StandsFor}
+use Rattle.lx_cap_tables.proofs.HadLemmas.{owned_is}
+use Rattle.lx_cap_tables.proofs.TieLemmas.{listed_is}
+use Rattle.lx_cap_tables.proofs.tables.CapTablesCapStore.calls_and_refs.Goals as goal
+
+pub calls_and_refs-requires : goal.calls_and_refs-requires
+calls_and_refs-requires c =
+    let old = c.self.invariant in
+    let count = old.owner_count in
+    record {
+      lists = let h = old.owner_fit in omega (arith, h, count);
+      threads = ap length c.as_slice.ensures.value ∙ old.threads;
+    }
+
+pub returns : goal.returns
+unfolding StandsFor
+returns c = λ h stands.
+    let st = subst (λ t. StandsFor t h) (sym c.self.view_is) stands in
+    let old = c.self.invariant in
+    let pool = c.self.inside.pool in
+    let owners = c.self.inside.owners.keys in
+    let atoms = c.self.inside.atoms.keys in
+    let loans = c.as_slice.result.now in
+    let who = c.args.who in
+    let order : AreAll (is_in_order owners atoms loans) pool = subst (λ ls. AreAll (is_in_order owners atoms ls) pool) (sym c.as_slice.ensures.value) old.in_order in
+    all_behind-same (λ x. stands_in x c.in_ok-found.found.items) (λ x. is_call_or_ref x && owns h who x) None c.in_ok-listed.listed.items
+    (λ x. c.in_ok-found.ensures x ∙ ap (λ t. is_call_or_ref x && t) (listed_is pool c.laws.ensures owners atoms loans order who x ∙ (sym (st.1 (held_by who) x) ∙ sym (owned_is (same_principal who) h x))))
+    c.in_ok-listed.ensures
