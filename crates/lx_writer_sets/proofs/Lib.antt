@@ -1,6 +1,13 @@
 pub mod Masks
-pub mod Slots
 pub mod Bytes
-pub mod Lists
 pub mod Ranges
+pub mod Lists
+pub mod Slots
+pub mod WalkLemmas
+pub mod VisitLemmas
+pub mod GivenLemmas
+pub mod NodeLemmas
+pub mod PartLemmas
 pub mod Recording
+pub mod Few
+pub mod BoundLemmas

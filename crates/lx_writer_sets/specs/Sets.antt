@@ -1,50 +1,73 @@
--- Who is recorded as a writer of a byte, by entries of a writer, a part of 64 bytes and a mask of its bytes.
-use Rattle.std.specs.Prelude.{◌≡◌, ℕ, ◌+◌, ◌/◌, ◌%◌, Bool, ◌&&◌, nat_eq, nat_le, nat_lt, List, [], ◌∷◌, Option}
+-- Who is recorded as a writer of a byte, by lists of nodes: one list for each part of 64 bytes, in which a node is a writer
+-- and a mask of bytes.
+use Rattle.std.specs.Prelude.{◌≡◌, ℕ, ◌+◌, ◌-◌, ◌/◌, ◌%◌, Bool, true, false, ◌&&◌, nat_eq, nat_le, nat_lt, List, [], ◌∷◌, Option, Some, None, length, if◌then◌else◌}
 use Rattle.std.specs.List.{list_any}
 use Rattle.lx_caps.specs.declared.Principal.{Principal}
-use Rattle.lx_caps.specs.declared.Principal.TheVariants.{Kernel}
 use Rattle.lx_caps.specs.History.{History, same_principal}
 use Rattle.lx_caps.specs.Precedence.{follows, IsFirstPrincipal}
 use Rattle.lx_caps.specs.Writers.{is_writer, is_slot_writer}
+use Rattle.lx_cap_nodes.specs.Words.{nodes_at}
 use Rattle.lx_writer_sets.specs.Bits.{is_set}
 use Rattle.lx_writer_sets.specs.declared.entry.Entry.{Entry}
 use Rattle.lx_writer_sets.specs.declared.piece.Piece.{Piece}
-
--- the entry has the byte: it is of the byte's part, and the byte's bit is set
-abbrev pub has_byte : Entry → ℕ → Bool
-has_byte e b = nat_eq e.part (b / 64) && is_set e.mask (b % 64)
-
--- the entry is of this writer and this part
-abbrev pub is_of : Principal → ℕ → Entry → Bool
-is_of q part e = same_principal q e.writer && nat_eq e.part part
-
--- an entry without bytes
-abbrev pub no_entry : Entry
-no_entry = record { writer = Kernel; part = 0; mask = 0 }
 
 -- the byte lies in the piece of a part
 abbrev pub lies_in : Piece → ℕ → Bool
 lies_in p b = nat_eq p.part (b / 64) && (nat_le p.from (b % 64) && nat_lt (b % 64) p.to)
 
--- some entry says that the principal is a writer of the byte
-abbrev pub is_recorded : List Entry → ℕ → Principal → Bool
-is_recorded es b q = list_any (λ e. same_principal q e.writer && has_byte e b) es
+-- the number of a part's list, where the part lies in memory
+abbrev pub part_list : ℕ → Option ℕ
+part_list p =
+    if nat_le 0x40000 p && nat_lt p 0x44000
+    then Some (p - 0x40000)
+    else (if nat_le 0x80000 p && nat_lt p 0x84000 then Some (p - 0x80000 + 0x4000) else (if nat_le 0xc0000 p && nat_lt p 0xc4000 then Some (p - 0xc0000 + 0x8000) else None))
+
+-- some node says that the principal is a writer of the byte at this place of the part
+abbrev pub is_given : List (ℕ × Entry) → ℕ → Principal → Bool
+is_given es k q = list_any (λ e. same_principal q e.1.writer && is_set e.1.mask k) es
+
+-- the same of the list with this number, if there is one
+abbrev pub is_given_at : List (List (ℕ × Entry)) → Option ℕ → ℕ → Principal → Bool
+is_given_at lists None k q = false
+is_given_at lists (Some l) k q = is_given (nodes_at lists l) k q
+
+-- the lists say that the principal is a writer of the byte
+unfoldable pub is_recorded : List (List (ℕ × Entry)) → ℕ → Principal → Bool
+is_recorded lists b q = is_given_at lists (part_list (b / 64)) (b % 64) q
+
+-- the lists say of each byte exactly who its writers are
+unfoldable pub Records : List (List (ℕ × Entry)) → History → Type 0
+Records lists h = (b : ℕ) (q : Principal) → is_recorded lists b q ≡ is_writer h b q
 
 -- the places of the eight bytes of a slot
 abbrev pub eight : List ℕ
 eight = 0 ∷ 1 ∷ 2 ∷ 3 ∷ 4 ∷ 5 ∷ 6 ∷ 7 ∷ []
 
--- the entry has one of the slot's eight bytes
-unfoldable pub touches : Entry → ℕ → Bool
-touches e slot = list_any (λ k. has_byte e (slot + k)) eight
+-- the entry of a part has the byte: it lies in the part, and its bit is set
+abbrev pub has_byte : ℕ → Entry → ℕ → Bool
+has_byte part e b = nat_eq part (b / 64) && is_set e.mask (b % 64)
 
--- some entry says that the principal is a writer of one of the slot's eight bytes
-abbrev pub writes_slot : List Entry → ℕ → Principal → Bool
-writes_slot es slot q = list_any (λ e. same_principal q e.writer && touches e slot) es
+-- the entry of a part has one of the slot's eight bytes
+unfoldable pub touches : ℕ → Entry → ℕ → Bool
+touches part e slot = list_any (λ k. has_byte part e (slot + k)) eight
 
--- the entries say of each byte exactly who its writers are
-abbrev pub Records : List Entry → History → Type 0
-Records es h = (b : ℕ) (q : Principal) → is_recorded es b q ≡ is_writer h b q
+-- some node of a part says that the principal is a writer of one of the slot's eight bytes
+abbrev pub writes_in : ℕ → List (ℕ × Entry) → ℕ → Principal → Bool
+writes_in part es slot q = list_any (λ e. same_principal q e.1.writer && touches part e.1 slot) es
+
+-- the lists say that the principal is a writer of one of those of the slot's bytes that lie in the part
+unfoldable pub writes_part : List (List (ℕ × Entry)) → ℕ → ℕ → Principal → Bool
+writes_part lists part slot q = list_any (λ k. nat_eq part ((slot + k) / 64) && is_given_at lists (part_list part) ((slot + k) % 64) q) eight
+
+-- nobody passes the test, or somebody does
+abbrev pub IsNobody : Bool → (Principal → Bool) → Type 0
+IsNobody true p = (q : Principal) → p q ≡ false
+IsNobody false p = (q : Principal) × (p q ≡ true)
+
+-- how many nodes the list with this number has
+abbrev pub count_in : List (List (ℕ × Entry)) → Option ℕ → ℕ
+count_in lists None = 0
+count_in lists (Some l) = length (nodes_at lists l)
 
 -- the next writer of the slot behind the given principal, if there is one
 abbrev pub IsNextWriter : History → ℕ → Option Principal → Option Principal → Type 0

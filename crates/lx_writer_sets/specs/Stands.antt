@@ -7,7 +7,7 @@ pub use Rattle.lx_writer_sets.specs.Room.{room_of}
 
 -- the sets record exactly the writers of the history
 abbrev pub StandsForWriters : WriterSets → History → Type 0
-StandsForWriters sets h = Records sets.entries.items h
+StandsForWriters sets h = Records sets.parts.lists h
 
 -- the room that was promised, which noting takes from
 abbrev pub spare_of : WriterSets → ℕ

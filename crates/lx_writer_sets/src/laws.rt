@@ -1,5 +1,5 @@
-//! What changes no writer.
-ghost use Rattle.lx_writer_sets.specs.Laws.{WriterSetLaws};
+//! What changes no writer, and what it takes to look at a slot.
+ghost use Rattle.lx_writer_sets.specs.Laws.{LookLaws, WriterSetLaws};
 
 use lx_caps::history_laws;
 
@@ -9,3 +9,8 @@ pub fn writer_set_laws()
 {
     history_laws();
 }
+
+/// The bound on what is looked at to see whether a slot is clean: what it is where nobody wrote nearby, and worked rows.
+pub fn look_laws()
+    ensures { LookLaws }
+{}

@@ -1,8 +1,8 @@
 //! Who wrote where: the writers of each byte since it was last zeroed.
 //!
-//! [`WriterSets`] is a plain list of entries. An entry is a writer, a part of 64 bytes and a mask of the bytes in that part
-//! that it may have written. A grant of bytes is noted; to zero bytes only clears bits, and so takes no memory; to take
-//! bytes from everyone changes no writer.
+//! [`WriterSets`] has a list for each part of 64 bytes of memory. A node of it is a writer and a mask of the bytes in that part
+//! that it may have written; one bit for each part says whether it has any. A grant of bytes is noted; to zero bytes only
+//! clears bits and gives nodes back, and so takes no memory; to take bytes from everyone changes no writer.
 //!
 //! ```text
 //! let mut sets = WriterSets::new(alloc);
@@ -15,12 +15,14 @@
 //! ```
 #![tactic(auto)]
 
+mod bitmap;
 mod bits;
-mod entries;
+mod chain;
 mod entry;
 mod laws;
+mod parts;
 mod piece;
 mod sets;
 
-pub use laws::writer_set_laws;
+pub use laws::{look_laws, writer_set_laws};
 pub use sets::WriterSets;

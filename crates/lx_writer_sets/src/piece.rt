@@ -1,7 +1,10 @@
-//! The pieces of a range, each in one part of 64 bytes.
-ghost use Rattle.std.specs.Prelude.{◌≡◌, ◌+◌, ◌*◌, ◌/◌, ◌^◌, ◌<◌, ◌≤◌, ℕ, ◌&&◌, nat_eq};
+//! The parts of 64 bytes, and the pieces of a range in them.
+ghost use Rattle.std.specs.Prelude.{◌≡◌, ◌+◌, ◌*◌, ◌/◌, ◌^◌, ◌<◌, ◌≤◌, ℕ, ◌&&◌, nat_eq, nat_le, nat_lt};
 ghost use Rattle.lx_caps.specs.Regions.{covers};
-ghost use Rattle.lx_writer_sets.specs.Sets.{lies_in};
+ghost use Rattle.lx_writer_sets.specs.Bits.{is_set};
+ghost use Rattle.lx_writer_sets.specs.Sets.{lies_in, part_list};
+
+use crate::bits::between;
 
 pub(crate) const PART: u64 = 64;
 
@@ -30,5 +33,37 @@ pub(crate) fn piece_of(at: u64, size: u64, part: u64) -> Piece
         part,
         from: if at < start { 0 } else { at - start },
         to: if end < PART { end } else { PART },
+    }
+}
+
+/// The part behind the last one that a range lies in.
+pub(crate) fn parts_end(at: u64, size: u64) -> u64
+    requires { at + size + 63 < 2 ^ 64 }
+    ensures { result ≡ (at + size + 63) / 64 }
+{
+    (at + size + (PART - 1)) / PART
+}
+
+/// A bit for each byte of a piece.
+pub(crate) fn piece_bits(piece: Piece) -> u64
+    requires some { piece.from < piece.to }
+    requires within { piece.to ≤ 64 }
+    ensures { (k : ℕ) → k < 64 → is_set result k ≡ (nat_le piece.from k && nat_lt k piece.to) }
+{
+    between(piece.from, piece.to)
+}
+
+/// The number of a part's list, where the part lies in memory.
+pub(crate) fn list_of_part(part: u64) -> Option<u64>
+    ensures { result ≡ part_list part }
+{
+    if 0x40000 <= part && part < 0x44000 {
+        Some(part - 0x40000)
+    } else if 0x80000 <= part && part < 0x84000 {
+        Some(part - 0x80000 + 0x4000)
+    } else if 0xc0000 <= part && part < 0xc4000 {
+        Some(part - 0xc0000 + 0x8000)
+    } else {
+        None
     }
 }

@@ -9,5 +9,5 @@ abbrev pub invariant-loop-place : goal.invariant-loop-place
 invariant-loop-place g l = record {
   low : l.fn.piece.from ≤ l.place;
   kept : (h : History) → g.C.CapStore.stands l.caps h → (k : ℕ) → k < 64
-      → is_set l.mask k ≡ (is_set l.entry.mask k && (not (nat_le l.fn.piece.from k && nat_lt k l.place) || owns h l.entry.writer (Byte (l.entry.part * 64 + k))));
+      → is_set l.mask k ≡ (is_set l.entry.mask k && (not (nat_le l.fn.piece.from k && nat_lt k l.place) || owns h l.entry.writer (Byte (l.fn.piece.part * 64 + k))));
 }

@@ -5,4 +5,4 @@ use Rattle.lx_writer_sets.specs.Sets.{eight, has_byte, touches}
 use Rattle.lx_writer_sets.proofs.entry.touches.Given as goal
 
 abbrev pub invariant-loop-k : goal.invariant-loop-k
-invariant-loop-k l = touches l.entry l.slot ≡ list_any (λ i. has_byte l.entry (l.slot + i)) (drop l.k eight)
+invariant-loop-k l = touches l.at.part l.entry l.at.slot ≡ list_any (λ i. has_byte l.at.part l.entry (l.at.slot + i)) (drop l.k eight)

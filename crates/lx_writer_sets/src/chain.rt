@@ -1,0 +1,209 @@
+//! Walks along the list of a part.
+ghost use Rattle.std.specs.Prelude.{◌≡◌, ◌≢◌, ◌+◌, ◌*◌, ◌^◌, ◌<◌, ◌≤◌, ℕ, Bool, ◌&&◌, ◌||◌, not, nat_eq, nat_le, nat_lt, true, false, Some, ◌∷◌, ◌++◌, List, IfNone, IfSome, length};
+ghost use Rattle.lx_caps.specs.declared.Principal.{Principal};
+ghost use Rattle.lx_caps.specs.declared.Atom.TheVariants.{Byte};
+ghost use Rattle.lx_caps.specs.History.{History, owns, same_principal};
+ghost use Rattle.lx_caps.specs.Precedence.{follows, IsFirstPrincipal};
+ghost use Rattle.lx_cap_nodes.specs.Words.{is_live, nodes_at, pool_with, value_in};
+ghost use Rattle.lx_writer_sets.specs.Bits.{is_set};
+ghost use Rattle.lx_writer_sets.specs.declared.entry.Entry.{Entry};
+ghost use Rattle.lx_writer_sets.specs.Nodes.{AllNodes, HasBit, has_nodes, has_writer, put_node, with_mask};
+ghost use Rattle.lx_writer_sets.specs.Sets.{IsNobody, is_given, writes_in};
+ghost use Rattle.lx_writer_sets.specs.Walks.{from, HasCome, StandsAt};
+
+use crate::bits::with;
+use crate::entry::{Entry, SlotPart, is_by, kept_mask, touches, writer_by};
+use crate::piece::Piece;
+use lx_cap_nodes::{Family, ListName, NodePool};
+use lx_caps::{CapStore, Principal, Steps, earlier, is_same};
+use std::sync::ledger::Ledger;
+
+pub(crate) type Pool = NodePool<Entry>;
+
+/// What a walk finds at a node, and the node behind.
+#[derive(Clone, Copy)]
+struct Seen {
+    entry: Entry,
+    next: Option<u64>,
+}
+
+/// Looks at a node of a list.
+fn visit(pool: &Pool, list: u64, node: u64) -> Seen
+    requires { HasCome (nodes_at pool.now.places list) (Some node) }
+    ensures entry { from (Some node) (nodes_at pool.now.places list) ≡ (node, result.entry) ∷ from result.next (nodes_at pool.now.places list) }
+    ensures next { HasCome (nodes_at pool.now.places list) result.next }
+{
+    pool.laws();
+    Seen {
+        entry: *pool.value(node),
+        next: pool.after(node, Family::Place),
+    }
+}
+
+/// The node of a writer in a list.
+fn node_of(pool: &Pool, list: u64, writer: Principal) -> Option<u64>
+    requires { list < length pool.now.places }
+    ensures found { IfSome result (λ n. StandsAt (nodes_at pool.now.places list) n (λ e. same_principal writer e.writer ≡ true)) }
+    ensures none { IfNone result (has_writer writer (nodes_at pool.now.places list) ≡ false) }
+{
+    pool.laws();
+    let mut node = pool.first(ListName::Place(list));
+    while let Some(n) = node {
+        let seen = visit(pool, list, n);
+        if is_same(writer, seen.entry.writer) {
+            return Some(n);
+        }
+        node = seen.next;
+    }
+    None
+}
+
+/// Writes the mask of a node.
+fn put_mask(pool: &mut Pool, n: u64, mask: u64)
+    requires { is_live pool.old n ≡ true }
+    ensures { (v : Entry) → value_in n pool.old.places ≡ Some v → pool.new ≡ pool_with pool.old n (with_mask v mask) }
+{
+    let entry = pool.value_mut(n);
+    entry.mask = mask;
+}
+
+/// Adds bits to a node of a list.
+fn widen(pool: &mut Pool, list: u64, n: u64, more: u64)
+    requires { StandsAt (nodes_at pool.old.places list) n (λ e. Unit {0}) }
+    ensures here { (xs ys : List (ℕ × Entry)) (v : Entry) → nodes_at pool.old.places list ≡ xs ++ (n, v) ∷ ys → (m : ℕ) × (nodes_at pool.new.places list ≡ xs ++ (n, with_mask v m) ∷ ys)
+        × ((k : ℕ) → is_set m k ≡ (is_set v.mask k || is_set more k)) }
+    ensures others { (l : ℕ) → l ≢ list → nodes_at pool.new.places l ≡ nodes_at pool.old.places l }
+    ensures counts { (length pool.new.places ≡ length pool.old.places) × (length pool.new.owners ≡ length pool.old.owners) }
+    ensures spare { pool.new.spare ≡ pool.old.spare }
+{
+    pool.laws();
+    let mask = pool.value(n).mask;
+    put_mask(pool, n, with(mask, more));
+}
+
+/// Records what an entry says. It takes at most one of the room.
+pub(crate) fn add(pool: &mut Pool, list: u64, entry: Entry)
+    requires list { list < length pool.old.places }
+    requires owner { 0 < length pool.old.owners }
+    requires room { 0 < pool.old.spare }
+    requires bit { HasBit entry.mask }
+    ensures here { (k : ℕ) (q : Principal) → is_given (nodes_at pool.new.places list) k q ≡ ((same_principal q entry.writer && is_set entry.mask k) || is_given (nodes_at pool.old.places list) k q) }
+    ensures some { has_nodes (nodes_at pool.new.places list) ≡ true }
+    ensures others { (l : ℕ) → l ≢ list → nodes_at pool.new.places l ≡ nodes_at pool.old.places l }
+    ensures counts { (length pool.new.places ≡ length pool.old.places) × (length pool.new.owners ≡ length pool.old.owners) }
+    ensures spare { pool.old.spare ≤ pool.new.spare + 1 }
+    ensures nodes { AllNodes pool.old.places → AllNodes pool.new.places }
+{
+    match node_of(pool, list, entry.writer) {
+        Some(n) => widen(pool, list, n, entry.mask),
+        None => {
+            pool.link(list, 0, entry);
+        }
+    }
+}
+
+/// Writes the mask of a node of a list, and takes the node out where no bit is left.
+fn keep(pool: &mut Pool, list: u64, n: u64, mask: u64)
+    requires { StandsAt (nodes_at pool.old.places list) n (λ e. Unit {0}) }
+    ensures here { (xs ys : List (ℕ × Entry)) (v : Entry) → nodes_at pool.old.places list ≡ xs ++ (n, v) ∷ ys → nodes_at pool.new.places list ≡ xs ++ put_node mask (n, v) ys }
+    ensures others { (l : ℕ) → l ≢ list → nodes_at pool.new.places l ≡ nodes_at pool.old.places l }
+    ensures counts { (length pool.new.places ≡ length pool.old.places) × (length pool.new.owners ≡ length pool.old.owners) }
+    ensures spare { pool.old.spare ≤ pool.new.spare }
+    ensures nodes { AllNodes pool.old.places → AllNodes pool.new.places }
+{
+    pool.laws();
+    if mask == 0 {
+        pool.unlink(n);
+    } else {
+        put_mask(pool, n, mask);
+    }
+}
+
+/// Clears the bytes of a piece in each node of its part's list whose writer does not own them.
+pub(crate) fn forget<C: CapStore>(pool: &mut Pool, list: u64, piece: Piece, caps: &C)
+    requires list { list < length pool.old.places }
+    requires some { piece.from < piece.to }
+    requires to { piece.to ≤ 64 }
+    requires within { piece.part * 64 + 64 ≤ 2 ^ 64 }
+    ensures here { (h : History) → C.stands caps.now h → (k : ℕ) → k < 64 → (q : Principal)
+        → is_given (nodes_at pool.new.places list) k q ≡ (is_given (nodes_at pool.old.places list) k q && (not (nat_le piece.from k && nat_lt k piece.to) || owns h q (Byte (piece.part * 64 + k)))) }
+    ensures others { (l : ℕ) → l ≢ list → nodes_at pool.new.places l ≡ nodes_at pool.old.places l }
+    ensures counts { (length pool.new.places ≡ length pool.old.places) × (length pool.new.owners ≡ length pool.old.owners) }
+    ensures spare { pool.old.spare ≤ pool.new.spare }
+    ensures nodes { AllNodes pool.old.places → AllNodes pool.new.places }
+{
+    pool.laws();
+    let mut node = pool.first(ListName::Place(list));
+    while let Some(n) = node {
+        let seen = visit(pool, list, n);
+        keep(pool, list, n, kept_mask(caps, seen.entry, piece));
+        pool.laws();
+        node = seen.next;
+    }
+}
+
+/// The first of a principal that was found and the writers in a list of a slot behind `after`.
+pub(crate) fn first_writer(
+    pool: &Pool,
+    list: u64,
+    at: SlotPart,
+    after: Option<Principal>,
+    found: Option<Principal>,
+) -> Option<Principal>
+    requires list { list < length pool.now.places }
+    requires slot { at.slot + 8 ≤ 2 ^ 64 }
+    ensures { (p : Principal → Bool) → IsFirstPrincipal p found → IsFirstPrincipal (λ q. p q || (follows after q && writes_in at.part (nodes_at pool.now.places list) at.slot q)) result }
+{
+    pool.laws();
+    let mut first = found;
+    let mut node = pool.first(ListName::Place(list));
+    while let Some(n) = node {
+        let seen = visit(pool, list, n);
+        first = earlier(first, writer_by(seen.entry, at, after));
+        node = seen.next;
+    }
+    first
+}
+
+/// Whether a list has the principal as a writer of a slot.
+pub(crate) fn writes(pool: &Pool, list: u64, at: SlotPart, who: Principal) -> bool
+    requires list { list < length pool.now.places }
+    requires slot { at.slot + 8 ≤ 2 ^ 64 }
+    ensures { result ≡ writes_in at.part (nodes_at pool.now.places list) at.slot who }
+{
+    pool.laws();
+    let mut node = pool.first(ListName::Place(list));
+    while let Some(n) = node {
+        let seen = visit(pool, list, n);
+        if is_by(seen.entry, at, who) {
+            return true;
+        }
+        node = seen.next;
+    }
+    false
+}
+
+/// Whether a list has no writer of a slot. Each node that is looked at is a step.
+pub(crate) fn is_untouched<L: Ledger>(
+    pool: &Pool,
+    list: u64,
+    at: SlotPart,
+    steps: &mut Steps<L>,
+) -> bool
+    requires list { list < length pool.now.places }
+    requires slot { at.slot + 8 ≤ 2 ^ 64 }
+    ensures nobody { IsNobody result (writes_in at.part (nodes_at pool.now.places list) at.slot) }
+    ensures cost { steps.new ≤ steps.old + length (nodes_at pool.now.places list) }
+{
+    pool.laws();
+    let mut node = pool.first(ListName::Place(list));
+    while let Some(n) = node {
+        steps.tick();
+        let seen = visit(pool, list, n);
+        if touches(seen.entry, at) {
+            return false;
+        }
+        node = seen.next;
+    }
+    true
+}
