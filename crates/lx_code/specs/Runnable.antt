@@ -4,11 +4,17 @@ use Rattle.lx_ir.specs.declared.module.Module.{Module}
 use Rattle.lx_model.specs.declared.program.Program.{Program}
 use Rattle.lx_model.specs.Program.{empty_module}
 use Rattle.lx_code.specs.declared.code.ActionCounts.{ActionCounts}
+use Rattle.lx_code.specs.declared.targets.Target.{Target as Named}
+use Rattle.lx_code.specs.Places.{Key, HasAddresses}
 use Rattle.lx_code.specs.Reach.{IsWithinReach, CountsActions, HasLocals}
+use Rattle.lx_code.specs.Targets.{HasTables}
 
--- the program is within reach; the table counts its actions, and no function has more locals than this
-pub record IsRunnable (p : Program) (empty : Module) (table : List ActionCounts) (most : ℕ) : Type 0 where
+-- the program is within reach; the table counts its actions, no function has more locals than this, the tables of the kernel
+-- and of the modules tell what their functions name, and the last one has the addresses of globals
+pub record IsRunnable (p : Program) (empty : Module) (counts : List ActionCounts) (most : ℕ) (kernel : List Named) (modules : List (List Named)) (globals : List (Key × ℕ)) : Type 0 where
   pub reach : IsWithinReach p
   pub empty_text : empty ≡ empty_module
-  pub actions : CountsActions p table
+  pub actions : CountsActions p counts
   pub locals : HasLocals p most
+  pub targets : HasTables p kernel modules
+  pub addresses : HasAddresses p.globals globals

@@ -1,15 +1,18 @@
 //! The code that a machine runs: what the numbers of a program name.
-ghost use Rattle.std.specs.Prelude.{◌≡◌, ℕ, ◌+◌, ◌<◌, Bool, true, IsTrue, Option, Some, List, length, map, option_copied, option_and_then, slice_get, unwrap_or};
+ghost use Rattle.std.specs.Prelude.{◌≡◌, ℕ, ◌+◌, ◌<◌, Bool, true, IsTrue, IfOk, Option, Some, List, length, map, option_copied, option_and_then, slice_get, unwrap_or};
 ghost use Rattle.lx_ir.specs.Lookup.{blocks_of};
-ghost use Rattle.lx_model.specs.Program.{module_of, empty_module, function_of, function_of_entry, home_or_kernel, result_width};
+ghost use Rattle.lx_model.specs.Program.{module_of, empty_module, function_of, function_of_entry, home_or_kernel, result_width, target, global_address};
 ghost use Rattle.lx_model.specs.Thread.{routine, routine_or_none, code_block_of};
 ghost use Rattle.lx_model.specs.Next.{actions_of, has_action};
 ghost use Rattle.lx_code.specs.Reach.{IsWithinReach, CountsActions, HasLocals, count_in};
+ghost use Rattle.lx_code.specs.Targets.{target_of};
 
+use crate::tables::Tables;
+use crate::targets::Target;
 use crate::words::width_of;
 use lx_ir::module::{Block, Function, Module};
 use lx_model::program::{Program, ProgramFunction};
-use lx_words::{Items, Width};
+use lx_words::{Items, Memory, Width};
 use std::alloc::Global;
 use std::marker::Model;
 
@@ -27,6 +30,7 @@ pub struct Code {
     empty: Module,
     actions: Vec<ActionCounts>,
     most_locals: usize,
+    tables: Tables,
 }
 
 impl Model for Code {
@@ -40,7 +44,7 @@ impl Model for Code {
 
     ghost view = { λ c. c.program };
 
-    ghost invariant = { λ c. IsRunnable c.program c.empty c.actions.items c.most_locals };
+    ghost invariant = { λ c. IsRunnable c.program c.empty c.actions.items c.most_locals c.tables.kernel c.tables.modules c.tables.addresses.entries };
 }
 
 // The function of a text with this number, and none for a native.
@@ -123,24 +127,36 @@ fn result_of(function: &Function) -> Option<Width>
     }
 }
 
+// A text that has nothing.
+fn no_text(alloc: Global) -> Module
+    ensures { result ≡ empty_module }
+{
+    Module {
+        types: Items::new(alloc),
+        globals: Items::new(alloc),
+        functions: Items::new(alloc),
+    }
+}
+
 impl Code {
     /// The code of a program, whose functions have so many actions.
-    pub fn new(alloc: Global, program: Program, actions: Vec<ActionCounts>) -> Code
+    ///
+    /// # Errors
+    /// Want of memory; more modules than a number of 32 bits counts are that too.
+    pub fn new(alloc: Global, program: Program, actions: Vec<ActionCounts>) -> Result<Code, Memory>
         requires reach { IsWithinReach program }
         requires actions { CountsActions program actions.items }
-        ensures { result ≡ program }
+        ensures { IfOk result (λ code. code ≡ program) }
     {
         let most_locals = most_locals(&program);
-        Code {
+        let tables = Tables::new(alloc, &program)?;
+        Ok(Code {
             program,
-            empty: Module {
-                types: Items::new(alloc),
-                globals: Items::new(alloc),
-                functions: Items::new(alloc),
-            },
+            empty: no_text(alloc),
             actions,
             most_locals,
-        }
+            tables,
+        })
     }
 
     /// The program that runs.
@@ -186,6 +202,20 @@ impl Code {
             Some(ProgramFunction::Native(_)) => None,
             None => None,
         }
+    }
+
+    /// What the function with this number in a text names there.
+    pub fn target(&self, home: Option<u32>, function: u32) -> Target
+        ensures { target_of result ≡ target self.now home function }
+    {
+        self.tables.target(home, function)
+    }
+
+    /// The address of a global; 0, where there is none.
+    pub(crate) fn global_address(&self, home: Option<u32>, number: u32) -> u64
+        ensures { result ≡ global_address self.now home number }
+    {
+        self.tables.address(home, number).unwrap_or(0)
     }
 
     /// How many registers the instructions of a function give.

@@ -3,6 +3,8 @@
 
 mod code;
 mod constants;
+mod places;
+mod tables;
 mod targets;
 mod words;
 

@@ -1,13 +1,16 @@
-//! What called names name.
-ghost use Rattle.std.specs.Prelude.{◌≡◌, ℕ, ◌<◌, ◌++◌, None, Some, length, IfSome, nat_eq, ◌&&◌, bytes_eq, codes, position};
-ghost use Rattle.lx_ir.specs.Lookup.{is_defined};
-ghost use Rattle.lx_model.specs.Program.{same_home, is_entry, number_of, kernel_function, native_named, slot_named, target, import, own, global_address};
+//! What called names name, looked up by name.
+ghost use Rattle.std.specs.Prelude.{◌≡◌, ℕ, false, ◌++◌, None, Some, List, bytes_eq, MatchOption, IfOk};
+ghost use Rattle.lx_code.specs.Reach.{IsWithinReach};
 ghost use Rattle.lx_code.specs.Targets.{target_of};
+ghost use Rattle.lx_model.specs.Program.{number_of, kernel_function, native_named, slot_named, target_of as target_in, import, own};
 
-use crate::code::Code;
-use lx_annot::interface::Slot;
+use crate::places::{Key, defined_in, numbers_of, slots_in};
+use indexmap::IndexMap;
 use lx_ir::module::Function;
-use lx_model::program::{ProgramFunction, ProgramGlobal};
+use lx_model::program::Program;
+use lx_words::Memory;
+use std::alloc::Global;
+use std::marker::Model;
 
 /// What a called name names: a native, a slot of a slot type, a function of the kernel, one of the same text, or
 /// nothing.
@@ -20,61 +23,26 @@ pub enum Target {
     Nowhere,
 }
 
-fn is_same_home(a: Option<u32>, b: Option<u32>) -> bool
-    ensures { result ≡ same_home a b }
-{
-    match (a, b) {
-        (None, None) => true,
-        (Some(m), Some(n)) => m == n,
-        _ => false,
-    }
-}
-
-fn is_global(global: &ProgramGlobal, home: Option<u32>, number: u32) -> bool
-    ensures { result ≡ (same_home global.now.«module» home && nat_eq global.now.global number) }
-{
-    is_same_home(global.module, home) && global.global == number
-}
-
-fn is_entry(entry: &ProgramFunction, home: Option<u32>, number: usize) -> bool
-    ensures { result ≡ is_entry home number entry.now }
-{
-    match entry {
-        ProgramFunction::Of { module, function } => {
-            is_same_home(home, *module) && number == *function as usize
-        }
-        ProgramFunction::Native(_) => false,
-    }
-}
-
-fn is_defined_as(function: &Function, name: &[u8]) -> bool
-    ensures { result ≡ (is_defined function.now && bytes_eq function.now.name name.now) }
-{
-    function.blocks.is_some() && function.name.is_same(name)
-}
-
 fn is_same(a: &[u8], b: &[u8]) -> bool
     ensures { result ≡ bytes_eq a.now b.now }
 {
     a == b
 }
 
-// Whether a name is one text behind another.
+// What stands in a name behind a text, if the name begins with that text.
 #[tactic(auto, using(crate::proofs::Names::longer_name))]
-fn is_joined(front: &[u8], back: &[u8], name: &[u8]) -> bool
-    ensures { result ≡ bytes_eq (front.now ++ back.now) name.now }
+fn behind<'a>(front: &[u8], name: &'a [u8]) -> Option<&'a [u8]>
+    ensures { MatchOption result ((back : List ℕ) → bytes_eq (front.now ++ back) name.now ≡ false) (λ rest. (back : List ℕ) → bytes_eq (front.now ++ back) name.now ≡ bytes_eq back rest.now) }
 {
     if name.len() < front.len() {
-        return false;
+        return None;
     }
     let (first, rest) = name.split_at(front.len());
-    is_same(front, first) && is_same(back, rest)
-}
-
-fn is_slot(slot: &Slot, name: &[u8]) -> bool
-    ensures { result ≡ bytes_eq (codes "k.slot." ++ slot.now.name) name.now }
-{
-    is_joined(b"k.slot.", slot.name.as_slice(), name)
+    if is_same(front, first) {
+        Some(rest)
+    } else {
+        None
+    }
 }
 
 // The native with this name.
@@ -98,61 +66,66 @@ fn native_named(name: &[u8]) -> Option<u32>
     }
 }
 
-// The place of a text's function among those of a program.
-fn place_of(functions: &[ProgramFunction], home: Option<u32>, function: usize) -> Option<usize>
-    ensures place { result ≡ position (is_entry home function) functions.now }
-    ensures small { IfSome result (λ n. n < length functions.now) }
-{
-    functions
-        .iter()
-        .position(|entry| is_entry(entry, home, function))
+/// The program whose names are looked up, and maps of them, so that no name is searched for. Contracts see the program.
+#[derive(Drop)]
+pub(crate) struct Lookup<'a> {
+    program: &'a Program,
+    numbers: IndexMap<Key, u32>,
+    kernel: IndexMap<&'a [u8], usize>,
+    slots: IndexMap<&'a [u8], u32>,
 }
 
-// The place of a text's function with a name.
-fn place_named(functions: &[Function], name: &[u8]) -> Option<usize>
-    ensures { result ≡ position (λ f. is_defined f && bytes_eq f.name name.now) functions.now }
-{
-    functions
-        .iter()
-        .position(|function| is_defined_as(function, name))
+impl<'a> Model for Lookup<'a> {
+    ghost use Rattle.lx_model.specs.declared.program.Program.{Program as Meaning};
+    ghost use Rattle.lx_code.specs.Places.{IsIndexed};
+    ghost use Rattle.lx_model.specs.contracts.program.Program as program_row;
+
+    ghost Value = { Meaning };
+
+    ghost coded = { program_row.the_row.coded };
+
+    ghost view = { λ l. l.program.now };
+
+    ghost invariant = { λ l. IsIndexed l.program.now l.numbers.entries l.kernel.entries l.slots.entries };
 }
 
-// The place of the slot type of the import `k.slot.` with its name.
-fn slot_place(slots: &[Slot], name: &[u8]) -> Option<usize>
-    ensures place { result ≡ position (λ s. bytes_eq (codes "k.slot." ++ s.name) name.now) slots.now }
-    ensures small { IfSome result (λ n. n < length slots.now) }
-{
-    slots.iter().position(|slot| is_slot(slot, name))
-}
-
-impl Code {
-    /// The address of a global; 0, where there is none.
-    pub(crate) fn global_address(&self, home: Option<u32>, number: u32) -> u64
-        ensures { result ≡ global_address self.now home number }
+impl<'a> Lookup<'a> {
+    /// The maps of a program.
+    pub(crate) fn new(alloc: Global, program: &'a Program) -> Result<Self, Memory>
+        requires { IsWithinReach program.now }
+        ensures { IfOk result (λ lookup. lookup ≡ program.now) }
     {
-        let mut globals = self.program.globals.items.iter();
-        match globals.find(|global| is_global(global, home, number)) {
-            Some(global) => global.at,
-            None => 0,
-        }
+        let numbers = numbers_of(alloc, program.functions.as_slice())?;
+        let kernel = defined_in(alloc, program.kernel.functions.as_slice())?;
+        let slots = slots_in(alloc, program.interface.slots.as_slice())?;
+        Ok(Lookup {
+            program,
+            numbers,
+            kernel,
+            slots,
+        })
+    }
+
+    /// The program.
+    pub(crate) fn program(&self) -> &'a Program
+        ensures { result.now ≡ self.now }
+    {
+        self.program
     }
 
     // The number in the program of a function that a text defines.
     fn number_of(&self, home: Option<u32>, function: usize) -> Option<u32>
         ensures { result ≡ number_of self.now home function }
     {
-        match place_of(self.program.functions.as_slice(), home, function) {
-            Some(number) => Some(number as u32),
-            None => None,
-        }
+        self.numbers.get(&(home, function)).copied()
     }
 
     // The number of the kernel's function with this name.
     fn kernel_function(&self, name: &[u8]) -> Option<u32>
         ensures { result ≡ kernel_function self.now name.now }
     {
-        match place_named(self.program.kernel.functions.as_slice(), name) {
-            Some(place) => self.number_of(None, place),
+        match self.kernel.get(name) {
+            Some(place) => self.number_of(None, *place),
             None => None,
         }
     }
@@ -161,8 +134,8 @@ impl Code {
     fn slot_named(&self, name: &[u8]) -> Option<u32>
         ensures { result ≡ slot_named self.now name.now }
     {
-        match slot_place(self.program.interface.slots.as_slice(), name) {
-            Some(number) => Some(number as u32),
+        match behind(b"k.slot.", name) {
+            Some(rest) => self.slots.get(rest).copied(),
             None => None,
         }
     }
@@ -202,28 +175,23 @@ impl Code {
         }
     }
 
-    fn own(&self, home: Option<u32>, function: u32) -> Target
+    fn own(&self, home: Option<u32>, function: usize) -> Target
         ensures { target_of result ≡ own (number_of self.now home function) }
     {
-        match self.number_of(home, function as usize) {
+        match self.number_of(home, function) {
             Some(number) => Target::Own(number),
             None => Target::Nowhere,
         }
     }
 
-    /// What the function with this number in a text names there.
-    pub fn target(&self, home: Option<u32>, function: u32) -> Target
-        ensures { target_of result ≡ target self.now home function }
+    /// What a function of a text, by its number there, names in that text.
+    pub(crate) fn target(&self, home: Option<u32>, number: usize, function: &Function) -> Target
+        ensures { target_of result ≡ target_in self.now home number (Some function.now) }
     {
-        match self.text(home).functions.items.get(function as usize) {
-            Some(found) => {
-                if found.blocks.is_some() {
-                    self.own(home, function)
-                } else {
-                    self.import(home, found.name.as_slice())
-                }
-            }
-            None => Target::Nowhere,
+        if function.blocks.is_some() {
+            self.own(home, number)
+        } else {
+            self.import(home, function.name.as_slice())
         }
     }
 }

@@ -1,6 +1,6 @@
 use Rattle.std.proofs.Common.{ap, sym, ◌∙◌, Option, ℕ}
 use Rattle.lx_model.specs.Program.{import}
-use Rattle.lx_code.proofs.code.Code.import.Goals as goal
+use Rattle.lx_code.proofs.targets.Lookup.import.Goals as goal
 
 pub returns-in-Some : goal.returns-in-Some
 returns-in-Some c =

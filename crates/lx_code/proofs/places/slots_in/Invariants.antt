@@ -1,0 +1,13 @@
+use Rattle.std.proofs.Common.{◌≡◌, ◌≤◌, ℕ, List, length, drop}
+use Rattle.std.specs.List.{position_from}
+use Rattle.lx_code.specs.Places.{at_name, is_named}
+use Rattle.lx_code.proofs.places.slots_in.Given as goal
+
+abbrev pub invariant-loop-left : goal.invariant-loop-left
+invariant-loop-left l = record {
+  within : l.left ≤ length l.slots;
+  so_far : (name : List ℕ) → at_name l.names.entries name ≡ position_from (is_named name) l.left (drop l.left l.slots);
+}
+
+abbrev pub decreases-loop-left : goal.decreases-loop-left
+decreases-loop-left l = l.left
