@@ -1,20 +1,54 @@
 //! The world of a program before the first call.
 ghost use Rattle.std.specs.Prelude.{◌≡◌, ◌≤◌, [], IfOk, length};
+ghost use Rattle.lx_code.specs.Reach.{CountsActions};
 ghost use Rattle.lx_link_texts.specs.WellFormed.{IsWellFormed};
 ghost use Rattle.lx_model.specs.World.{opening};
+ghost use Rattle.lx_serve.specs.Sources.{Knows};
 ghost use Rattle.lx_tables.specs.Entries.{all_annotated};
-ghost use Rattle.lx_world.specs.Worlds.{HasEndsRoom, HasRoom, StandsForWorld, program_of};
+ghost use Rattle.lx_world.specs.Worlds.{HasEndsRoom, HasRoom, StandsForWorld, program_of, script_events};
 
 use crate::events::script_events;
 use crate::part::open_part;
 use lx_caps::CapStore;
-use lx_code::Code;
+use lx_code::{ActionCounts, Code};
 use lx_model::program::{Calls, Program};
 use lx_propagate::Annotated;
+use lx_serve::Source;
 use lx_tables::{action_counts, reach_laws, sources_of};
 use lx_words::Memory;
 use lx_world::World;
 use std::alloc::Global;
+
+/// What the opening reckons before it takes a program in: where annotations stand, how many actions each function has, and
+/// how many events there may be.
+#[derive(Drop)]
+struct Reckoning {
+    sources: Vec<Option<Source>>,
+    counts: Vec<ActionCounts>,
+    events: usize,
+}
+
+fn reckoned(
+    alloc: Global,
+    program: &Program,
+    script: &[Calls],
+    annotated: &[Annotated],
+) -> Result<Reckoning, Memory>
+    requires well_formed { IsWellFormed program.now }
+    requires annotated { annotated.now ≡ all_annotated program.now }
+    ensures known { IfOk result (λ reckoning. Knows program.now reckoning.sources.items) }
+    ensures counted { IfOk result (λ reckoning. CountsActions program.now reckoning.counts.items) }
+    ensures events { IfOk result (λ reckoning. reckoning.events ≡ script_events script.now) }
+{
+    let events = script_events(script)?;
+    let sources = sources_of(alloc, program, annotated)?;
+    let counts = action_counts(alloc, program, sources.as_slice())?;
+    Ok(Reckoning {
+        sources,
+        counts,
+        events,
+    })
+}
 
 /// The opening of a script, a list of calls for each thread, over a well-formed program. `annotated` has the functions
 /// of each module that get a slot type, and `caps` is new. The world has room in its journal for every event that the fuel
@@ -40,13 +74,34 @@ pub fn open_world<C: CapStore + Drop>(
     ensures ends { IfOk result (λ world. HasEndsRoom C.spare world) }
 {
     reach_laws();
-    let sources = sources_of(alloc, &program, annotated)?;
-    let counts = action_counts(alloc, &program, sources.as_slice())?;
-    let code = Code::new(alloc, program, counts);
-    let events = script_events(script.as_slice())?;
-    let Ok(shared) = open_part(alloc, &code, caps, sources, events) else {
-        return Err(Memory);
-    };
-    let world = World::open(alloc, code, script, shared)?;
-    Ok(world)
+    match reckoned(alloc, &program, script.as_slice(), annotated) {
+        Ok(
+            Reckoning {
+                sources,
+                counts,
+                events,
+            },
+        ) => match Code::new(alloc, program, counts) {
+            Ok(code) => match open_part(alloc, &code, caps, sources, events) {
+                Ok(shared) => World::open(alloc, code, script, shared),
+                Err(_) => {
+                    drop(code);
+                    drop(script);
+                    Err(Memory)
+                }
+            },
+            Err(why) => {
+                drop(script);
+                drop(caps);
+                drop(sources);
+                Err(why)
+            }
+        },
+        Err(why) => {
+            drop(program);
+            drop(script);
+            drop(caps);
+            Err(why)
+        }
+    }
 }

@@ -38,6 +38,13 @@ pub fn open_part<C: CapStore + Drop>(
     let mut space = blank(alloc)?;
     put_globals(&mut space, code);
     let mut caps = Recorded::new(alloc, caps);
-    open_modules(&mut caps, code)?;
-    SharedPart::open(alloc, code.program(), space, caps, sources, events)
+    match open_modules(&mut caps, code) {
+        Ok(()) => SharedPart::open(alloc, code.program(), space, caps, sources, events),
+        Err(why) => {
+            drop(space);
+            drop(caps);
+            drop(sources);
+            Err(why)
+        }
+    }
 }

@@ -1,11 +1,13 @@
 //! The world: what threads share, and a runner for each thread.
-ghost use Rattle.std.specs.Prelude.{◌≡◌, ◌≤◌, ◌+◌, ◌*◌, length, IfOk, IfSome};
-ghost use Rattle.std.specs.List.{list_all};
+ghost use Rattle.std.specs.Prelude.{◌≡◌, ◌≤◌, ◌+◌, ◌*◌, length, map, IfOk, IfSome, OnOk};
+ghost use Rattle.std.specs.List.{list_all, sum_by};
+ghost use Rattle.lx_interp.specs.Runner.{calls_left, events_left};
 ghost use Rattle.lx_model.specs.declared.program.Program.{Program};
 ghost use Rattle.lx_model.specs.State.{State};
+ghost use Rattle.lx_model.specs.Thread.{fresh_thread};
 ghost use Rattle.lx_serve.specs.Room.{journal_room, store_room};
 ghost use Rattle.lx_serve.specs.Stands.{StandsForState};
-ghost use Rattle.lx_world.specs.Worlds.{is_idle, script_calls};
+ghost use Rattle.lx_world.specs.Worlds.{AllStand, is_idle, script_calls, script_events};
 
 use crate::fault::EventFault;
 use crate::linked::LinkedCode;
@@ -51,16 +53,15 @@ fn script_calls(script: &[Calls]) -> Option<u64>
     Some(count)
 }
 
-/// The part with room in its store for the ends of a script's calls, two acts of each.
-fn with_ends<C: CapStore + Drop>(
-    shared: SharedPart<C>,
+/// Makes room in the store for the ends of a script's calls, two acts of each.
+fn reserve_ends<C: CapStore + Drop>(
+    shared: &mut SharedPart<C>,
     script: &[Calls],
-) -> Result<SharedPart<C>, Memory>
-    ensures room { IfOk result (λ part. 2 * script_calls script.now ≤ store_room C.spare part) }
-    ensures journal { IfOk result (λ part. journal_room part ≡ journal_room shared) }
-    ensures stands { IfOk result (λ part. (p : Program) (s : State) → StandsForState C.stands p shared s → StandsForState C.stands p part s) }
+) -> Result<(), Memory>
+    ensures room { OnOk result (2 * script_calls script.now ≤ store_room C.spare shared.new) }
+    ensures journal { journal_room shared.new ≡ journal_room shared.old }
+    ensures stands { (p : Program) (s : State) → StandsForState C.stands p shared.old s → StandsForState C.stands p shared.new s }
 {
-    let mut shared = shared;
     let Some(calls) = script_calls(script) else {
         return Err(Memory);
     };
@@ -68,9 +69,29 @@ fn with_ends<C: CapStore + Drop>(
         return Err(Memory);
     };
     match shared.reserve(acts) {
-        Ok(()) => Ok(shared),
+        Ok(()) => Ok(()),
         Err(_) => Err(Memory),
     }
+}
+
+/// The runners of a script, and room in the store for the ends of its calls.
+fn open_runners<C: CapStore + Drop>(
+    alloc: Global,
+    code: &Code,
+    script: Vec<Calls>,
+    shared: &mut SharedPart<C>,
+) -> Result<Runners, Memory>
+    requires { length script.items ≤ 16 }
+    ensures stand { IfOk result (λ runners. AllStand code.now 0 runners.list.items (map fresh_thread script.items)) }
+    ensures events { IfOk result (λ runners. sum_by events_left runners.list.items ≡ script_events script.items) }
+    ensures calls { IfOk result (λ runners. sum_by (λ r. length (calls_left r)) runners.list.items ≡ script_calls script.items) }
+    ensures room { OnOk result (2 * script_calls script.items ≤ store_room C.spare shared.new) }
+    ensures journal { journal_room shared.new ≡ journal_room shared.old }
+    ensures stands { (p : Program) (s : State) → StandsForState C.stands p shared.old s → StandsForState C.stands p shared.new s }
+{
+    reserve_ends(shared, script.as_slice())?;
+    let runners = Runners::open(alloc, code, script)?;
+    Ok(runners)
 }
 
 fn are_done(runners: &[Runner]) -> bool
@@ -112,14 +133,19 @@ impl<C: CapStore + Drop> World<C> {
         ensures room { IfOk result (λ world. script_events script.items ≤ journal_room shared → HasRoom world) }
         ensures ends { IfOk result (λ world. HasEndsRoom C.spare world) }
     {
-        let shared = with_ends(shared, script.as_slice())?;
-        let runners = Runners::open(alloc, &code, script)?;
-        let linked = LinkedCode { code };
-        Ok(World {
-            shared,
-            runners,
-            linked,
-        })
+        let mut shared = shared;
+        match open_runners(alloc, &code, script, &mut shared) {
+            Ok(runners) => Ok(World {
+                shared,
+                runners,
+                linked: LinkedCode { code },
+            }),
+            Err(why) => {
+                drop(code);
+                drop(shared);
+                Err(why)
+            }
+        }
     }
 
     /// The program that runs.
