@@ -145,7 +145,8 @@ attributes #1 = { "frame-pointer"="all" "no-trapping-math"="true" "stack-protect
 }
 
 /// Its case.
-pub const NIC_AFTER_CASE: &str = r#"lxfi case 1
+pub fn nic_after_case() -> &'static str {
+    r#"lxfi case 1
 kernel builtin
 interface builtin
 module nic examples/nic_after.ll
@@ -154,10 +155,12 @@ call nic:card_init fuel 100
 call kernel:do_probe 0 fuel 200
 call kernel:skb_new 4 fuel 100
 call kernel:do_xmit 0 0x2000030 fuel 400
-"#;
+"#
+}
 
 /// What the case prints.
-pub const NIC_AFTER_REPORT: &str = r#"schedule 0*134
+pub fn nic_after_report() -> &'static str {
+    r#"schedule 0*134
 call 0.0 nic:card_init returned 0
 call 0.1 kernel:do_probe returned 0
 call 0.2 kernel:skb_new returned 0x2000030
@@ -174,4 +177,5 @@ owns nic.shared call 0x10140
 owns nic.shared call 0x10150
 owns nic[0x1000020] write 0x2000010+16
 owns nic[0x1000020] ref device 0x1000020
-"#;
+"#
+}

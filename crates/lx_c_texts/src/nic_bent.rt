@@ -148,7 +148,8 @@ attributes #1 = { "frame-pointer"="all" "no-trapping-math"="true" "stack-protect
 }
 
 /// Its case.
-pub const NIC_BENT_CASE: &str = r#"lxfi case 1
+pub fn nic_bent_case() -> &'static str {
+    r#"lxfi case 1
 kernel builtin
 interface builtin
 module nic examples/nic_bent.ll
@@ -156,10 +157,12 @@ thread
 call nic:card_init fuel 100
 call nic:card_bend fuel 100
 call kernel:do_probe 0 fuel 200
-"#;
+"#
+}
 
 /// What the case prints.
-pub const NIC_BENT_REPORT: &str = r#"schedule 0*21
+pub fn nic_bent_report() -> &'static str {
+    r#"schedule 0*21
 call 0.0 nic:card_init returned 0
 call 0.1 nic:card_bend returned
 call 0.2 kernel:do_probe refused 6 nic.shared call 0x10100 slot 0x10000e0
@@ -173,4 +176,5 @@ owns nic.shared call 0x10130
 owns nic.shared call 0x10140
 owns nic.shared call 0x10150
 owns nic.shared call 0x10160
-"#;
+"#
+}

@@ -150,7 +150,8 @@ attributes #1 = { "frame-pointer"="all" "no-trapping-math"="true" "stack-protect
 }
 
 /// Its case.
-pub const NIC_PAST_CASE: &str = r#"lxfi case 1
+pub fn nic_past_case() -> &'static str {
+    r#"lxfi case 1
 kernel builtin
 interface builtin
 module nic examples/nic_past.ll
@@ -159,10 +160,12 @@ call nic:card_init fuel 100
 call kernel:do_probe 0 fuel 200
 call kernel:skb_new 4 fuel 100
 call kernel:do_xmit 0 0x2000030 fuel 400
-"#;
+"#
+}
 
 /// What the case prints.
-pub const NIC_PAST_REPORT: &str = r#"schedule 0*131
+pub fn nic_past_report() -> &'static str {
+    r#"schedule 0*131
 call 0.0 nic:card_init returned 0
 call 0.1 kernel:do_probe returned 0
 call 0.2 kernel:skb_new returned 0x2000030
@@ -180,4 +183,5 @@ owns nic[0x1000020] write 0x2000010+16
 owns nic[0x1000020] write 0x2000030+24
 owns nic[0x1000020] write 0x2000060+4
 owns nic[0x1000020] ref device 0x1000020
-"#;
+"#
+}

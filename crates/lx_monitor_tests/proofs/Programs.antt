@@ -17,7 +17,7 @@ use Rattle.lx_model.specs.declared.program.ProgramModule.{ProgramModule}
 use Rattle.lx_propagate.specs.Gets.{below}
 use Rattle.lx_report.specs.Lawful.{HasLawfulModules}
 use Rattle.lx_serve.specs.Sources.{IsLinked, Knows}
-use Rattle.lx_monitor_tests.specs.Programs.{module_with, one_function, silent, one_silent, slotted}
+use Rattle.lx_monitor_tests.specs.Programs.{module_with, one_function, silent, one_silent, slotted, naming}
 
 -- programs of one function
 
@@ -86,6 +86,25 @@ slotted_known p is = subst (λ (q : Program). Knows q []) (sym is) (λ n. sym (s
 
 pub slotted_linked : (p : Program) → p ≡ slotted → IsLinked p
 slotted_linked p is = subst IsLinked (sym is) (record { iterators = λ k. omega arith; functions = omega arith })
+
+-- the program whose names name each kind of thing
+
+naming_is_within_reach : IsWithinReach naming
+naming_is_within_reach = record { functions = omega arith; slots = omega arith; kernel = refl; modules = refl }
+
+pub naming_within_reach : (p : Program) → p ≡ naming → IsWithinReach p
+naming_within_reach p is = subst IsWithinReach (sym is) naming_is_within_reach
+
+naming_counted : CountsActions naming []
+naming_counted zero true = refl
+naming_counted zero false = refl
+naming_counted (suc zero) true = refl
+naming_counted (suc zero) false = refl
+naming_counted (suc (suc n)) true = refl
+naming_counted (suc (suc n)) false = refl
+
+pub naming_counts : (p : Program) → p ≡ naming → CountsActions p []
+naming_counts p is = subst (λ (q : Program). CountsActions q []) (sym is) naming_counted
 
 -- programs of a module that has nothing
 

@@ -1,5 +1,5 @@
 -- The programs of the tests: a kernel and one module, which have no types and no globals.
-use Rattle.std.specs.Prelude.{ℕ, Option, Some, None, List, [], ◌∷◌}
+use Rattle.std.specs.Prelude.{ℕ, Option, Some, None, List, [], ◌∷◌, codes}
 use Rattle.lx_annot.specs.declared.expr.Ty.TheVariants as ty
 use Rattle.lx_annot.specs.declared.interface.Interface.{Interface}
 use Rattle.lx_annot.specs.declared.interface.Slot.{Slot}
@@ -40,8 +40,11 @@ abbrev pub one_silent : Program
 one_silent = one_function silent
 
 -- a slot type of functions without parameters, and without an annotation
+abbrev pub slot_with : List ℕ → Slot
+slot_with name = record { name = name; params = []; ret = ty.Void; annotation = no_annotation; line = 1 }
+
 abbrev pub plain_slot : Slot
-plain_slot = record { name = []; params = []; ret = ty.Void; annotation = no_annotation; line = 1 }
+plain_slot = slot_with []
 
 -- a program of one function of the kernel, one slot type, and a module that has nothing
 abbrev pub slotted : Program
@@ -51,4 +54,26 @@ slotted = record {
   functions = Of None 0 ∷ [];
   globals = [];
   interface = interface_with [] (plain_slot ∷ []);
+}
+
+-- a function without parameters that a text imports
+abbrev pub import_with : List ℕ → Function
+import_with name = record { name = name; params = []; locals = []; ret = None; blocks = None; line = 1 }
+
+-- a program whose names name a native, a slot, a function of the kernel, one of the module, and nothing
+abbrev pub naming_kernel : List Function
+naming_kernel =
+    function_with (codes "k.work") None ∷ import_with (codes "k.alloc") ∷ import_with (codes "k.slot.s") ∷ import_with (codes "k.other") ∷ []
+
+abbrev pub naming_module : List Function
+naming_module =
+    import_with (codes "k.other") ∷ import_with (codes "lxfi_princ_alias") ∷ import_with (codes "k.work") ∷ function_with (codes "own") None ∷ []
+
+abbrev pub naming : Program
+naming = record {
+  kernel = module_with naming_kernel;
+  modules = record { name = []; «module» = module_with naming_module } ∷ [];
+  functions = Of None 0 ∷ Of (Some 0) 3 ∷ [];
+  globals = [];
+  interface = interface_with [] (slot_with (codes "s") ∷ []);
 }

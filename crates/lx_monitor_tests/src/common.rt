@@ -2,11 +2,13 @@
 ghost use Rattle.std.specs.Prelude.{◌≡◌, ◌∷◌, [], IfOk};
 ghost use Rattle.lx_caps.specs.History.{History};
 ghost use Rattle.lx_model.specs.Opening.{opening_history, opening_state, with_globals};
-ghost use Rattle.lx_monitor_tests.specs.Programs.{function_with, interface_with, module_with, one_function};
+ghost use Rattle.lx_monitor_tests.specs.Programs.{function_with, interface_with, module_with, one_function, slot_with};
 ghost use Rattle.lx_serve.specs.Sources.{Knows};
 ghost use Rattle.lx_serve.specs.Stands.{StandsForState};
 ghost use Rattle.lx_writers.specs.Stands.{StandsRecorded};
 
+use lx_annot::action::Annotation;
+use lx_annot::expr::Ty;
 use lx_annot::interface::{Interface, Slot};
 use lx_caps::CapStore;
 use lx_ir::module::{Function, Module};
@@ -55,6 +57,23 @@ pub fn modules_with(
     let module = module_with(alloc, functions);
     let modules = vec![in alloc; ProgramModule { name, module }]?;
     Ok(Items::from_vec(modules))
+}
+
+/// A slot type of functions without parameters, and without an annotation.
+pub fn slot_with(alloc: Global, name: Name) -> Slot
+    ensures { result ≡ slot_with name }
+{
+    Slot {
+        name,
+        params: Items::new(alloc),
+        ret: Ty::Void,
+        annotation: Annotation {
+            principal: None,
+            pre: Items::new(alloc),
+            post: Items::new(alloc),
+        },
+        line: 1,
+    }
 }
 
 /// An interface of reference types and slot types alone.

@@ -1,13 +1,9 @@
 //! Requests as the monitor answers them, one after the other.
 ghost use Rattle.std.specs.Prelude.{◌≡◌, ◌∷◌, [], IfOk};
-ghost use Rattle.lx_model.specs.Program.{no_annotation};
-ghost use Rattle.lx_monitor_tests.specs.Programs.{plain_slot, slotted};
+ghost use Rattle.lx_monitor_tests.specs.Programs.{slotted};
 ghost use Rattle.lx_serve.specs.Sources.{IsLinked};
 
-use crate::common::{function_with, interface_with, module_with, modules_with, part_of};
-use lx_annot::action::Annotation;
-use lx_annot::expr::Ty;
-use lx_annot::interface::Slot;
+use crate::common::{function_with, interface_with, module_with, modules_with, part_of, slot_with};
 use lx_caps::{PlainCaps, Principal};
 use lx_model::program::{Program, ProgramFunction};
 use lx_model::request::{Outcome, Refusal, Reply, Request, Trap, Way, What};
@@ -181,23 +177,6 @@ fn reply_seen(reply: Reply) -> Seen {
     }
 }
 
-/// A slot type of functions without parameters, and without an annotation.
-fn slot(alloc: Global) -> Slot
-    ensures { result ≡ plain_slot }
-{
-    Slot {
-        name: Items::new(alloc),
-        params: Items::new(alloc),
-        ret: Ty::Void,
-        annotation: Annotation {
-            principal: None,
-            pre: Items::new(alloc),
-            post: Items::new(alloc),
-        },
-        line: 1,
-    }
-}
-
 /// A program of one function of the kernel, at 0x10000, one slot type, and a module that has nothing.
 fn program(alloc: Global) -> Result<Program, Memory>
     ensures { IfOk result (λ p. p ≡ slotted) }
@@ -209,7 +188,7 @@ fn program(alloc: Global) -> Result<Program, Memory>
         function: 0,
     };
     let numbers = vec![in alloc; first]?;
-    let slots = vec![in alloc; slot(alloc)]?;
+    let slots = vec![in alloc; slot_with(alloc, Items::new(alloc))]?;
     Ok(Program {
         kernel: module_with(alloc, functions),
         modules,

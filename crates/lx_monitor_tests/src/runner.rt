@@ -87,7 +87,8 @@ fn program_of(alloc: Global, function: Function) -> Result<Program, Memory>
 fn code_of(alloc: Global) -> Result<Code, Memory> {
     let function = deep(alloc)?;
     let program = program_of(alloc, function)?;
-    Ok(Code::new(alloc, program, Vec::new(alloc)))
+    let code = Code::new(alloc, program, Vec::new(alloc))?;
+    Ok(code)
 }
 
 /// A runner of thread 1 before one call of function 0, with this fuel.

@@ -58,21 +58,29 @@ fn script(alloc: Global) -> Result<Vec<Calls>, Memory>
     Ok(script)
 }
 
-#[tactic(auto, using(crate::proofs::Programs::silent_linked, crate::proofs::Programs::silent_within_reach, crate::proofs::Programs::silent_counts))]
+#[tactic(auto, using(crate::proofs::Programs::silent_within_reach, crate::proofs::Programs::silent_counts))]
+fn code(alloc: Global) -> Result<Code, Memory>
+    ensures { IfOk result (λ code. code ≡ one_silent) }
+{
+    let program = program(alloc)?;
+    let code = Code::new(alloc, program, Vec::new(alloc))?;
+    Ok(code)
+}
+
+#[tactic(auto, using(crate::proofs::Programs::silent_linked))]
 fn world<C: CapStore + Drop>(alloc: Global, caps: C) -> Result<World<C>, Fail>
     requires { C.stands caps [] }
     ensures { IfOk result (λ world. (w : Meaning) × StandsForWorld C.stands one_silent world w) }
 {
     let script = script(alloc)?;
-    let program = program(alloc)?;
-    match shared(alloc, &program, caps) {
+    let code = code(alloc)?;
+    match shared(alloc, code.program(), caps) {
         Ok(shared) => {
-            let code = Code::new(alloc, program, Vec::new(alloc));
             let world = World::open(alloc, code, script, shared)?;
             Ok(world)
         }
         Err(fault) => {
-            drop(program);
+            drop(code);
             Err(fault)
         }
     }

@@ -1,4 +1,4 @@
-//! Tests of the stores of capabilities, memory, names and writers, and of actions over them.
+//! Tests of the stores of capabilities and their nodes, of memory, names and writers, and of actions over them.
 #![tactic(auto)]
 
 #[cfg(test)]
@@ -10,9 +10,13 @@ mod common;
 #[cfg(test)]
 mod memory;
 #[cfg(test)]
+mod nodes;
+#[cfg(test)]
 mod principals;
 #[cfg(test)]
 mod room;
+#[cfg(test)]
+mod tables;
 #[cfg(test)]
 mod writer_sets;
 #[cfg(test)]

@@ -89,6 +89,24 @@ fn writers_come_in_order(rt: HostRuntime) -> Result<(), Fail> {
     Ok(())
 }
 
+static NOTE_OF_EIGHT: [(Principal, u64, u64); 1] = [(SHARED, 0x2000000, 8)];
+
+/// Slots of the part that was written, of both sides of its end, and of the next one.
+static SLOTS_NEAR: [(u64, &[Principal]); 5] = [
+    (0x2000040, &[]),
+    (0x2000038, &[]),
+    (0x200003c, &[]),
+    (0x2000000, &[SHARED]),
+    (0x1fffffc, &[SHARED]),
+];
+
+#[test]
+fn slots_near_a_writer_are_clean(rt: HostRuntime) -> Result<(), Fail> {
+    let sets = noted(&rt, rt.alloc(), &NOTE_OF_EIGHT)?;
+    assert_writers(&rt, &sets, &SLOTS_NEAR);
+    Ok(())
+}
+
 static NOTES_TO_ZERO: [(Principal, u64, u64); 2] = [
     (FIRST, 0x1000000, 256),
     (SHARED, 0x1000030, 0x60),

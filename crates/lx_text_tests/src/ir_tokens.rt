@@ -5,6 +5,7 @@ use lx_ir_tokens::{
     read_tokens,
 };
 use lx_words::{BinOp, Pred, Stop, Width};
+use std::alloc::Global;
 use std::test::Fail;
 
 /// A token's kind, its name and its line.
@@ -162,9 +163,8 @@ fn every_kind_and_the_lines_passed_over(rt: HostRuntime) -> Result<(), Fail> {
         : @\"x\" c\"a\\5C\\0a\" c\"x\"\n\
         ! = attributes";
     let ir = read_tokens(rt.alloc(), text.as_slice())?;
-    assert_eq!(rt; first_wrong(&ir, EVERY_KIND.as_slice()), None);
-    assert_eq!(rt; ir.stop, None);
-    assert_eq!(rt; ir.last_line, 12);
+    let wrong = first_wrong(&ir, EVERY_KIND.as_slice());
+    assert_eq!(rt; (wrong, ir.stop, ir.last_line), (None, None, 12));
     Ok(())
 }
 
@@ -176,8 +176,21 @@ fn words_and_marks_in_their_places(rt: HostRuntime) -> Result<(), Fail> {
     Ok(())
 }
 
+/// Whether a text is one number of this value.
+fn is_one_number(alloc: Global, text: &'static [u8], value: Option<i128>) -> bool {
+    if text.len() > 1000 {
+        return false;
+    }
+    let minus = text.starts_with(b"-");
+    let row = [Row(Kind::Number { value, minus }, text, 1)];
+    match read_tokens(alloc, text) {
+        Ok(ir) => first_wrong(&ir, row.as_slice()).is_none(),
+        Err(_) => false,
+    }
+}
+
 #[test]
-fn numbers_of_128_bits_and_of_more(rt: HostRuntime) -> Result<(), Fail> {
+fn numbers_of_128_bits_and_of_more(rt: HostRuntime) {
     let rows: [(&[u8], Option<i128>); 6] = [
         (b"170141183460469231731687303715884105727", Some(i128::MAX)),
         (b"170141183460469231731687303715884105728", None),
@@ -187,31 +200,34 @@ fn numbers_of_128_bits_and_of_more(rt: HostRuntime) -> Result<(), Fail> {
         (b"-0", Some(0)),
     ];
     for (text, value) in rows {
-        let ir = read_tokens(rt.alloc(), text)?;
-        let minus = text.starts_with(b"-");
-        let row = [Row(Kind::Number { value, minus }, text, 1)];
-        assert_eq!(rt; first_wrong(&ir, row.as_slice()), None);
+        assert!(rt; is_one_number(rt.alloc(), text, value));
     }
-    Ok(())
 }
 
-#[test]
-fn tokens_up_to_the_first_bad_byte(rt: HostRuntime) -> Result<(), Fail> {
-    let ir = read_tokens(rt.alloc(), b"\nret\n\n!0 \x01 void")?;
+/// Whether these are the tokens up to a bad byte in line 4, of which there is one, a name.
+fn are_up_to_line_4(ir: &IrTokens) -> bool {
     let row = [Row(
         Kind::Word(Keyword::Instruction(InstructionWord::Ret)),
         b"ret",
         2,
     )];
-    assert_eq!(rt; first_wrong(&ir, row.as_slice()), None);
-    assert_eq!(rt; ir.stop, Some(Stop { line: 4, byte: 1 }));
-    assert_eq!(rt; ir.last_line, 4);
-    assert_eq!(rt; ir.names.len(), 1);
-    if ir.names.len() > 0 {
-        assert_eq!(rt; ir.names.name(0), b"ret".as_slice());
-    }
-    let empty = read_tokens(rt.alloc(), b" ; nothing\n\n")?;
-    assert!(rt; empty.toks.is_empty());
-    assert_eq!(rt; empty.last_line, 1);
+    first_wrong(ir, row.as_slice()).is_none()
+        && ir.stop == Some(Stop { line: 4, byte: 1 })
+        && ir.last_line == 4
+        && ir.names.len() == 1
+        && ir.names.number_of(b"ret") == Some(0)
+}
+
+#[test]
+fn tokens_up_to_the_first_bad_byte(rt: HostRuntime) -> Result<(), Fail> {
+    let ir = read_tokens(rt.alloc(), b"\nret\n\n!0 \x01 void")?;
+    assert!(rt; are_up_to_line_4(&ir));
+    Ok(())
+}
+
+#[test]
+fn a_text_without_tokens(rt: HostRuntime) -> Result<(), Fail> {
+    let ir = read_tokens(rt.alloc(), b" ; nothing\n\n")?;
+    assert!(rt; ir.toks.is_empty() && ir.last_line == 1);
     Ok(())
 }

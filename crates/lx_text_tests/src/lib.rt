@@ -1,6 +1,8 @@
-//! Tests of words, the outside world, cases, schedules and the tokens of a module's text.
+//! Tests of words, the outside world, cases, schedules, interfaces and the tokens of a module's text.
 #![tactic(auto)]
 
+#[cfg(test)]
+mod interfaces;
 #[cfg(test)]
 mod ir_tokens;
 #[cfg(test)]

@@ -1,6 +1,6 @@
 //! Hostile cases and schedules, with the value or the first fault that each has.
 
-use lx_script::{Case, CaseArg, CaseFault, Origin, read_case, read_schedule};
+use lx_script::{Case, CaseArg, CaseCall, CaseFault, Origin, read_case, read_schedule};
 use lx_words::Schedule;
 use std::alloc::Global;
 use std::test::Fail;
@@ -387,78 +387,170 @@ fn is_address(arg: Option<&CaseArg>, number: Option<u32>, symbol: &[u8]) -> bool
     }
 }
 
-#[test]
-fn a_case_says_its_value(rt: HostRuntime) -> Result<(), Fail> {
-    let case = case_in(rt.alloc(), WHOLE)?;
-    assert!(rt; matches!(&case.kernel, Origin::Builtin));
-    assert!(rt;
-        match &case.interface {
-            Origin::File(name) => name.is_same(b"an-interface"),
-            _ => false
-        }
-    );
-    assert_eq!(rt; case.modules.len(), 2);
-    assert!(rt;
-        case.modules.as_slice()[0].name.is_same(b"m0_a")
-            && case.modules.as_slice()[1].file.is_same(b"b.ll")
-    );
+fn has_its_files(case: &Case) -> bool {
+    let interface = match &case.interface {
+        Origin::File(name) => name.is_same(b"an-interface"),
+        _ => false,
+    };
+    let modules = case.modules.as_slice();
+    interface
+        && matches!(&case.kernel, Origin::Builtin)
+        && modules.len() == 2
+        && modules[0].name.is_same(b"m0_a")
+        && modules[1].file.is_same(b"b.ll")
+}
+
+fn is_first_call(call: &CaseCall) -> bool {
+    let args = call.args.as_slice();
+    call.target.module == Some(1)
+        && call.target.function.is_same(b"f")
+        && args.len() == 4
+        && is_number(args.get(0), -(1 << 63))
+        && is_number(args.get(1), (1 << 64) - 1)
+        && is_number(args.get(2), 0xab)
+        && is_number(args.get(3), 0)
+        && (call.fuel, call.line) == (7, 9)
+}
+
+fn is_second_call(call: &CaseCall) -> bool {
+    let args = call.args.as_slice();
+    call.target.module.is_none()
+        && call.target.function.is_same(b"g:h")
+        && is_address(args.get(0), Some(0), b"x")
+        && is_address(args.get(1), None, b"y")
+}
+
+fn is_last_call(call: &CaseCall) -> bool {
+    (call.fuel, call.line, call.target.module) == (1_048_569, 14, Some(0))
+}
+
+fn has_its_calls(case: &Case) -> bool {
     let threads = case.threads.as_slice();
-    assert_eq!(rt; threads.len(), 3);
-    assert!(rt; threads[0].len() == 2 && threads[1].is_empty() && threads[2].len() == 1);
-    let first = &threads[0].as_slice()[0];
-    assert!(rt; first.target.module == Some(1) && first.target.function.is_same(b"f"));
-    let args = first.args.as_slice();
-    assert!(rt; is_number(args.get(0), -(1 << 63)) && is_number(args.get(1), (1 << 64) - 1));
-    assert!(rt; is_number(args.get(2), 0xab) && is_number(args.get(3), 0) && args.len() == 4);
-    assert_eq!(rt; (first.fuel, first.line), (7, 9));
-    let second = &threads[0].as_slice()[1];
-    assert!(rt; second.target.module.is_none() && second.target.function.is_same(b"g:h"));
-    let args = second.args.as_slice();
-    assert!(rt; is_address(args.get(0), Some(0), b"x") && is_address(args.get(1), None, b"y"));
-    let last = &threads[2].as_slice()[0];
-    assert_eq!(rt;
-        (last.fuel, last.line, last.target.module),
-        (1_048_569, 14, Some(0))
-    );
+    if threads.len() != 3 {
+        return false;
+    }
+    let (first, last) = (threads[0].as_slice(), threads[2].as_slice());
+    first.len() == 2
+        && is_first_call(&first[0])
+        && is_second_call(&first[1])
+        && threads[1].is_empty()
+        && last.len() == 1
+        && is_last_call(&last[0])
+}
+
+fn says_its_value(alloc: Global) -> bool {
+    match case_in(alloc, WHOLE) {
+        Ok(case) => has_its_files(&case) && has_its_calls(&case),
+        Err(_) => false,
+    }
+}
+
+#[test]
+fn a_case_says_its_value(rt: HostRuntime) {
+    assert!(rt; says_its_value(rt.alloc()));
+}
+
+/// Puts a line as often as is said.
+fn put_lines(text: &mut Vec<u8>, line: &[u8], count: u32) -> Result<(), Fail> {
+    for _ in 0..count {
+        text.extend_from_slice(line)?;
+    }
     Ok(())
 }
 
-/// A case with some modules, and threads of some calls each, one line each from line 4 on.
-fn large(alloc: Global, modules: u32, threads: u32, calls: u32) -> Result<Vec<u8>, Fail> {
-    let mut text = Vec::from_slice(alloc, b"lxfi case 1\nkernel none\ninterface none\n")?;
-    for number in 0..modules {
+/// Puts modules with a name each.
+fn put_modules(alloc: Global, text: &mut Vec<u8>, count: u32) -> Result<(), Fail> {
+    for number in 0..count {
         let line = format!(in alloc; "module m{number} f\n")?;
         text.extend_from_slice(line.as_bytes())?;
     }
-    for _ in 0..threads {
-        text.extend_from_slice(b"thread\n")?;
-        for _ in 0..calls {
-            text.extend_from_slice(b"call kernel:f fuel 1\n")?;
-        }
-    }
-    Ok(text)
+    Ok(())
 }
 
-fn fails(alloc: Global, text: &[u8], line: u32, what: &[u8]) -> bool {
+/// How many modules, threads, and calls of each thread a case has.
+#[derive(Clone, Copy)]
+struct Size {
+    modules: u32,
+    threads: u32,
+    calls: u32,
+}
+
+/// A case of a size, one line each from line 4 on.
+fn put_case(alloc: Global, text: &mut Vec<u8>, size: Size) -> Result<(), Fail> {
+    text.extend_from_slice(b"lxfi case 1\nkernel none\ninterface none\n")?;
+    put_modules(alloc, text, size.modules)?;
+    for _ in 0..size.threads {
+        text.extend_from_slice(b"thread\n")?;
+        put_lines(text, b"call kernel:f fuel 1\n", size.calls)?;
+    }
+    Ok(())
+}
+
+/// A size, and the line and the words of the limit that it passes; no words, where it passes none.
+struct Limit(Size, u32, &'static [u8]);
+
+static LIMITS: [Limit; 4] = [
+    Limit(
+        Size {
+            modules: 64,
+            threads: 16,
+            calls: 256,
+        },
+        0,
+        b"",
+    ),
+    Limit(
+        Size {
+            modules: 65,
+            threads: 1,
+            calls: 0,
+        },
+        68,
+        b"modules",
+    ),
+    Limit(
+        Size {
+            modules: 0,
+            threads: 17,
+            calls: 0,
+        },
+        20,
+        b"threads",
+    ),
+    Limit(
+        Size {
+            modules: 0,
+            threads: 1,
+            calls: 4097,
+        },
+        4101,
+        b"calls",
+    ),
+];
+
+fn has_size(case: &Case, size: Size) -> bool {
+    case.modules.len() == size.modules as usize
+        && case.threads.len() == size.threads as usize
+        && case
+            .threads
+            .as_slice()
+            .iter()
+            .all(|calls| calls.len() == size.calls as usize)
+}
+
+fn keeps_to(alloc: Global, text: &[u8], limit: &Limit) -> bool {
     match case_in(alloc, text) {
-        Ok(_) => false,
-        Err(fault) => is_fault(&fault, 6, line, what),
+        Ok(case) => limit.2.is_empty() && has_size(&case, limit.0),
+        Err(fault) => is_fault(&fault, 6, limit.1, limit.2),
     }
 }
 
 #[test]
 fn a_case_may_be_as_large_as_its_limits(rt: HostRuntime) -> Result<(), Fail> {
-    let alloc = rt.alloc();
-    let case = case_in(alloc, &large(alloc, 64, 16, 256)?)?;
-    assert_eq!(rt; (case.modules.len(), case.threads.len()), (64, 16));
-    assert!(rt;
-        case.threads
-            .as_slice()
-            .iter()
-            .all(|calls| calls.len() == 256)
-    );
-    assert!(rt; fails(alloc, &large(alloc, 65, 1, 0)?, 68, b"modules"));
-    assert!(rt; fails(alloc, &large(alloc, 0, 17, 0)?, 20, b"threads"));
-    assert!(rt; fails(alloc, &large(alloc, 0, 1, 4097)?, 4101, b"calls"));
+    for limit in LIMITS.iter() {
+        let mut text = Vec::new(rt.alloc());
+        put_case(rt.alloc(), &mut text, limit.0)?;
+        assert!(rt; keeps_to(rt.alloc(), &text, limit));
+    }
     Ok(())
 }

@@ -1,13 +1,11 @@
 //! Modules that clang printed of C files.
 
-use crate::row::{Row, Wanted};
-
 /// The C files of `examples/c`. What the calls return is what gcc's program of the same C prints, with a `main` that makes
 /// the same calls, and with `kmalloc`, `kfree` and `device_register` over `malloc` and `free` for the driver.
-pub static C_FILES: [Row; 2] = [
-    Row {
-        name: "a ring and a checksum",
-        case: "lxfi case 1
+pub fn c_files() -> &'static str {
+    "---- a ring and a checksum
+---- case
+lxfi case 1
 kernel none
 interface none
 module ring ring.ll
@@ -50,11 +48,9 @@ call ring:ring_take fuel 1000
 call sum:checksum_of_packet fuel 10000
 call sum:checksum &sum:packet 7 fuel 10000
 call sum:checksum &sum:packet 20 fuel 10000
-",
-        schedule: "",
-        status: 0,
-        wanted: Wanted::Whole(
-            "schedule 0*1847
+---- whole
+status 0
+schedule 0*1847
 call 0.0 ring:ring_sum returned 35
 call 0.1 ring:ring_sum returned 210
 call 0.2 ring:ring_put returned 0
@@ -102,12 +98,9 @@ owns ring.shared call 0x10090
 owns sum.shared call 0x100a0
 owns sum.shared call 0x100b0
 owns sum.shared call 0x100c0
-",
-        ),
-    },
-    Row {
-        name: "a driver behind slots",
-        case: "lxfi case 1
+---- a driver behind slots
+---- case
+lxfi case 1
 kernel file driver_kernel.ll
 interface file driver.txt
 module driver driver.ll
@@ -130,11 +123,9 @@ call kernel:users fuel 1000
 call kernel:written fuel 1000
 call kernel:do_close fuel 1000
 call kernel:users fuel 1000
-",
-        schedule: "",
-        status: 0,
-        wanted: Wanted::Whole(
-            "schedule 0*364
+---- whole
+status 0
+schedule 0*364
 call 0.0 driver:driver_init returned 0
 call 0.1 driver:driver_init returned -16
 call 0.2 kernel:do_open returned 0
@@ -162,7 +153,5 @@ owns driver.shared call 0x100f0
 owns driver.shared call 0x10100
 owns driver.shared call 0x10110
 owns driver.shared call 0x10120
-",
-        ),
-    },
-];
+"
+}

@@ -1,42 +1,72 @@
 //! The files that worked cases name.
 
-use crate::limits::{DOWN, LOOP, PLACES};
-
 /// A case of one module and one call.
 pub const ONE_CASE: &str =
     "lxfi case 1\nkernel none\ninterface none\nmodule m one.ll\nthread\ncall m:main fuel 4\n";
 
-/// A file, by its name, and its text.
-pub type File = (&'static str, &'static str);
-
 /// Small files.
-pub static SMALL_TEXTS: [File; 33] = [
-    ("one.case", ONE_CASE),
-    ("down.ll", DOWN),
-    ("loop.ll", LOOP),
-    ("places.ll", PLACES),
-    (
-        "one.ll",
-        r#"@g = global i32 0
+pub fn small_files() -> &'static str {
+    r#"---- file one.case
+lxfi case 1
+kernel none
+interface none
+module m one.ll
+thread
+call m:main fuel 4
+---- file down.ll
+define i64 @down(i64 %n) {
+  %last = icmp eq i64 %n, 0
+  br i1 %last, label %end, label %more
+more:
+  %m = sub i64 %n, 1
+  %r = call i64 @down(i64 %m)
+  %s = add i64 %r, 1
+  ret i64 %s
+end:
+  ret i64 0
+}
+define void @ever() {
+  call void @ever()
+  ret void
+}
+---- file loop.ll
+define i64 @loop(i64 %n) {
+a:
+  br label %l
+l:
+  %i = phi i64 [ 0, %a ], [ %j, %l ]
+  %j = add i64 %i, 1
+  %c = icmp ult i64 %j, %n
+  br i1 %c, label %l, label %e
+e:
+  ret i64 %j
+}
+---- file places.ll
+define ptr @byte() {
+  %b = alloca i8
+  %w = alloca i64
+  ret ptr %b
+}
+define ptr @word() {
+  %b = alloca i8
+  %w = alloca i64
+  ret ptr %w
+}
+---- file one.ll
+@g = global i32 0
 define i32 @main() {
 store i32 7, ptr @g
 %v = load i32, ptr @g
 ret i32 %v
 }
-"#,
-    ),
-    (
-        "past.ll",
-        r#"@g = global [7 x i8] zeroinitializer
+---- file past.ll
+@g = global [7 x i8] zeroinitializer
 define void @main() {
 store i64 7, ptr @g
 ret void
 }
-"#,
-    ),
-    (
-        "span.ll",
-        r#"%struct.dev_ops = type { ptr, ptr }
+---- file span.ll
+%struct.dev_ops = type { ptr, ptr }
 @ops = global %struct.dev_ops { ptr @probe, ptr null }
 @buf = global [16 x i8] zeroinitializer
 declare ptr @dev_register(ptr)
@@ -52,12 +82,9 @@ call void @dev_wipe(ptr %h, i64 8)
 store i64 -1, ptr %q
 ret i32 0
 }
-"#,
-    ),
-    ("empty.ll", r#""#),
-    (
-        "free.ll",
-        r#"declare ptr @kmalloc(i64)
+---- file empty.ll
+---- file free.ll
+declare ptr @kmalloc(i64)
 declare void @kfree(ptr)
 define void @main() {
 %p = call ptr @kmalloc(i64 8)
@@ -66,11 +93,8 @@ call void @kfree(ptr %p)
 store i64 2, ptr %p
 ret void
 }
-"#,
-    ),
-    (
-        "race.ll",
-        r#"@pkt = global ptr null
+---- file race.ll
+@pkt = global ptr null
 declare ptr @skb_new(i64)
 declare i32 @netif_rx(ptr)
 define void @make() {
@@ -90,11 +114,8 @@ store i8 1, ptr %d
 store i8 2, ptr %d
 ret void
 }
-"#,
-    ),
-    (
-        "neg.ll",
-        r#"%struct.dev_ops = type { ptr, ptr }
+---- file neg.ll
+%struct.dev_ops = type { ptr, ptr }
 @ops = global %struct.dev_ops { ptr @probe, ptr null }
 declare ptr @dev_register(ptr)
 declare void @dev_set_priv(ptr, ptr)
@@ -110,11 +131,8 @@ define void @late(ptr %d) {
 call void @dev_set_priv(ptr %d, ptr null)
 ret void
 }
-"#,
-    ),
-    (
-        "two.ll",
-        r#"%struct.dev_ops = type { ptr, ptr }
+---- file two.ll
+%struct.dev_ops = type { ptr, ptr }
 @oa = global %struct.dev_ops { ptr @probe_a, ptr null }
 @ob = global %struct.dev_ops { ptr @probe_b, ptr null }
 @box = global ptr null
@@ -148,11 +166,8 @@ br label %n
 n:
 ret i32 0
 }
-"#,
-    ),
-    (
-        "bad.ll",
-        r#"%struct.dev_ops = type { ptr, ptr }
+---- file bad.ll
+%struct.dev_ops = type { ptr, ptr }
 @ops = global %struct.dev_ops { ptr @probe, ptr @xmit }
 declare ptr @dev_register(ptr)
 declare void @dev_zero(ptr, i64)
@@ -185,11 +200,8 @@ define void @cold() {
 %d = call ptr @dev_register(ptr inttoptr (i64 33554432 to ptr))
 ret void
 }
-"#,
-    ),
-    (
-        "bent.ll",
-        r#"declare ptr @skb_new(i64)
+---- file bent.ll
+declare ptr @skb_new(i64)
 declare i32 @netif_rx(ptr)
 define void @main() {
 %s = call ptr @skb_new(i64 8)
@@ -197,11 +209,8 @@ store ptr inttoptr (i64 16777216 to ptr), ptr %s
 %r = call i32 @netif_rx(ptr %s)
 ret void
 }
-"#,
-    ),
-    (
-        "stack.ll",
-        r#"declare void @dev_wipe(ptr, i64)
+---- file stack.ll
+declare void @dev_wipe(ptr, i64)
 declare void @dev_zero(ptr, i64)
 define void @main() {
 %b = alloca i64
@@ -209,11 +218,8 @@ call void @dev_zero(ptr %b, i64 8)
 call void @dev_wipe(ptr %b, i64 8)
 ret void
 }
-"#,
-    ),
-    (
-        "clang.ll",
-        r#"; ModuleID = 'both.c'
+---- file clang.ll
+; ModuleID = 'both.c'
 source_filename = "both.c"
 target triple = "x86_64-pc-linux-gnu"
 
@@ -249,36 +255,24 @@ attributes #1 = { nounwind }
 
 !llvm.module.flags = !{!0}
 !0 = !{i32 1, !"wchar_size", i32 4}
-"#,
-    ),
-    (
-        "cut.ll",
-        r#"define i32 @f(i32 %0) {
+---- file cut.ll
+define i32 @f(i32 %0) {
 switch i32 %0, label %3 [
 i32 1, label %2
-"#,
-    ),
-    (
-        "both.ll",
-        r#"%struct.dev_ops = type { ptr, ptr }
+---- file both.ll
+%struct.dev_ops = type { ptr, ptr }
 @ops = global %struct.dev_ops { ptr @h, ptr @h }
 define i32 @h(ptr %d) {
 ret i32 0
 }
-"#,
-    ),
-    (
-        "edge.ll",
-        r#"declare void @dev_zero(ptr, i64)
+---- file edge.ll
+declare void @dev_zero(ptr, i64)
 define void @main(ptr %p, i64 %n) {
 call void @dev_zero(ptr %p, i64 %n)
 ret void
 }
-"#,
-    ),
-    (
-        "hook.ll",
-        r#"declare ptr @hook_get()
+---- file hook.ll
+declare ptr @hook_get()
 define i64 @main() {
 %f = call ptr @hook_get()
 %r = call i64 %f(i64 41)
@@ -289,11 +283,8 @@ define i64 @wild() {
 %r = call i64 %f(i64 1)
 ret i64 %r
 }
-"#,
-    ),
-    (
-        "math.ll",
-        r#"define i32 @div(i32 %a, i32 %b) {
+---- file math.ll
+define i32 @div(i32 %a, i32 %b) {
 %q = sdiv i32 %a, %b
 ret i32 %q
 }
@@ -302,29 +293,17 @@ br label %l
 l:
 br label %l
 }
-"#,
-    ),
-    (
-        "un.ll",
-        r#"define i32 @f() {
+---- file un.ll
+define i32 @f() {
 ret i32 %x
 }
-"#,
-    ),
-    (
-        "imp.ll",
-        r#"declare i32 @do_probe(i64)
-"#,
-    ),
-    (
-        "i.txt",
-        r#"interface 1
+---- file imp.ll
+declare i32 @do_probe(i64)
+---- file i.txt
+interface 1
 export f : void (ptr p) pre(copy(write, p))
-"#,
-    ),
-    (
-        "k2.ll",
-        r#"declare ptr @k.alloc(i64)
+---- file k2.ll
+declare ptr @k.alloc(i64)
 declare void @k.free(ptr)
 define ptr @get(i64 %n) {
 %p = call ptr @k.alloc(i64 %n)
@@ -334,18 +313,12 @@ define void @put(ptr %p) {
 call void @k.free(ptr %p)
 ret void
 }
-"#,
-    ),
-    (
-        "i2.txt",
-        r#"interface 1
+---- file i2.txt
+interface 1
 export get : ptr (i64 n) post(transfer(write, return, n))
 export put : void (ptr p) pre(transfer(write, p, 8))
-"#,
-    ),
-    (
-        "u.ll",
-        r#"@box = global ptr null
+---- file u.ll
+@box = global ptr null
 declare ptr @get(i64)
 declare void @put(ptr)
 define void @make() {
@@ -364,58 +337,40 @@ store i64 5, ptr %p
 store i64 6, ptr %p
 ret void
 }
-"#,
-    ),
-    (
-        "k5.ll",
-        r#"define ptr @open(i64 %n) {
+---- file k5.ll
+define ptr @open(i64 %n) {
 %p = inttoptr i64 %n to ptr
 ret ptr %p
 }
 define void @use(ptr %p) {
 ret void
 }
-"#,
-    ),
-    (
-        "i5.txt",
-        r#"interface 1
+---- file i5.txt
+interface 1
 reftype file
 export open : ptr (i64 n) post(if (n < 4) copy(ref(file), return))
 export use : void (ptr p) pre(check(ref(file), p))
-"#,
-    ),
-    (
-        "file.ll",
-        r#"declare ptr @open(i64)
+---- file file.ll
+declare ptr @open(i64)
 declare void @use(ptr)
 define void @main(i64 %n) {
 %p = call ptr @open(i64 %n)
 call void @use(ptr %p)
 ret void
 }
-"#,
-    ),
-    (
-        "alias.ll",
-        r#"declare void @lxfi_princ_alias(ptr, ptr)
+---- file alias.ll
+declare void @lxfi_princ_alias(ptr, ptr)
 define void @main() {
 call void @lxfi_princ_alias(ptr null, ptr null)
 ret void
 }
-"#,
-    ),
-    (
-        "deep.ll",
-        r#"define void @f() {
+---- file deep.ll
+define void @f() {
 call void @f()
 ret void
 }
-"#,
-    ),
-    (
-        "wide.ll",
-        r#"define void @a() {
+---- file wide.ll
+define void @a() {
 %p = alloca [65536 x i8]
 ret void
 }
@@ -423,6 +378,5 @@ define void @b() {
 %p = alloca [65537 x i8]
 ret void
 }
-"#,
-    ),
-];
+"#
+}

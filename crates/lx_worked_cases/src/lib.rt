@@ -1,10 +1,12 @@
-//! Worked cases of the whole program over memory: what it writes, and its status.
+//! Worked cases of the whole program over memory: what it writes, its status, and what its input comes to.
 #![tactic(auto)]
 
 #[cfg(test)]
 mod c_files;
 #[cfg(test)]
 mod files;
+#[cfg(test)]
+mod inputs;
 #[cfg(test)]
 mod limits;
 #[cfg(test)]
@@ -24,10 +26,14 @@ mod plain;
 #[cfg(test)]
 mod replayed;
 #[cfg(test)]
-mod row;
-#[cfg(test)]
 mod run;
 #[cfg(test)]
+mod shelves;
+#[cfg(test)]
+mod sources;
+#[cfg(test)]
 mod system;
+#[cfg(test)]
+mod table;
 #[cfg(test)]
 mod tests;

@@ -298,7 +298,7 @@ call 0.1 m:wild_none returned"#
 }
 
 /// Slots: their annotations, and what borrowers wrote there.
-pub fn slots() -> &'static str {
+pub fn lent_slots() -> &'static str {
     r#"---- the end of loans is of the annotation's text: a slot that lends, with a function that does not
 ---- calls
 thread

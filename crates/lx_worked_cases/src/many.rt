@@ -1,102 +1,79 @@
 //! Cases with thousands of actions, whose reports are short.
 
-use crate::files::File;
-use crate::row::{Row, Wanted};
-
 /// Pairs of kmalloc and kfree, each of nine events; transfers to the kernel and back by dev_wipe, each of five; a principal
 /// for each number up to 300, each of three events, where a reference is copied to those whose numbers agree in their low
 /// eight bits; and address 0, of which no call is owned at first, and then one.
-pub static MANY: [Row; 5] = [
-    Row {
-        name: "28 pairs of kmalloc and kfree",
-        case: "lxfi case 1
+pub fn many() -> &'static str {
+    "---- 28 pairs of kmalloc and kfree
+---- case
+lxfi case 1
 kernel builtin
 interface builtin
 module m pairs.ll
 thread
 call m:main 28 fuel 10000
-",
-        schedule: "",
-        status: 0,
-        wanted: Wanted::Whole(
-            "schedule 0*255
+---- whole
+status 0
+schedule 0*255
 call 0.0 m:main returned
 image m guards 0 checks 0 wrappers 2
 owns m.shared call 0x10060
 owns m.shared call 0x10080
 owns m.shared call 0x10130
-",
-        ),
-    },
-    Row {
-        name: "2,000 pairs of kmalloc and kfree",
-        case: "lxfi case 1
+---- 2,000 pairs of kmalloc and kfree
+---- case
+lxfi case 1
 kernel builtin
 interface builtin
 module m pairs.ll
 thread
 call m:main 2000 fuel 46003
 call m:main 1 fuel 25
-",
-        schedule: "",
-        status: 1,
-        wanted: Wanted::Whole(
-            "schedule 0*18014
+---- whole
+status 1
+schedule 0*18014
 call 0.0 m:main returned
 call 0.1 m:main budget
 image m guards 0 checks 0 wrappers 2
 owns m.shared call 0x10060
 owns m.shared call 0x10080
 owns m.shared call 0x10130
-",
-        ),
-    },
-    Row {
-        name: "2,000 calls of dev_wipe",
-        case: "lxfi case 1
+---- 2,000 calls of dev_wipe
+---- case
+lxfi case 1
 kernel builtin
 interface builtin
 module m wipes.ll
 thread
 call m:main 2000 fuel 16003
-",
-        schedule: "",
-        status: 0,
-        wanted: Wanted::Whole(
-            "schedule 0*10003
+---- whole
+status 0
+schedule 0*10003
 call 0.0 m:main returned
 image m guards 0 checks 0 wrappers 1
 owns m.shared write 0x10000e0+16
 owns m.shared call 0x100c0
 owns m.shared call 0x10130
-",
-        ),
-    },
-    Row {
-        name: "300 instances",
-        case: "lxfi case 1
+---- 300 instances
+---- case
+lxfi case 1
 kernel file many.ll
 interface file many.txt
 module m each.ll
 thread
 call kernel:each &m:ops 300 fuel 1803
-",
-        schedule: "",
-        status: 0,
-        wanted: Wanted::Whole(
-            "schedule 0*903
+---- whole
+status 0
+schedule 0*903
 call 0.0 kernel:each returned
 image m guards 0 checks 0 wrappers 1
 owns m.shared write 0x1000000+8
 owns m.shared call 0x10090
 owns m[0x0] ref file 0x0
 owns m[0x100] ref file 0x100
-",
-        ),
-    },
-    Row {
-        name: "calls of address 0",
-        case: "lxfi case 1
+---- calls of address 0
+---- case
+lxfi case 1
 kernel file many.ll
 interface file many.txt
 module m zero.ll
@@ -104,11 +81,9 @@ thread
 call m:wild fuel 100
 call m:main fuel 100
 call m:wild fuel 100
-",
-        schedule: "",
-        status: 1,
-        wanted: Wanted::Whole(
-            "schedule 0*9
+---- whole
+status 1
+schedule 0*9
 call 0.0 m:wild refused 2 m.shared call 0x0
 call 0.1 m:main refused 4 m.shared call 0x0
 call 0.2 m:wild refused 4 m.shared call 0x0
@@ -117,16 +92,13 @@ owns m.shared call 0x0
 owns m.shared call 0x10070
 owns m.shared call 0x10090
 owns m.shared call 0x100a0
-",
-        ),
-    },
-];
+"
+}
 
 /// What the cases with many actions run, and a kernel for some of them.
-pub static MANY_TEXTS: [File; 9] = [
-    (
-        "pairs.ll",
-        r#"declare ptr @kmalloc(i64)
+pub fn many_files() -> &'static str {
+    "---- file pairs.ll
+declare ptr @kmalloc(i64)
 declare void @kfree(ptr)
 define void @main(i64 %n) {
 a:
@@ -141,11 +113,8 @@ l:
 e:
   ret void
 }
-"#,
-    ),
-    (
-        "wipes.ll",
-        r#"@buf = global [16 x i8] zeroinitializer
+---- file wipes.ll
+@buf = global [16 x i8] zeroinitializer
 declare void @dev_wipe(ptr, i64)
 define void @main(i64 %n) {
 a:
@@ -159,11 +128,8 @@ l:
 e:
   ret void
 }
-"#,
-    ),
-    (
-        "probe.ll",
-        r#"%struct.dev_ops = type { ptr, ptr }
+---- file probe.ll
+%struct.dev_ops = type { ptr, ptr }
 @ops = global %struct.dev_ops { ptr @probe, ptr null }
 declare ptr @dev_register(ptr)
 define void @init() {
@@ -173,11 +139,8 @@ define void @init() {
 define i32 @probe(ptr %d) {
   ret i32 0
 }
-"#,
-    ),
-    (
-        "mixed.ll",
-        r#"%struct.dev_ops = type { ptr, ptr }
+---- file mixed.ll
+%struct.dev_ops = type { ptr, ptr }
 @ops = global %struct.dev_ops { ptr @probe, ptr null }
 @buf = global [16 x i8] zeroinitializer
 declare ptr @kmalloc(i64)
@@ -207,11 +170,8 @@ define i64 @stray(i64 %n) {
   store i64 %n, ptr %p
   ret i64 %n
 }
-"#,
-    ),
-    (
-        "many.ll",
-        r#"declare void @k.slot.work(ptr, i64)
+---- file many.ll
+declare void @k.slot.work(ptr, i64)
 define void @give(ptr %p) {
   ret void
 }
@@ -230,21 +190,15 @@ l:
 e:
   ret void
 }
-"#,
-    ),
-    (
-        "many.txt",
-        r#"interface 1
+---- file many.txt
+interface 1
 reftype file
 slot work : void (i64 x) principal(x) pre(if ((x & 255) == 0) copy(ref(file), x))
 field %struct.ops 0 : work
 export give : void (ptr p) post(copy(ref(file), p))
 export nothing : ptr () post(copy(call, return))
-"#,
-    ),
-    (
-        "zero.ll",
-        r#"declare ptr @nothing()
+---- file zero.ll
+declare ptr @nothing()
 define i64 @main() {
   %f = call ptr @nothing()
   %r = call i64 %f(i64 1)
@@ -255,20 +209,14 @@ define i64 @wild() {
   %r = call i64 %f(i64 1)
   ret i64 %r
 }
-"#,
-    ),
-    (
-        "each.ll",
-        r#"%struct.ops = type { ptr }
+---- file each.ll
+%struct.ops = type { ptr }
 @ops = global %struct.ops { ptr @work }
 define void @work(i64 %x) {
   ret void
 }
-"#,
-    ),
-    (
-        "files.ll",
-        r#"declare void @give(ptr)
+---- file files.ll
+declare void @give(ptr)
 define void @main(i64 %n) {
 a:
   br label %l
@@ -282,6 +230,5 @@ l:
 e:
   ret void
 }
-"#,
-    ),
-];
+"
+}

@@ -1,80 +1,62 @@
 //! Modules over the kernel that the program brings along, and over kernels of their own.
 
-use crate::row::{Row, Wanted};
-
 /// What modules own over the built-in kernel: heap, stack, and what transfers take.
-pub static MEMORY: [Row; 6] = [
-    Row {
-        name: "after a free",
-        case: "lxfi case 1
+pub fn memory() -> &'static str {
+    "---- after a free
+---- case
+lxfi case 1
 kernel builtin
 interface builtin
 module m free.ll
 thread
 call m:main fuel 100
-",
-        schedule: "",
-        status: 1,
-        wanted: Wanted::Lines(
-            "schedule 0*12
+---- without
+owns m.shared write
+---- lines
+status 1
+schedule 0*12
 call 0.0 m:main refused 1 m.shared write 0x2000010+8
 owns m.shared call 0x10060
 owns m.shared call 0x10080
 owns m.shared call 0x10130
-",
-            "owns m.shared write",
-        ),
-    },
-    Row {
-        name: "a bent packet",
-        case: "lxfi case 1
+---- a bent packet
+---- case
+lxfi case 1
 kernel builtin
 interface builtin
 module m bent.ll
 thread
 call m:main fuel 100
-",
-        schedule: "",
-        status: 1,
-        wanted: Wanted::Lines(
-            "call 0.0 m:main refused 1 m.shared write 0x1000000+8
+---- lines
+status 1
+call 0.0 m:main refused 1 m.shared write 0x1000000+8
 owns m.shared write 0x2000010+24
 owns m.shared write 0x2000040+8
-",
-            "",
-        ),
-    },
-    Row {
-        name: "stack bytes",
-        case: "lxfi case 1
+---- stack bytes
+---- case
+lxfi case 1
 kernel builtin
 interface builtin
 module m stack.ll
 thread
 call m:main fuel 100
-",
-        schedule: "",
-        status: 1,
-        wanted: Wanted::Lines(
-            "schedule 0*8
+---- without
+owns m.shared write
+---- lines
+status 1
+schedule 0*8
 call 0.0 m:main refused 7 m.shared write 0x3000000+8
-",
-            "owns m.shared write",
-        ),
-    },
-    Row {
-        name: "fuel for one action of two",
-        case: "lxfi case 1
+---- fuel for one action of two
+---- case
+lxfi case 1
 kernel builtin
 interface builtin
 module m race.ll
 thread
 call m:make fuel 33
-",
-        schedule: "",
-        status: 1,
-        wanted: Wanted::Whole(
-            "schedule 0*13
+---- whole
+status 1
+schedule 0*13
 call 0.0 m:make budget
 image m guards 3 checks 0 wrappers 2
 owns m.shared write 0x10000e0+8
@@ -84,25 +66,20 @@ owns m.shared call 0x100e0
 owns m.shared call 0x10130
 owns m.shared call 0x10140
 owns m.shared call 0x10150
-",
-        ),
-    },
-    Row {
-        name: "fuel for both",
-        case: "lxfi case 1
+---- fuel for both
+---- case
+lxfi case 1
 kernel builtin
 interface builtin
 module m race.ll
 thread
 call m:make fuel 36
-",
-        schedule: "",
-        status: 0,
-        wanted: Wanted::Lines("call 0.0 m:make returned\n", ""),
-    },
-    Row {
-        name: "edges of memory",
-        case: "lxfi case 1
+---- lines
+status 0
+call 0.0 m:make returned
+---- edges of memory
+---- case
+lxfi case 1
 kernel builtin
 interface builtin
 module m edge.ll
@@ -110,35 +87,28 @@ thread
 call m:main 0 0 fuel 100
 call m:main 0x10ffff8 16 fuel 100
 call m:main -8 16 fuel 100
-",
-        schedule: "",
-        status: 1,
-        wanted: Wanted::Lines(
-            "call 0.0 m:main returned
+---- lines
+status 1
+call 0.0 m:main returned
 call 0.1 m:main refused 8 m.shared write 0x10ffff8+16
 call 0.2 m:main refused 8 m.shared write 0xfffffffffffffff8+16
-",
-            "",
-        ),
-    },
-];
+"
+}
 
 /// Shared principals and instances over the built-in kernel.
-pub static PRINCIPALS: [Row; 5] = [
-    Row {
-        name: "over two principals",
-        case: "lxfi case 1
+pub fn principals() -> &'static str {
+    "---- over two principals
+---- case
+lxfi case 1
 kernel builtin
 interface builtin
 module m span.ll
 thread
 call m:init fuel 100
 call kernel:do_probe 0 fuel 100
-",
-        schedule: "",
-        status: 0,
-        wanted: Wanted::Whole(
-            "schedule 0*25
+---- whole
+status 0
+schedule 0*25
 call 0.0 m:init returned
 call 0.1 kernel:do_probe returned 0
 image m guards 1 checks 0 wrappers 3
@@ -149,12 +119,9 @@ owns m.shared call 0x10130
 owns m.shared call 0x10140
 owns m[0x1000020] write 0x10000f8+8
 owns m[0x1000020] ref device 0x1000020
-",
-        ),
-    },
-    Row {
-        name: "a failed probe",
-        case: "lxfi case 1
+---- a failed probe
+---- case
+lxfi case 1
 kernel builtin
 interface builtin
 module m neg.ll
@@ -162,20 +129,17 @@ thread
 call m:init fuel 100
 call kernel:do_probe 0 fuel 100
 call m:late 0x1000020 fuel 100
-",
-        schedule: "",
-        status: 1,
-        wanted: Wanted::Lines(
-            "call 0.0 m:init returned
+---- without
+owns m.shared ref
+owns m[0x1000020] ref
+---- lines
+status 1
+call 0.0 m:init returned
 call 0.1 kernel:do_probe returned -5
 call 0.2 m:late refused 3 m.shared ref device 0x1000020
-",
-            "owns m.shared ref\nowns m[0x1000020] ref",
-        ),
-    },
-    Row {
-        name: "another instance",
-        case: "lxfi case 1
+---- another instance
+---- case
+lxfi case 1
 kernel builtin
 interface builtin
 module m two.ll
@@ -183,17 +147,12 @@ thread
 call m:init fuel 100
 call kernel:do_probe 1 fuel 100
 call kernel:do_probe 0 fuel 100
-",
-        schedule: "",
-        status: 1,
-        wanted: Wanted::Lines(
-            "call 0.2 kernel:do_probe refused 1 m[0x1000020] write 0x2000010+8\n",
-            "",
-        ),
-    },
-    Row {
-        name: "an alias",
-        case: "lxfi case 1
+---- lines
+status 1
+call 0.2 kernel:do_probe refused 1 m[0x1000020] write 0x2000010+8
+---- an alias
+---- case
+lxfi case 1
 kernel builtin
 interface builtin
 module m two.ll
@@ -202,22 +161,16 @@ call m:init fuel 100
 call m:mode 1 fuel 100
 call kernel:do_probe 1 fuel 100
 call kernel:do_probe 0 fuel 100
-",
-        schedule: "",
-        status: 0,
-        wanted: Wanted::Lines(
-            "call 0.0 m:init returned
+---- lines
+status 0
+call 0.0 m:init returned
 call 0.1 m:mode returned
 call 0.2 kernel:do_probe returned 0
 call 0.3 kernel:do_probe returned 0
 owns m[0x1000038] write 0x2000010+8
-",
-            "",
-        ),
-    },
-    Row {
-        name: "an alias that is taken",
-        case: "lxfi case 1
+---- an alias that is taken
+---- case
+lxfi case 1
 kernel builtin
 interface builtin
 module m two.ll
@@ -226,23 +179,18 @@ call m:init fuel 100
 call m:mode 1 fuel 100
 call kernel:do_probe 0 fuel 100
 call kernel:do_probe 1 fuel 100
-",
-        schedule: "",
-        status: 1,
-        wanted: Wanted::Lines(
-            "call 0.2 kernel:do_probe refused 1 m[0x1000020] write 0x0+8
+---- lines
+status 1
+call 0.2 kernel:do_probe refused 1 m[0x1000020] write 0x0+8
 call 0.3 kernel:do_probe refused 9 m[0x1000038] alias 0x1000038 0x1000020
-",
-            "",
-        ),
-    },
-];
+"
+}
 
 /// Calls by an address and through slots over the built-in kernel.
-pub static SLOTS: [Row; 5] = [
-    Row {
-        name: "a bent slot",
-        case: "lxfi case 1
+pub fn slots() -> &'static str {
+    "---- a bent slot
+---- case
+lxfi case 1
 kernel builtin
 interface builtin
 module m bad.ll
@@ -250,17 +198,12 @@ thread
 call m:init fuel 100
 call m:bend fuel 100
 call kernel:do_probe 0 fuel 100
-",
-        schedule: "",
-        status: 1,
-        wanted: Wanted::Lines(
-            "call 0.2 kernel:do_probe refused 6 m.shared call 0x10100 slot 0x10000e0\n",
-            "",
-        ),
-    },
-    Row {
-        name: "a slot of another annotation",
-        case: "lxfi case 1
+---- lines
+status 1
+call 0.2 kernel:do_probe refused 6 m.shared call 0x10100 slot 0x10000e0
+---- a slot of another annotation
+---- case
+lxfi case 1
 kernel builtin
 interface builtin
 module m bad.ll
@@ -268,17 +211,12 @@ thread
 call m:init fuel 100
 call m:swap fuel 100
 call kernel:do_probe 0 fuel 100
-",
-        schedule: "",
-        status: 1,
-        wanted: Wanted::Lines(
-            "call 0.2 kernel:do_probe refused 5 kernel call 0x10180: principal($0) pre(copy(ref(device), $0)) post(if ((return < 0)) transfer(ref(device), $0)) | principal($1) pre(transfer(skb_caps($0))) post(if ((return < 0)) transfer(skb_caps($0)))\n",
-            "",
-        ),
-    },
-    Row {
-        name: "bent again after zeroing",
-        case: "lxfi case 1
+---- lines
+status 1
+call 0.2 kernel:do_probe refused 5 kernel call 0x10180: principal($0) pre(copy(ref(device), $0)) post(if ((return < 0)) transfer(ref(device), $0)) | principal($1) pre(transfer(skb_caps($0))) post(if ((return < 0)) transfer(skb_caps($0)))
+---- bent again after zeroing
+---- case
+lxfi case 1
 kernel builtin
 interface builtin
 module m bad.ll
@@ -286,54 +224,42 @@ thread
 call m:init fuel 100
 call m:again fuel 100
 call kernel:do_probe 0 fuel 100
-",
-        schedule: "",
-        status: 1,
-        wanted: Wanted::Lines(
-            "call 0.2 kernel:do_probe refused 6 m.shared call 0x10100 slot 0x10000e0\n",
-            "",
-        ),
-    },
-    Row {
-        name: "a clean slot of 0",
-        case: "lxfi case 1
+---- lines
+status 1
+call 0.2 kernel:do_probe refused 6 m.shared call 0x10100 slot 0x10000e0
+---- a clean slot of 0
+---- case
+lxfi case 1
 kernel builtin
 interface builtin
 module m bad.ll
 thread
 call m:cold fuel 100
 call kernel:do_probe 0 fuel 100
-",
-        schedule: "",
-        status: 1,
-        wanted: Wanted::Lines("call 0.1 kernel:do_probe refused 4 kernel call 0x0\n", ""),
-    },
-    Row {
-        name: "a call by an address",
-        case: "lxfi case 1
+---- lines
+status 1
+call 0.1 kernel:do_probe refused 4 kernel call 0x0
+---- a call by an address
+---- case
+lxfi case 1
 kernel builtin
 interface builtin
 module m hook.ll
 thread
 call m:wild fuel 100
 call m:main fuel 100
-",
-        schedule: "",
-        status: 1,
-        wanted: Wanted::Lines(
-            "call 0.0 m:wild refused 2 m.shared call 0x10100
+---- lines
+status 1
+call 0.0 m:wild refused 2 m.shared call 0x10100
 call 0.1 m:main returned 42
-",
-            "",
-        ),
-    },
-];
+"
+}
 
 /// Kernels and interfaces of the case.
-pub static OWN_KERNELS: [Row; 2] = [
-    Row {
-        name: "an action under a condition",
-        case: "lxfi case 1
+pub fn own_kernels() -> &'static str {
+    "---- an action under a condition
+---- case
+lxfi case 1
 kernel file k5.ll
 interface file i5.txt
 module m file.ll
@@ -341,11 +267,9 @@ thread
 call m:main 3 fuel 100
 call m:main 5 fuel 100
 call m:main -1 fuel 100
-",
-        schedule: "",
-        status: 1,
-        wanted: Wanted::Whole(
-            "schedule 0*24
+---- whole
+status 1
+schedule 0*24
 call 0.0 m:main returned
 call 0.1 m:main refused 3 m.shared ref file 0x5
 call 0.2 m:main returned
@@ -355,25 +279,17 @@ owns m.shared call 0x10070
 owns m.shared call 0x10080
 owns m.shared ref file 0x3
 owns m.shared ref file 0xffffffffffffffff
-",
-        ),
-    },
-    Row {
-        name: "an alias of nobody",
-        case: "lxfi case 1
+---- an alias of nobody
+---- case
+lxfi case 1
 kernel file k5.ll
 interface file i5.txt
 module m alias.ll
 thread
 call m:main fuel 100
-",
-        schedule: "",
-        status: 1,
-        wanted: Wanted::Lines(
-            "schedule 0*2
+---- lines
+status 1
+schedule 0*2
 call 0.0 m:main refused 9 m.shared alias 0x0 0x0
-",
-            "",
-        ),
-    },
-];
+"
+}

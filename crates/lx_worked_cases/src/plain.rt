@@ -1,109 +1,82 @@
 //! Modules without a kernel, and inputs with a fault.
 
-use crate::row::{Row, Wanted};
-
 /// Modules without a kernel.
-pub static PLAIN: [Row; 8] = [
-    Row {
-        name: "returns",
-        case: "lxfi case 1
+pub fn plain() -> &'static str {
+    "---- returns
+---- case
+lxfi case 1
 kernel none
 interface none
 module m one.ll
 thread
 call m:main fuel 4
-",
-        schedule: "",
-        status: 0,
-        wanted: Wanted::Whole(
-            "schedule 0*5
+---- whole
+status 0
+schedule 0*5
 call 0.0 m:main returned 7
 image m guards 1 checks 0 wrappers 0
 owns m.shared write 0x1000000+4
 owns m.shared call 0x10060
-",
-        ),
-    },
-    Row {
-        name: "out of fuel",
-        case: "lxfi case 1
+---- out of fuel
+---- case
+lxfi case 1
 kernel none
 interface none
 module m one.ll
 thread
 call m:main fuel 3
-",
-        schedule: "",
-        status: 1,
-        wanted: Wanted::Whole(
-            "schedule 0*4
+---- whole
+status 1
+schedule 0*4
 call 0.0 m:main budget
 image m guards 1 checks 0 wrappers 0
 owns m.shared write 0x1000000+4
 owns m.shared call 0x10060
-",
-        ),
-    },
-    Row {
-        name: "past a global",
-        case: "lxfi case 1
+---- past a global
+---- case
+lxfi case 1
 kernel none
 interface none
 module m past.ll
 thread
 call m:main fuel 100
-",
-        schedule: "",
-        status: 1,
-        wanted: Wanted::Whole(
-            "schedule 0*2
+---- whole
+status 1
+schedule 0*2
 call 0.0 m:main refused 1 m.shared write 0x1000000+8
 image m guards 1 checks 0 wrappers 0
 owns m.shared write 0x1000000+7
 owns m.shared call 0x10060
-",
-        ),
-    },
-    Row {
-        name: "nothing",
-        case: "lxfi case 1
+---- nothing
+---- case
+lxfi case 1
 kernel none
 interface none
 module m empty.ll
-",
-        schedule: "",
-        status: 0,
-        wanted: Wanted::Whole(
-            "schedule
+---- whole
+status 0
+schedule
 image m guards 0 checks 0 wrappers 0
-",
-        ),
-    },
-    Row {
-        name: "text of a compiler",
-        case: "lxfi case 1
+---- text of a compiler
+---- case
+lxfi case 1
 kernel none
 interface none
 module m clang.ll
 thread
 call m:both 3 5 fuel 15
 call m:both 0 5 fuel 100
-",
-        schedule: "",
-        status: 0,
-        wanted: Wanted::Whole(
-            "schedule 0*21
+---- whole
+status 0
+schedule 0*21
 call 0.0 m:both returned 1
 call 0.1 m:both returned 0
 image m guards 3 checks 0 wrappers 0
 owns m.shared write 0x1000000+4
 owns m.shared call 0x10060
-",
-        ),
-    },
-    Row {
-        name: "division",
-        case: "lxfi case 1
+---- division
+---- case
+lxfi case 1
 kernel none
 interface none
 module m math.ll
@@ -112,114 +85,88 @@ call m:div 7 0 fuel 100
 call m:div -7 2 fuel 100
 call m:div -2147483648 -1 fuel 100
 call m:loop fuel 10
-",
-        schedule: "",
-        status: 1,
-        wanted: Wanted::Lines(
-            "schedule 0*9
+---- lines
+status 1
+schedule 0*9
 call 0.0 m:div trap 2
 call 0.1 m:div returned -3
 call 0.2 m:div trap 2
 call 0.3 m:loop budget
-",
-            "",
-        ),
-    },
-    Row {
-        name: "too deep",
-        case: "lxfi case 1
+---- too deep
+---- case
+lxfi case 1
 kernel none
 interface none
 module m deep.ll
 thread
 call m:f fuel 1000
-",
-        schedule: "",
-        status: 1,
-        wanted: Wanted::Lines(
-            "schedule 0*2
+---- lines
+status 1
+schedule 0*2
 call 0.0 m:f trap 5
-",
-            "",
-        ),
-    },
-    Row {
-        name: "too wide",
-        case: "lxfi case 1
+---- too wide
+---- case
+lxfi case 1
 kernel none
 interface none
 module m wide.ll
 thread
 call m:a fuel 1000
 call m:b fuel 1000
-",
-        schedule: "",
-        status: 1,
-        wanted: Wanted::Lines(
-            "schedule 0*6
+---- lines
+status 1
+schedule 0*6
 call 0.0 m:a returned
 call 0.1 m:b trap 4
-",
-            "",
-        ),
-    },
-];
+"
+}
 
 /// Inputs with a fault.
-pub static FAULTY: [Row; 5] = [
-    Row {
-        name: "cut off",
-        case: "lxfi case 1
+pub fn faulty() -> &'static str {
+    "---- cut off
+---- case
+lxfi case 1
 kernel none
 interface none
 module m cut.ll
-",
-        schedule: "",
-        status: 3,
-        wanted: Wanted::Whole("cut.ll:3: ir 2 end\n"),
-    },
-    Row {
-        name: "two slot types",
-        case: "lxfi case 1
+---- whole
+status 3
+cut.ll:3: ir 2 end
+---- two slot types
+---- case
+lxfi case 1
 kernel builtin
 interface builtin
 module m both.ll
-",
-        schedule: "",
-        status: 3,
-        wanted: Wanted::Whole("both.ll:3: propagate 1 @h probe xmit\n"),
-    },
-    Row {
-        name: "a register that nothing gives",
-        case: "lxfi case 1
+---- whole
+status 3
+both.ll:3: propagate 1 @h probe xmit
+---- a register that nothing gives
+---- case
+lxfi case 1
 kernel none
 interface none
 module m un.ll
-",
-        schedule: "",
-        status: 3,
-        wanted: Wanted::Whole("un.ll:2: verify 3 %x\n"),
-    },
-    Row {
-        name: "an import that is not exported",
-        case: "lxfi case 1
+---- whole
+status 3
+un.ll:2: verify 3 %x
+---- an import that is not exported
+---- case
+lxfi case 1
 kernel builtin
 interface builtin
 module m imp.ll
-",
-        schedule: "",
-        status: 3,
-        wanted: Wanted::Whole("imp.ll:1: link 2 @do_probe\n"),
-    },
-    Row {
-        name: "a range without a size",
-        case: "lxfi case 1
+---- whole
+status 3
+imp.ll:1: link 2 @do_probe
+---- a range without a size
+---- case
+lxfi case 1
 kernel builtin
 interface file i.txt
 module m empty.ll
-",
-        schedule: "",
-        status: 3,
-        wanted: Wanted::Whole("i.txt:2: interface 5 write\n"),
-    },
-];
+---- whole
+status 3
+i.txt:2: interface 5 write
+"
+}

@@ -1,89 +1,60 @@
 //! The cases are run, and what they write and their status are compared.
 
-use crate::c_files::C_FILES;
+use crate::c_files::c_files;
 use crate::files::ONE_CASE;
-use crate::limits::LIMITS;
-use crate::loan_users::{atoms, borrowed, borrowers, slots, texts, threads};
-use crate::loans::{ends, nested, packets, wrong_loans};
+use crate::limits::limits;
+use crate::loan_users::{atoms, borrowed, borrowers, lent_slots, texts, threads};
+use crate::loans::{ends, nested, packets};
 use crate::long::{ALL_CALLS, LONG};
-use crate::many::MANY;
-use crate::network_card::NETWORK_CARD;
-use crate::over_kernels::{MEMORY, OWN_KERNELS, PRINCIPALS, SLOTS};
-use crate::plain::{FAULTY, PLAIN};
-use crate::replayed::REPLAYED;
-use crate::run::{first_long_wrong, first_wrong, run_words, shelf_of, sink_of};
+use crate::many::many;
+use crate::network_card::first_wrong_card;
+use crate::over_kernels::{memory, own_kernels, principals, slots};
+use crate::plain::{faulty, plain};
+use crate::replayed::replayed;
+use crate::run::{first_long_wrong, run_words, shelf_of, sink_of};
+use crate::table::run_cases;
 use lx_outside::{MemShelf, MemSink};
+use std::alloc::Global;
+use std::sync::Wait;
 use std::test::Fail;
+use std::thread::Threads;
 
 pub const USAGE: &str =
     "usage: lxfi_run run CASE | replay CASE SCHEDULE | instrument CASE MODULE | check CASE MODULE IMAGE | generate N\n";
 
-#[test]
-fn plain_cases(rt: HostRuntime) -> Result<(), Fail> {
-    let wrong = first_wrong(&rt, rt.alloc(), &PLAIN)?;
-    assert_eq!(rt; wrong.as_str(), "");
-    Ok(())
+/// The text of a table of cases, by its number.
+fn cases(number: u32) -> &'static str {
+    match number {
+        0 => plain(),
+        1 => memory(),
+        2 => principals(),
+        3 => slots(),
+        4 => own_kernels(),
+        5 => replayed(),
+        6 => faulty(),
+        7 => c_files(),
+        8 => limits(),
+        9 => many(),
+        10 => packets(),
+        11 => ends(),
+        12 => nested(),
+        13 => borrowed(),
+        14 => borrowers(),
+        15 => threads(),
+        16 => atoms(),
+        17 => lent_slots(),
+        _ => texts(),
+    }
 }
 
-#[test]
-fn memory_cases(rt: HostRuntime) -> Result<(), Fail> {
-    let wrong = first_wrong(&rt, rt.alloc(), &MEMORY)?;
-    assert_eq!(rt; wrong.as_str(), "");
-    Ok(())
-}
+const TABLES: u32 = 19;
 
 #[test]
-fn principal_cases(rt: HostRuntime) -> Result<(), Fail> {
-    let wrong = first_wrong(&rt, rt.alloc(), &PRINCIPALS)?;
-    assert_eq!(rt; wrong.as_str(), "");
-    Ok(())
-}
-
-#[test]
-fn slot_cases(rt: HostRuntime) -> Result<(), Fail> {
-    let wrong = first_wrong(&rt, rt.alloc(), &SLOTS)?;
-    assert_eq!(rt; wrong.as_str(), "");
-    Ok(())
-}
-
-#[test]
-fn own_kernels(rt: HostRuntime) -> Result<(), Fail> {
-    let wrong = first_wrong(&rt, rt.alloc(), &OWN_KERNELS)?;
-    assert_eq!(rt; wrong.as_str(), "");
-    Ok(())
-}
-
-#[test]
-fn replayed_cases(rt: HostRuntime) -> Result<(), Fail> {
-    let wrong = first_wrong(&rt, rt.alloc(), &REPLAYED)?;
-    assert_eq!(rt; wrong.as_str(), "");
-    Ok(())
-}
-
-#[test]
-fn faulty_cases(rt: HostRuntime) -> Result<(), Fail> {
-    let wrong = first_wrong(&rt, rt.alloc(), &FAULTY)?;
-    assert_eq!(rt; wrong.as_str(), "");
-    Ok(())
-}
-
-#[test]
-fn c_files_return_what_c_returns(rt: HostRuntime) -> Result<(), Fail> {
-    let wrong = first_wrong(&rt, rt.alloc(), &C_FILES)?;
-    assert_eq!(rt; wrong.as_str(), "");
-    Ok(())
-}
-
-#[test]
-fn machines_at_their_limits(rt: HostRuntime) -> Result<(), Fail> {
-    let wrong = first_wrong(&rt, rt.alloc(), &LIMITS)?;
-    assert_eq!(rt; wrong.as_str(), "");
-    Ok(())
-}
-
-#[test]
-fn many_actions(rt: HostRuntime) -> Result<(), Fail> {
-    let wrong = first_wrong(&rt, rt.alloc(), &MANY)?;
+fn cases_write_what_is_wanted(rt: HostRuntime) -> Result<(), Fail> {
+    let mut wrong = String::new(rt.alloc());
+    for number in 0..TABLES {
+        run_cases(&rt, rt.alloc(), &mut wrong, cases(number))?;
+    }
     assert_eq!(rt; wrong.as_str(), "");
     Ok(())
 }
@@ -91,135 +62,118 @@ fn many_actions(rt: HostRuntime) -> Result<(), Fail> {
 #[test]
 fn long_reports(rt: HostRuntime) -> Result<(), Fail> {
     let wrong = first_long_wrong(&rt, rt.alloc(), &LONG)?;
-    assert_eq!(rt; wrong.as_str(), "");
+    assert_eq!(rt; wrong, "");
     Ok(())
 }
 
 #[test]
 fn as_many_calls_as_a_case_may_have(rt: HostRuntime) -> Result<(), Fail> {
     let wrong = first_long_wrong(&rt, rt.alloc(), &ALL_CALLS)?;
-    assert_eq!(rt; wrong.as_str(), "");
+    assert_eq!(rt; wrong, "");
     Ok(())
 }
 
 #[test]
 fn a_network_card_writes_the_reports_beside_its_cases(rt: HostRuntime) -> Result<(), Fail> {
-    let wrong = first_wrong(&rt, rt.alloc(), &NETWORK_CARD)?;
-    assert_eq!(rt; wrong.as_str(), "");
+    let wrong = first_wrong_card(&rt, rt.alloc())?;
+    assert_eq!(rt; wrong, None);
     Ok(())
 }
 
-#[test]
-fn a_packet_that_is_lent(rt: HostRuntime) -> Result<(), Fail> {
-    let wrong = wrong_loans(&rt, rt.alloc(), packets())?;
-    assert_eq!(rt; wrong.as_str(), "");
-    Ok(())
+/// A run: its words, its status, and what it writes.
+#[derive(Clone, Copy)]
+struct Run<'a>(&'a [&'a str], u8, &'a [u8]);
+
+const ONE: &[&str] = &["run", "one.case"];
+
+/// Whether a run over these files writes this into a sink.
+fn is_run<R: Threads + Wait + Sync>(
+    rt: &R,
+    alloc: Global,
+    shelf: &mut MemShelf,
+    sink: MemSink,
+    run: &Run<'_>,
+) -> Result<bool, Fail> {
+    let mut sink = sink;
+    let status = run_words(rt, alloc, run.0, shelf, &mut sink);
+    let is = sink.bytes.as_slice() == run.2;
+    drop(sink);
+    Ok(status? == run.1 && is)
 }
 
-#[test]
-fn what_ends_a_loan(rt: HostRuntime) -> Result<(), Fail> {
-    let wrong = wrong_loans(&rt, rt.alloc(), ends())?;
-    assert_eq!(rt; wrong.as_str(), "");
-    Ok(())
-}
-
-#[test]
-fn nested_loans(rt: HostRuntime) -> Result<(), Fail> {
-    let wrong = wrong_loans(&rt, rt.alloc(), nested())?;
-    assert_eq!(rt; wrong.as_str(), "");
-    Ok(())
-}
-
-#[test]
-fn what_is_on_loan_is_not_handed_on(rt: HostRuntime) -> Result<(), Fail> {
-    let wrong = wrong_loans(&rt, rt.alloc(), borrowed())?;
-    assert_eq!(rt; wrong.as_str(), "");
-    Ok(())
-}
-
-#[test]
-fn who_may_use_a_loan(rt: HostRuntime) -> Result<(), Fail> {
-    let wrong = wrong_loans(&rt, rt.alloc(), borrowers())?;
-    assert_eq!(rt; wrong.as_str(), "");
-    Ok(())
-}
-
-#[test]
-fn loans_and_other_threads(rt: HostRuntime) -> Result<(), Fail> {
-    let wrong = wrong_loans(&rt, rt.alloc(), threads())?;
-    assert_eq!(rt; wrong.as_str(), "");
-    Ok(())
-}
-
-#[test]
-fn loans_of_calls_and_references(rt: HostRuntime) -> Result<(), Fail> {
-    let wrong = wrong_loans(&rt, rt.alloc(), atoms())?;
-    assert_eq!(rt; wrong.as_str(), "");
-    Ok(())
-}
-
-#[test]
-fn loans_and_slots(rt: HostRuntime) -> Result<(), Fail> {
-    let wrong = wrong_loans(&rt, rt.alloc(), slots())?;
-    assert_eq!(rt; wrong.as_str(), "");
-    Ok(())
-}
-
-#[test]
-fn the_word_that_lends(rt: HostRuntime) -> Result<(), Fail> {
-    let wrong = wrong_loans(&rt, rt.alloc(), texts())?;
-    assert_eq!(rt; wrong.as_str(), "");
-    Ok(())
-}
-
-#[test]
-fn faults_of_the_outside(rt: HostRuntime) -> Result<(), Fail> {
-    let alloc = rt.alloc();
-    let words = ["run", "one.case"];
+/// Whether a run over the files of worked cases writes this into a sink.
+fn is_run_over_all<R: Threads + Wait + Sync>(
+    rt: &R,
+    alloc: Global,
+    sink: MemSink,
+    run: &Run<'_>,
+) -> Result<bool, Fail> {
     let mut shelf = shelf_of(alloc)?;
-    let mut failing = MemSink::new(alloc, [0].to_vec(alloc)?, 4096)?;
-    let status = run_words(&rt, alloc, &words, &mut shelf, &mut failing)?;
-    assert_eq!(rt; status, 5);
-    assert_eq!(rt; failing.bytes.len(), 0);
-    let mut short = MemSink::new(alloc, Vec::new(alloc), 10)?;
-    let status = run_words(&rt, alloc, &words, &mut shelf, &mut short)?;
-    assert_eq!(rt; status, 5);
-    assert_eq!(rt; short.bytes.as_slice(), b"schedule 0".as_slice());
-    let mut empty = MemShelf::new(alloc, Vec::new(alloc));
-    empty.put_file(alloc, "one.case", ONE_CASE.as_bytes())?;
-    let mut sink = sink_of(alloc)?;
-    let status = run_words(&rt, alloc, &words, &mut empty, &mut sink)?;
-    assert_eq!(rt; status, 4);
-    assert_eq!(rt;
-        sink.bytes.as_slice(),
-        b"lxfi: cannot read one.ll\n".as_slice()
-    );
+    let is = is_run(rt, alloc, &mut shelf, sink, run);
+    drop(shelf);
+    is
+}
+
+#[test]
+fn an_output_that_fails(rt: HostRuntime) -> Result<(), Fail> {
+    let failing = MemSink::new(rt.alloc(), [0].to_vec(rt.alloc())?, 4096)?;
+    let is = is_run_over_all(&rt, rt.alloc(), failing, &Run(ONE, 5, b""))?;
+    assert!(rt; is);
     Ok(())
+}
+
+#[test]
+fn an_output_without_room(rt: HostRuntime) -> Result<(), Fail> {
+    let short = MemSink::new(rt.alloc(), Vec::new(rt.alloc()), 10)?;
+    let is = is_run_over_all(&rt, rt.alloc(), short, &Run(ONE, 5, b"schedule 0"))?;
+    assert!(rt; is);
+    Ok(())
+}
+
+/// Whether a case without its module says so.
+fn lacks_its_module<R: Threads + Wait + Sync>(rt: &R, alloc: Global) -> Result<bool, Fail> {
+    let mut shelf = MemShelf::new(alloc, Vec::new(alloc));
+    shelf.put_file(alloc, "one.case", ONE_CASE.as_bytes())?;
+    let run = Run(ONE, 4, b"lxfi: cannot read one.ll\n");
+    let sink = sink_of(alloc)?;
+    let is = is_run(rt, alloc, &mut shelf, sink, &run);
+    drop(shelf);
+    is
+}
+
+#[test]
+fn a_file_that_is_not_there(rt: HostRuntime) -> Result<(), Fail> {
+    let is = lacks_its_module(&rt, rt.alloc())?;
+    assert!(rt; is);
+    Ok(())
+}
+
+fn put_lines(alloc: Global, shelf: &mut MemShelf, count: usize) -> Result<(), Fail> {
+    let code = vec![in alloc; b'\n'; count]?;
+    shelf.put_file(alloc, "one.ll", &code)?;
+    Ok(())
+}
+
+/// Whether a case whose module has a byte too many says so.
+fn is_past_the_limit<R: Threads + Wait + Sync>(rt: &R, alloc: Global) -> Result<bool, Fail> {
+    let mut shelf = shelf_of(alloc)?;
+    put_lines(alloc, &mut shelf, (1 << 20) + 1)?;
+    let run = Run(ONE, 3, b"one.ll:1: limit 1 file\n");
+    let sink = sink_of(alloc)?;
+    let is = is_run(rt, alloc, &mut shelf, sink, &run);
+    drop(shelf);
+    is
 }
 
 #[test]
 fn a_file_past_the_limit(rt: HostRuntime) -> Result<(), Fail> {
-    let alloc = rt.alloc();
-    let mut code = Vec::new(alloc);
-    for _ in 0..(1 << 20) + 1 {
-        code.push(b'\n')?;
-    }
-    let mut shelf = shelf_of(alloc)?;
-    shelf.put_file(alloc, "one.ll", &code)?;
-    let mut sink = sink_of(alloc)?;
-    let status = run_words(&rt, alloc, &["run", "one.case"], &mut shelf, &mut sink)?;
-    assert_eq!(rt; status, 3);
-    assert_eq!(rt;
-        sink.bytes.as_slice(),
-        b"one.ll:1: limit 1 file\n".as_slice()
-    );
+    let is = is_past_the_limit(&rt, rt.alloc())?;
+    assert!(rt; is);
     Ok(())
 }
 
 #[test]
 fn words_that_are_no_command(rt: HostRuntime) -> Result<(), Fail> {
-    let alloc = rt.alloc();
-    let mut shelf = shelf_of(alloc)?;
     let rows: [&[&str]; 8] = [
         &[],
         &["run"],
@@ -231,10 +185,10 @@ fn words_that_are_no_command(rt: HostRuntime) -> Result<(), Fail> {
         &["why", "one.case"],
     ];
     for words in rows {
-        let mut sink = sink_of(alloc)?;
-        let status = run_words(&rt, alloc, words, &mut shelf, &mut sink)?;
-        assert_eq!(rt; status, 2);
-        assert_eq!(rt; sink.bytes.as_slice(), USAGE.as_bytes());
+        let sink = sink_of(rt.alloc())?;
+        let run = Run(words, 2, USAGE.as_bytes());
+        let is = is_run_over_all(&rt, rt.alloc(), sink, &run)?;
+        assert!(rt; is);
     }
     Ok(())
 }

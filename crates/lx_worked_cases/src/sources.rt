@@ -1,6 +1,6 @@
 //! Hostile shelves, with what each comes to.
 
-use crate::common::shelf_of;
+use crate::shelves::shelf_of;
 use lx_input::{InputStop, fault_text, read_sources};
 use lx_outside::MemShelf;
 use lx_words::Name;
@@ -101,14 +101,19 @@ fn unread(alloc: Global, file: &[u8]) -> Result<Name, InputStop> {
 fn told(alloc: Global, shelf: &mut MemShelf, with_schedule: bool) -> Result<Name, InputStop> {
     let schedule = if with_schedule { Some("two.txt") } else { None };
     match read_sources(alloc, shelf, "one.case", schedule) {
-        Ok(_) => Ok(Name::new(alloc)),
+        Ok(sources) => {
+            drop(sources);
+            Ok(Name::new(alloc))
+        }
         Err(InputStop::Fault(fault)) => {
-            let text = fault_text(alloc, &fault)?;
-            Ok(text)
+            let text = fault_text(alloc, &fault);
+            drop(fault);
+            Ok(text?)
         }
         Err(InputStop::Unread(file)) => {
-            let text = unread(alloc, file.as_slice())?;
-            Ok(text)
+            let text = unread(alloc, file.as_slice());
+            drop(file);
+            text
         }
         Err(InputStop::Memory) => Err(InputStop::Memory),
     }
@@ -116,8 +121,9 @@ fn told(alloc: Global, shelf: &mut MemShelf, with_schedule: bool) -> Result<Name
 
 fn comes_to(alloc: Global, row: &Row) -> Result<bool, Fail> {
     let mut shelf = shelf_of(alloc, row.0)?;
-    let text = told(alloc, &mut shelf, row.1)?;
-    Ok(text.is_same(row.2.as_bytes()))
+    let text = told(alloc, &mut shelf, row.1);
+    drop(shelf);
+    Ok(text?.is_same(row.2.as_bytes()))
 }
 
 #[test]
@@ -129,19 +135,21 @@ fn each_turn_ends_where_it_should(rt: HostRuntime) -> Result<(), Fail> {
     Ok(())
 }
 
-/// What a module of so many bytes comes to.
-fn long_module(alloc: Global, count: usize) -> Result<Name, Fail> {
-    let mut shelf = shelf_of(
-        alloc,
-        &[(
-            "one.case",
-            "lxfi case 1\nkernel none\ninterface none\nmodule m m.ll\n",
-        )],
-    )?;
+const ONE_MODULE: &str = "lxfi case 1\nkernel none\ninterface none\nmodule m m.ll\n";
+
+fn put_long(alloc: Global, shelf: &mut MemShelf, count: usize) -> Result<(), Fail> {
     let text = vec![in alloc; b' '; count]?;
     shelf.put_file(alloc, "m.ll", &text)?;
-    let text = told(alloc, &mut shelf, false)?;
-    Ok(text)
+    Ok(())
+}
+
+/// What a module of so many bytes comes to.
+fn long_module(alloc: Global, count: usize) -> Result<Name, Fail> {
+    let mut shelf = shelf_of(alloc, &[("one.case", ONE_MODULE)])?;
+    put_long(alloc, &mut shelf, count)?;
+    let text = told(alloc, &mut shelf, false);
+    drop(shelf);
+    Ok(text?)
 }
 
 #[test]

@@ -1,6 +1,6 @@
 //! Texts are read, and what verifying the modules that they say finds is compared.
 
-use crate::rows::{ENDS, LABELS, PHIS, REGISTERS, Row, TYPES, WITHOUT_A_FAULT, Wanted};
+use crate::verified_rows::{ENDS, LABELS, PHIS, REGISTERS, Row, TYPES, WITHOUT_A_FAULT, Wanted};
 use lx_c_texts::{checksum_text, driver_text, kernel_text, ring_text};
 use lx_ir_lawful::whole_laws;
 use lx_ir_read::{TextForm, read_module};

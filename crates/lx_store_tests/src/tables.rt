@@ -4,6 +4,7 @@ ghost use Rattle.lx_caps.specs.Placed.{is_placed};
 
 use lx_cap_tables::CapTables;
 use lx_caps::{Act, Atom, Cap, CapStore, Memory, PlainCaps, Principal, cells, mapped};
+use std::alloc::Global;
 use std::process::Abort;
 use std::test::Fail;
 
@@ -203,6 +204,31 @@ fn assert_same_owners(rt: &impl Abort, plain: &PlainCaps, tables: &CapTables, at
     }
 }
 
+/// Whether both stores list the same calls and references of the principal.
+fn list_alike(
+    alloc: Global,
+    plain: &PlainCaps,
+    tables: &CapTables,
+    who: Principal,
+) -> Result<bool, Memory> {
+    let listed = plain.calls_and_refs(alloc, who)?;
+    let walked = tables.calls_and_refs(alloc, who)?;
+    Ok(listed == walked)
+}
+
+fn assert_same_listed(
+    rt: &impl Abort,
+    alloc: Global,
+    plain: &PlainCaps,
+    tables: &CapTables,
+) -> Result<(), Memory> {
+    for who in WHO {
+        let alike = list_alike(alloc, plain, tables, who)?;
+        assert!(rt; alike, "{who:?}");
+    }
+    Ok(())
+}
+
 fn assert_same(rt: &impl Abort, plain: &PlainCaps, tables: &CapTables, random: &mut Random) {
     for who in WHO {
         assert_same_held(rt, plain, tables, who, random);
@@ -229,6 +255,7 @@ fn the_tables_answer_as_the_list_does(rt: HostRuntime) -> Result<(), Fail> {
         assert!(&rt; perform(&mut plain, act)?);
         assert!(&rt; perform(&mut tables, act)?);
         assert_same(&rt, &plain, &tables, &mut random);
+        assert_same_listed(&rt, rt.alloc(), &plain, &tables)?;
     }
     Ok(())
 }

@@ -65,7 +65,7 @@ fn printed(alloc: Global, text: &[u8]) -> Result<Result<Vec<u8>, Fault>, Memory>
 #[derive(Drop)]
 struct Said(&'static [u8], &'static [u8]);
 
-static SAID: [Said; 9] = [
+static SAID: [Said; 10] = [
     Said(b"i32 7", b"@g = global i32 7\n"),
     Said(b"i8 255", b"@g = global i8 -1\n"),
     Said(
@@ -85,6 +85,10 @@ static SAID: [Said; 9] = [
     Said(
         b"i64 ptrtoint (ptr inttoptr (i64 -16 to ptr) to i32)",
         b"@g = global i64 ptrtoint (ptr inttoptr (i64 -16 to ptr) to i32)\n",
+    ),
+    Said(
+        b"ptr getelementptr ({ i32, i8 }, ptr null, i64 1)",
+        b"@g = global ptr inttoptr (i64 8 to ptr)\n",
     ),
     Said(b"i1 1", b"@g = global i1 -1\n"),
 ];

@@ -253,7 +253,7 @@ fn instructions_read_as_they_are_printed(rt: HostRuntime) -> Result<(), Fail> {
     Ok(())
 }
 
-static FAULTY: [Faulty; 34] = [
+static FAULTY: [Faulty; 35] = [
     Faulty(b"%r = icmp i32 1, 2", FaultKind::OutOfProfile, 4),
     Faulty(b"br foo", FaultKind::OutOfProfile, 1),
     Faulty(b"br i32 %c", FaultKind::Statement, 2),
@@ -261,6 +261,7 @@ static FAULTY: [Faulty; 34] = [
     Faulty(b"%r = load i32, float %p", FaultKind::OutOfProfile, 2),
     Faulty(b"%r = load nuw label", FaultKind::OutOfProfile, 1),
     Faulty(b"%r = add %t %a, %b", FaultKind::OutOfProfile, 4),
+    Faulty(b"%r = add tail i32 1, 2", FaultKind::OutOfProfile, 5),
     Faulty(b"%r = call void %f()", FaultKind::Statement, 4),
     Faulty(b"call ccc i32 %f()", FaultKind::OutOfProfile, 5),
     Faulty(b"call i32 float", FaultKind::OutOfProfile, 1),

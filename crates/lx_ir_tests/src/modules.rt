@@ -1,6 +1,6 @@
 //! Modules from texts and back, and the faults of texts.
 
-use lx_ir::module::Module;
+use lx_ir::module::{Module, Parameter};
 use lx_ir::print;
 use lx_ir_read::{ReadFault, TextForm, read_module};
 use lx_words::Memory;
@@ -432,5 +432,34 @@ fn an_image_has_names_of_its_own(rt: HostRuntime) -> Result<(), Fail> {
     let alloc = rt.alloc();
     let image = printed(alloc, TextForm::Image, b"@lxfi.a = global i32 1\n")?;
     assert!(rt; image.is_some());
+    Ok(())
+}
+
+fn put_names(names: &mut Vec<u8>, params: &[Parameter]) -> Result<(), Memory> {
+    for param in params {
+        names.extend_from_slice(param.name.as_slice())?;
+        names.push(b' ')?;
+    }
+    Ok(())
+}
+
+/// The names of the parameters of a text's first function, each with a space behind it.
+fn parameter_names(alloc: Global, text: &[u8]) -> Result<Vec<u8>, Memory> {
+    let mut names = Vec::new(alloc);
+    if let Ok(module) = read(alloc, TextForm::Program, text) {
+        if let Some(function) = module.functions.as_slice().get(0) {
+            put_names(&mut names, function.params.as_slice())?;
+        }
+    }
+    Ok(names)
+}
+
+#[test]
+fn parameters_of_imports_lose_their_names(rt: HostRuntime) -> Result<(), Fail> {
+    let alloc = rt.alloc();
+    let import = parameter_names(alloc, b"declare void @f(ptr %p, i8)")?;
+    assert_eq!(rt; import.as_slice(), b"  ".as_slice());
+    let defined = parameter_names(alloc, b"define void @f(ptr %p, i8 %b) {\nret void\n}\n")?;
+    assert_eq!(rt; defined.as_slice(), b"p b ".as_slice());
     Ok(())
 }

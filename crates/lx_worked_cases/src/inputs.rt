@@ -1,6 +1,6 @@
 //! Inputs with faults that the checks find, and one without.
 
-use crate::common::shelf_of;
+use crate::shelves::shelf_of;
 use lx_input::{Input, InputStop, fault_text, read_input};
 use lx_outside::MemShelf;
 use lx_words::{Name, put_decimal};
@@ -151,10 +151,14 @@ fn shelf_with(alloc: Global, case: &str, files: &[(&str, &str)]) -> Result<MemSh
 /// What the files of a shelf come to.
 fn told(alloc: Global, shelf: &mut MemShelf) -> Result<Name, InputStop> {
     match read_input(alloc, shelf, "one.case", None) {
-        Ok(_) => Ok(Name::new(alloc)),
+        Ok(input) => {
+            drop(input);
+            Ok(Name::new(alloc))
+        }
         Err(InputStop::Fault(fault)) => {
-            let text = fault_text(alloc, &fault)?;
-            Ok(text)
+            let text = fault_text(alloc, &fault);
+            drop(fault);
+            Ok(text?)
         }
         Err(stop) => Err(stop),
     }
@@ -162,8 +166,9 @@ fn told(alloc: Global, shelf: &mut MemShelf) -> Result<Name, InputStop> {
 
 fn comes_to(alloc: Global, row: &Row) -> Result<bool, Fail> {
     let mut shelf = shelf_with(alloc, row.0, row.1)?;
-    let text = told(alloc, &mut shelf)?;
-    Ok(text.is_same(row.2.as_bytes()))
+    let text = told(alloc, &mut shelf);
+    drop(shelf);
+    Ok(text?.is_same(row.2.as_bytes()))
 }
 
 #[test]
@@ -181,25 +186,38 @@ const TEN_MODULES: &str =
 
 const ONE_MORE: &str = "module k one.ll\n";
 
-/// The text of a module with this global and so many functions.
-fn with_functions(alloc: Global, global: &str, count: u32) -> Result<Vec<u8>, Fail> {
-    let mut text = Vec::from_slice(alloc, global.as_bytes())?;
+fn put_functions(text: &mut Vec<u8>, count: u32) -> Result<(), Fail> {
     for number in 0..count {
         text.extend_from_slice(b"define void@")?;
-        put_decimal(&mut text, i128::from(number))?;
+        put_decimal(text, i128::from(number))?;
         text.extend_from_slice(b"(){ret void}")?;
     }
-    Ok(text)
+    Ok(())
+}
+
+/// Puts the module `m.ll` with this global and so many functions.
+fn put_module(alloc: Global, shelf: &mut MemShelf, global: &str, count: u32) -> Result<(), Fail> {
+    let mut text = Vec::from_slice(alloc, global.as_bytes())?;
+    put_functions(&mut text, count)?;
+    shelf.put_file(alloc, "m.ll", &text)?;
+    Ok(())
+}
+
+fn put_ten(alloc: Global, shelf: &mut MemShelf, behind: &str) -> Result<(), Fail> {
+    let case = format!(in alloc; "{TEN_MODULES}{behind}")?;
+    shelf.put_file(alloc, "one.case", case.as_bytes())?;
+    shelf.put_file(alloc, "one.ll", UNSHARED.as_bytes())?;
+    Ok(())
 }
 
 /// What ten modules with this global and so many functions each come to, and what is behind them.
 fn ten_times(alloc: Global, behind: &str, global: &str, count: u32) -> Result<Name, Fail> {
-    let case = format!(in alloc; "{TEN_MODULES}{behind}")?;
-    let mut shelf = shelf_with(alloc, case.as_str(), &[("one.ll", UNSHARED)])?;
-    let text = with_functions(alloc, global, count)?;
-    shelf.put_file(alloc, "m.ll", &text)?;
-    let text = told(alloc, &mut shelf)?;
-    Ok(text)
+    let mut shelf = MemShelf::new(alloc, Vec::new(alloc));
+    put_module(alloc, &mut shelf, global, count)?;
+    put_ten(alloc, &mut shelf, behind)?;
+    let text = told(alloc, &mut shelf);
+    drop(shelf);
+    Ok(text?)
 }
 
 #[test]
@@ -225,45 +243,16 @@ fn functions_are_counted_before_globals_are_placed(rt: HostRuntime) -> Result<()
 const WHOLE: &str =
     "lxfi case 1\nkernel builtin\ninterface builtin\nmodule m probe.ll\nthread\ncall m:probe 0 fuel 9\n";
 
-/// The input of a case without a fault.
-fn linked(
-    alloc: Global,
-    case: &str,
-    files: &[(&str, &str)],
-    schedule: Option<&str>,
-) -> Result<Input, Fail> {
-    let mut shelf = shelf_with(alloc, case, files)?;
-    let input = read_input(alloc, &mut shelf, "one.case", schedule)?;
-    Ok(input)
+/// What is wanted of an input.
+#[derive(Clone, Copy)]
+enum Wanted {
+    /// One module, one thread, and a schedule.
+    Whole,
+    /// The functions that every program has, and nothing else.
+    Natives,
+    /// The slot type of function 0 of the one module, and of no other function.
+    Slot(u32),
 }
-
-#[test]
-fn a_whole_input_is_linked(rt: HostRuntime) -> Result<(), Fail> {
-    let files = [("probe.ll", PROBE), ("two.txt", "0*2")];
-    let input = linked(rt.alloc(), WHOLE, &files, Some("two.txt"))?;
-    assert!(rt; input.program.modules.len() == 1);
-    assert!(rt; input.script.len() == 1);
-    assert!(rt; input.annotated.len() == 1);
-    assert!(rt; input.schedule.is_some());
-    Ok(())
-}
-
-#[test]
-fn without_texts_there_are_the_natives(rt: HostRuntime) -> Result<(), Fail> {
-    let input = linked(rt.alloc(), NOTHING, &[], None)?;
-    assert!(rt; input.program.functions.len() == 6);
-    assert!(rt; input.program.globals.is_empty());
-    Ok(())
-}
-
-/// An interface, a module, and the slot type that the module's function has.
-struct Slotted(&'static str, &'static str, u32);
-
-static SLOT_TYPES: [Slotted; 2] = [
-    // The first of slot types that agree.
-    Slotted(ALIKE, TWICE, 0),
-    Slotted(APART, STORED, 1),
-];
 
 /// Whether one function of the one module has a slot type, and it is function 0 with this one.
 fn is_alone_with(input: &Input, slot: u32) -> bool {
@@ -276,14 +265,67 @@ fn is_alone_with(input: &Input, slot: u32) -> bool {
     }
 }
 
+fn is_wanted(input: &Input, wanted: Wanted) -> bool {
+    match wanted {
+        Wanted::Whole => {
+            input.program.modules.len() == 1
+                && input.script.len() == 1
+                && input.annotated.len() == 1
+                && input.schedule.is_some()
+        }
+        Wanted::Natives => {
+            input.program.functions.len() == 6 && input.program.globals.is_empty()
+        }
+        Wanted::Slot(slot) => is_alone_with(input, slot),
+    }
+}
+
+/// Whether the input of a case has no fault, and is what is wanted.
+fn is_linked(
+    alloc: Global,
+    case: &str,
+    files: &[(&str, &str)],
+    schedule: Option<&str>,
+    wanted: Wanted,
+) -> Result<bool, Fail> {
+    let mut shelf = shelf_with(alloc, case, files)?;
+    let found = read_input(alloc, &mut shelf, "one.case", schedule);
+    drop(shelf);
+    let is = match &found {
+        Ok(input) => is_wanted(input, wanted),
+        Err(_) => false,
+    };
+    drop(found);
+    Ok(is)
+}
+
+#[test]
+fn a_whole_input_is_linked(rt: HostRuntime) -> Result<(), Fail> {
+    let files = [("probe.ll", PROBE), ("two.txt", "0*2")];
+    let is = is_linked(rt.alloc(), WHOLE, &files, Some("two.txt"), Wanted::Whole)?;
+    assert!(rt; is);
+    Ok(())
+}
+
+#[test]
+fn without_texts_there_are_the_natives(rt: HostRuntime) -> Result<(), Fail> {
+    let is = is_linked(rt.alloc(), NOTHING, &[], None, Wanted::Natives)?;
+    assert!(rt; is);
+    Ok(())
+}
+
+/// An interface, a module, and the slot type that the module's function has.
+struct Slotted(&'static str, &'static str, u32);
+
+static SLOT_TYPES: [Slotted; 2] = [
+    // The first of slot types that agree.
+    Slotted(ALIKE, TWICE, 0),
+    Slotted(APART, STORED, 1),
+];
+
 fn gets_its_slot(alloc: Global, row: &Slotted) -> Result<bool, Fail> {
-    let input = linked(
-        alloc,
-        OWN_INTERFACE,
-        &[("i.txt", row.0), ("m.ll", row.1)],
-        None,
-    )?;
-    Ok(is_alone_with(&input, row.2))
+    let files = [("i.txt", row.0), ("m.ll", row.1)];
+    is_linked(alloc, OWN_INTERFACE, &files, None, Wanted::Slot(row.2))
 }
 
 #[test]

@@ -2,7 +2,7 @@
 
 ghost use Rattle.std.specs.Prelude.{◌+◌, ◌^◌, ◌<◌, length, IfOk, IfErr};
 ghost use Rattle.lx_ir_read.specs.Reading.{ModuleFails};
-ghost use Rattle.lx_ir_examples.specs.Reprinted.{Reprints};
+ghost use Rattle.lx_ir_tests.specs.Reprinted.{Reprints};
 
 use lx_ir::print;
 use lx_ir_read::{ReadFault, TextForm, read_module};

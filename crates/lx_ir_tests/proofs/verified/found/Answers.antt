@@ -1,5 +1,5 @@
 use Rattle.std.proofs.Common.{◌+◌, ◌<◌, ◌^◌, length, arith}
-use Rattle.lx_ir_verify_tests.proofs.tests.found.Goals as goal
+use Rattle.lx_ir_tests.proofs.verified.found.Goals as goal
 
 -- What is read is lawful.
 pub verify-requires : goal.verify-requires

@@ -1,5 +1,0 @@
-//! Tests of the reading of interfaces.
-#![tactic(auto)]
-
-#[cfg(test)]
-mod interfaces;
