@@ -1,0 +1,21 @@
+//! Worked rows of images: the first fault of texts that are changed in one place, and texts that are images of their modules.
+#![tactic(auto)]
+
+ghost use Rattle.lx_image_rows.specs.Faults.{WorkedFaults};
+ghost use Rattle.lx_image_rows.specs.Images.{WorkedImages};
+ghost use Rattle.lx_image_rows.specs.Wrappers.{WorkedWrappers};
+
+/// The first fault of each changed image, or none.
+pub fn worked_faults()
+    ensures { WorkedFaults }
+{}
+
+/// Texts that are images of their modules, with all guards and without those of spared stores, and what erasing gives of them.
+pub fn worked_images()
+    ensures { WorkedImages }
+{}
+
+/// Wrappers with parameters, and what is wrong where one is missing, differs or stands in another place.
+pub fn worked_wrappers()
+    ensures { WorkedWrappers }
+{}

@@ -1,0 +1,10 @@
+pub mod Spared
+pub mod Marks
+pub mod WrapperText
+pub mod Guards
+pub mod ImageFaults
+pub mod Erased
+pub mod Instrumented
+pub mod Programs
+pub mod Named
+pub mod Laws
