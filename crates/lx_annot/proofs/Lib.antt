@@ -1,2 +1,3 @@
 mod Spaced
 pub mod ItemLists
+pub mod Crossing

@@ -1,3 +1,4 @@
 pub mod Filled
 pub mod Firsts
 pub mod Names
+pub mod Crossing

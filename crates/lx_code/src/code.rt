@@ -15,6 +15,7 @@ use lx_model::program::{Program, ProgramFunction};
 use lx_words::{Items, Memory, Width};
 use std::alloc::Global;
 use std::marker::Model;
+use std::sync::Arc;
 
 /// How many actions the annotation of a function has, before its body and behind it.
 #[derive(Clone, Copy)]
@@ -23,10 +24,10 @@ pub struct ActionCounts {
     pub post: u32,
 }
 
-/// The code of a program. Contracts see the program.
+/// The code of a program, which others may hold too. Contracts see the program.
 #[derive(Drop)]
 pub struct Code {
-    pub(crate) program: Program,
+    program: Arc<Program>,
     empty: Module,
     actions: Vec<ActionCounts>,
     most_locals: usize,
@@ -34,6 +35,7 @@ pub struct Code {
 }
 
 impl Model for Code {
+    ghost use Rattle.std.specs.Arc.{arc_value};
     ghost use Rattle.lx_model.specs.declared.program.Program.{Program as Meaning};
     ghost use Rattle.lx_code.specs.Runnable.{IsRunnable};
     ghost use Rattle.lx_model.specs.contracts.program.Program as program_row;
@@ -42,9 +44,9 @@ impl Model for Code {
 
     ghost coded = { program_row.the_row.coded };
 
-    ghost view = { λ c. c.program };
+    ghost view = { λ c. arc_value c.program };
 
-    ghost invariant = { λ c. IsRunnable c.program c.empty c.actions.items c.most_locals c.tables.kernel c.tables.modules c.tables.addresses.entries };
+    ghost invariant = { λ c. IsRunnable (arc_value c.program) c.empty c.actions.items c.most_locals c.tables.kernel c.tables.modules c.tables.addresses.entries };
 }
 
 // The function of a text with this number, and none for a native.
@@ -139,14 +141,20 @@ fn no_text(alloc: Global) -> Module
 }
 
 impl Code {
+    ghost use Rattle.std.specs.Arc.{arc_value};
+
     /// The code of a program, whose functions have so many actions.
     ///
     /// # Errors
     /// Want of memory; more modules than a number of 32 bits counts are that too.
-    pub fn new(alloc: Global, program: Program, actions: Vec<ActionCounts>) -> Result<Code, Memory>
-        requires reach { IsWithinReach program }
-        requires actions { CountsActions program actions.items }
-        ensures { IfOk result (λ code. code ≡ program) }
+    pub fn new(
+        alloc: Global,
+        program: Arc<Program>,
+        actions: Vec<ActionCounts>,
+    ) -> Result<Code, Memory>
+        requires reach { IsWithinReach (arc_value program) }
+        requires actions { CountsActions (arc_value program) actions.items }
+        ensures { IfOk result (λ code. code ≡ arc_value program) }
     {
         let most_locals = most_locals(&program);
         let tables = Tables::new(alloc, &program)?;
@@ -164,7 +172,7 @@ impl Code {
         ensures whole { result.now ≡ self.now }
         ensures reach { IsWithinReach self.now }
     {
-        &self.program
+        &*self.program
     }
 
     /// The text of a module, or of the kernel; an empty one, where there is none.
@@ -172,8 +180,8 @@ impl Code {
         ensures { result.now ≡ module_of self.now home }
     {
         match home {
-            None => &self.program.kernel,
-            Some(number) => match self.program.modules.items.get(number as usize) {
+            None => &self.program().kernel,
+            Some(number) => match self.program().modules.items.get(number as usize) {
                 Some(found) => &found.module,
                 None => &self.empty,
             },
@@ -184,7 +192,7 @@ impl Code {
     pub fn home(&self, number: u32) -> Option<u32>
         ensures { result ≡ home_or_kernel self.now number }
     {
-        match self.program.functions.items.get(number as usize) {
+        match self.program().functions.items.get(number as usize) {
             Some(ProgramFunction::Of { module, .. }) => *module,
             Some(ProgramFunction::Native(_)) => None,
             None => None,
@@ -195,7 +203,7 @@ impl Code {
     pub fn function(&self, number: u32) -> Option<&Function>
         ensures { option_copied result ≡ function_of self.now number }
     {
-        match self.program.functions.items.get(number as usize) {
+        match self.program().functions.items.get(number as usize) {
             Some(ProgramFunction::Of { module, function }) => {
                 function_in(self.text(*module), *function)
             }

@@ -4,3 +4,4 @@ pub mod InitLists
 pub mod Joined
 pub mod Layouts
 pub mod TypeLists
+pub mod Crossing

@@ -5,3 +5,4 @@ pub mod Forgetting
 pub mod ForgettingReplies
 pub mod PlainServing
 pub mod PlainEvents
+pub mod Crossing
