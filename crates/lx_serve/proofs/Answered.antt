@@ -20,7 +20,7 @@ use Rattle.lx_model.specs.State.{State}
 use Rattle.lx_model.specs.Decide.{arg, decide}
 use Rattle.lx_model.specs.Enter.{Running, entered_function, runs_as}
 use Rattle.lx_model.specs.Serve.{after_native, after_stop, after_try_lock, entering, entering_as, grant_what, serve, serve_by, with_block}
-use Rattle.lx_serve.specs.Stands.{Keeps, Gives, Tries, StandsForState, Serves}
+use Rattle.lx_serve.specs.Stands.{Keeps, Gives, Tries, StandsForState, Serves, program_of}
 use Rattle.lx_serve.specs.declared.halt.Halt.{Halt}
 use Rattle.lx_serve.specs.declared.halt.Halt.TheVariants as halt
 use Rattle.lx_serve.specs.declared.monitor.Monitor.{Monitor}
@@ -81,15 +81,16 @@ threads_push (x ∷ xs) e = ap (λ l. x.thread ∷ l) (threads_push xs e)
 
 -- the journal has its entry
 pub entered : {C : Type 0} (stands : C → History → Type 0) (p : Program) (s : State) (t : ℕ) (r : Request) (old new : SharedPart C) (answer : Reply)
-    → StandsForState stands p old s → new.journal.items ≡ old.journal.items ++ t ∷ []
+    → StandsForState stands p old s → program_of new ≡ program_of old → new.journal.items ≡ old.journal.items ++ t ∷ []
     → Gives stands p new.monitor answer (serve_by (decide p s t r) p s t r)
     → Serves stands p new answer (serve p s t r)
-entered stands p s t r old new answer st pushed gives =
+entered stands p s t r old new answer st same pushed gives =
     let k = gives.state in
     let x = serve_by (decide p s t r) p s t r in
     record {
       reply = gives.reply;
       state = record {
+        program = same ∙ st.program;
         keeps = record { memory = k.memory; blocks = k.blocks; names = k.names; history = k.history; notes = k.notes; sources = k.sources; texts = k.texts };
         journal =
             pushed

@@ -1,6 +1,7 @@
 pub mod Annotated
 pub mod Answered
 pub mod Compared
+pub mod Crossing
 pub mod Entered
 pub mod Places
 pub mod Stacked

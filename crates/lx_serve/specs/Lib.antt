@@ -2,6 +2,7 @@ pub mod Blocks
 pub mod Decisions
 pub mod Sources
 pub mod Stands
+pub mod Fitting
 pub mod NativeCalls
 pub mod Performed
 pub mod Entering

@@ -1,5 +1,6 @@
 -- The shared part stands for a state of the monitor.
 use Rattle.std.specs.Prelude.{◌≡◌, ℕ, Some, None, Result, Ok, Err, length, map}
+use Rattle.std.specs.Arc.{arc_value}
 use Rattle.lx_caps.specs.History.{History}
 use Rattle.lx_caps.specs.declared.Principal.{Principal}
 use Rattle.lx_actions.specs.Shown.{IsShownBy}
@@ -52,8 +53,13 @@ Tries stands p m s t who w (Ok answer) = (decide_what p s t who w ≡ None) × G
 Tries stands p m s t who w (Err (Ended o)) = (decide_what p s t who w ≡ Some o) × Keeps stands p m s
 Tries stands p m s t who w (Err Memory) = IsUndecided p s t who w × Keeps stands p m s
 
+-- the program whose requests the shared part serves
+abbrev pub program_of : {C : Type 0} → SharedPart C → Program
+program_of part = arc_value part.linked.program
+
 -- the shared part stands for the state: it keeps what there is beside the journal, and the threads of the journal
 pub record StandsForState {C : Type 0} (stands : C → History → Type 0) (p : Program) (part : SharedPart C) (s : State) : Type 0 where
+  pub program : program_of part ≡ p
   pub keeps : Keeps stands p part.monitor s
   pub journal : part.journal.items ≡ map (λ e. e.thread) s.journal
 

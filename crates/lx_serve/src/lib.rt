@@ -7,8 +7,10 @@ mod enter;
 mod halt;
 mod heap;
 mod indirect;
+mod linked;
 mod monitor;
 mod natives;
+mod part;
 mod perform;
 mod rights;
 mod servable;
@@ -20,6 +22,6 @@ mod targets;
 mod terms;
 mod texts;
 
-pub use lx_caps::Memory;
+pub use lx_words::Memory;
 pub use shared::SharedPart;
 pub use source::Source;
