@@ -71,47 +71,47 @@ event_of_worker : (p : Program) (t : ℕ) (w : Meaning) (x : Thread) → slice_g
 event_of_worker p t w x e work = ap (λ o. event_of o p t w) e ∙ ap (λ b. event_if b p t w x) work
 
 turned_at : {C : Type 0} (stands : C → History → Type 0) (old new : World C) (w : Meaning) (t : ℕ) (r after : Runner)
-    → new.linked.code ≡ old.linked.code → new.runners.list.items ≡ slice_set old.runners.list.items t after → r ≡ slice_index_or old.runners.list.items t r
+    → new.code ≡ old.code → new.runners.list.items ≡ slice_set old.runners.list.items t after → r ≡ slice_index_or old.runners.list.items t r
     → t < length old.runners.list.items → IsTrue (has_call (calls_left r))
-    → ((s : State) (x : Thread) → StandsForState stands old.linked.code old.shared s → StandsFor old.linked.code t r x → HasTurned stands old.linked.code t new.shared after s x)
-    → StandsForState stands old.linked.code old.shared w.state → AllStand old.linked.code 0 old.runners.list.items w.threads
-    → StandsForWorld stands old.linked.code new (event old.linked.code t w)
+    → ((s : State) (x : Thread) → StandsForState stands old.code old.shared s → StandsFor old.code t r x → HasTurned stands old.code t new.shared after s x)
+    → StandsForState stands old.code old.shared w.state → AllStand old.code 0 old.runners.list.items w.threads
+    → StandsForWorld stands old.code new (event old.code t w)
 turned_at stands old new w t r after code runners is there work turns shared threads =
-    let at = standing old.linked.code 0 t t old.runners.list.items w.threads r threads (omega arith) there is in
+    let at = standing old.code 0 t t old.runners.list.items w.threads r threads (omega arith) there is in
     let x = at.0 in
     let turned = turns w.state x shared at.2 in
-    subst (λ (m : Meaning). StandsForWorld stands old.linked.code new m) (sym (event_of_worker old.linked.code t w x at.1 (has_work_of old.linked.code t r x at.2 work)))
+    subst (λ (m : Meaning). StandsForWorld stands old.code new m) (sym (event_of_worker old.code t w x at.1 (has_work_of old.code t r x at.2 work)))
     (record {
       program = code;
       shared = turned.shared;
-      threads = subst (λ (rs : List Runner). AllStand old.linked.code 0 rs (slice_set w.threads t (absorb old.linked.code t (next old.linked.code t x).thread (next old.linked.code t x).request (serve old.linked.code w.state t (next old.linked.code t x).request).reply))) (sym runners)
-          (replaced old.linked.code 0 t t old.runners.list.items w.threads after _ threads (omega arith) turned.runner);
+      threads = subst (λ (rs : List Runner). AllStand old.code 0 rs (slice_set w.threads t (absorb old.code t (next old.code t x).thread (next old.code t x).request (serve old.code w.state t (next old.code t x).request).reply))) (sym runners)
+          (replaced old.code 0 t t old.runners.list.items w.threads after _ threads (omega arith) turned.runner);
     })
 
 stayed_at : {C : Type 0} (stands : C → History → Type 0) (old new : World C) (w : Meaning) (t : ℕ) (r after : Runner)
-    → new.linked.code ≡ old.linked.code → new.runners.list.items ≡ slice_set old.runners.list.items t after → r ≡ slice_index_or old.runners.list.items t r
+    → new.code ≡ old.code → new.runners.list.items ≡ slice_set old.runners.list.items t after → r ≡ slice_index_or old.runners.list.items t r
     → t < length old.runners.list.items
-    → ((s : State) (x : Thread) → StandsForState stands old.linked.code old.shared s → StandsFor old.linked.code t r x → HasStayed stands old.linked.code t new.shared after s x)
-    → StandsForState stands old.linked.code old.shared w.state → AllStand old.linked.code 0 old.runners.list.items w.threads
-    → StandsForWorld stands old.linked.code new w
+    → ((s : State) (x : Thread) → StandsForState stands old.code old.shared s → StandsFor old.code t r x → HasStayed stands old.code t new.shared after s x)
+    → StandsForState stands old.code old.shared w.state → AllStand old.code 0 old.runners.list.items w.threads
+    → StandsForWorld stands old.code new w
 stayed_at stands old new w t r after code runners is there stays shared threads =
-    let at = standing old.linked.code 0 t t old.runners.list.items w.threads r threads (omega arith) there is in
+    let at = standing old.code 0 t t old.runners.list.items w.threads r threads (omega arith) there is in
     let x = at.0 in
     let stayed = stays w.state x shared at.2 in
     record {
       program = code;
       shared = stayed.shared;
       threads =
-          subst (λ (rs : List Runner). AllStand old.linked.code 0 rs w.threads) (sym runners)
-          (subst (AllStand old.linked.code 0 (slice_set old.runners.list.items t after)) (put_back w.threads t x at.1)
-          (replaced old.linked.code 0 t t old.runners.list.items w.threads after x threads (omega arith) stayed.runner));
+          subst (λ (rs : List Runner). AllStand old.code 0 rs w.threads) (sym runners)
+          (subst (AllStand old.code 0 (slice_set old.runners.list.items t after)) (put_back w.threads t x at.1)
+          (replaced old.code 0 t t old.runners.list.items w.threads after x threads (omega arith) stayed.runner));
     }
 
 -- an event of the world
 pub event_stands : {C : Type 0} (stands : C → History → Type 0) (old new : World C) (p : Program) (w : Meaning) (t : ℕ) (r after : Runner)
-    → new.linked.code ≡ old.linked.code → new.runners.list.items ≡ slice_set old.runners.list.items t after → r ≡ slice_index_or old.runners.list.items t r
+    → new.code ≡ old.code → new.runners.list.items ≡ slice_set old.runners.list.items t after → r ≡ slice_index_or old.runners.list.items t r
     → t < length old.runners.list.items → IsTrue (has_call (calls_left r))
-    → ((s : State) (x : Thread) → StandsForState stands old.linked.code old.shared s → StandsFor old.linked.code t r x → HasTurned stands old.linked.code t new.shared after s x)
+    → ((s : State) (x : Thread) → StandsForState stands old.code old.shared s → StandsFor old.code t r x → HasTurned stands old.code t new.shared after s x)
     → StandsForWorld stands p old w → StandsForWorld stands p new (event p t w)
 event_stands stands old new p w t r after code runners is there work turns st =
     subst (λ (q : Program). StandsForWorld stands q new (event q t w)) st.program
@@ -121,9 +121,9 @@ event_stands stands old new p w t r after code runners is there work turns st =
 
 -- an event that did not come
 pub fault_stands : {C : Type 0} (stands : C → History → Type 0) (old new : World C) (p : Program) (w : Meaning) (t : ℕ) (r after : Runner)
-    → new.linked.code ≡ old.linked.code → new.runners.list.items ≡ slice_set old.runners.list.items t after → r ≡ slice_index_or old.runners.list.items t r
+    → new.code ≡ old.code → new.runners.list.items ≡ slice_set old.runners.list.items t after → r ≡ slice_index_or old.runners.list.items t r
     → t < length old.runners.list.items
-    → ((s : State) (x : Thread) → StandsForState stands old.linked.code old.shared s → StandsFor old.linked.code t r x → HasStayed stands old.linked.code t new.shared after s x)
+    → ((s : State) (x : Thread) → StandsForState stands old.code old.shared s → StandsFor old.code t r x → HasStayed stands old.code t new.shared after s x)
     → StandsForWorld stands p old w → StandsForWorld stands p new w
 fault_stands stands old new p w t r after code runners is there stays st =
     subst (λ (q : Program). StandsForWorld stands q new w) st.program
@@ -172,9 +172,9 @@ open_more p rs new ys r c t number is stand fresh =
 
 -- what holds of each state and each thread that the part and a runner stand for
 pub at_thread : {C : Type 0} (stands : C → History → Type 0) (old : World C) (p : Program) (w : Meaning) (t : ℕ) (r : Runner) (Holds : Type 0) → r ≡ slice_index_or old.runners.list.items t r
-    → t < length old.runners.list.items → ((s : State) (x : Thread) → StandsForState stands old.linked.code old.shared s → StandsFor old.linked.code t r x → Holds)
+    → t < length old.runners.list.items → ((s : State) (x : Thread) → StandsForState stands old.code old.shared s → StandsFor old.code t r x → Holds)
     → StandsForWorld stands p old w → Holds
 at_thread stands old p w t r Holds is there holds st =
     let threads = subst (λ (q : Program). AllStand q 0 old.runners.list.items w.threads) (sym st.program) st.threads in
-    let at = standing old.linked.code 0 t t old.runners.list.items w.threads r threads (omega arith) there is in
+    let at = standing old.code 0 t t old.runners.list.items w.threads r threads (omega arith) there is in
     holds w.state at.0 (subst (λ (q : Program). StandsForState stands q old.shared w.state) (sym st.program) st.shared) at.2

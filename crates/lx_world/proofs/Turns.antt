@@ -32,7 +32,8 @@ use Rattle.lx_interp.specs.Runner.{StandsFor as Runs}
 use Rattle.lx_serve.specs.declared.shared.SharedPart.{SharedPart}
 use Rattle.lx_serve.specs.Room.{taken_by}
 use Rattle.lx_serve.specs.Served.{is_ended}
-use Rattle.lx_serve.specs.Stands.{StandsForState, Serves}
+use Rattle.lx_serve.specs.Stands.{IsUndecided, StandsForState, Serves, program_of}
+use Rattle.lx_world.specs.Answers.{AnswerLaws}
 use Rattle.lx_world.specs.Worlds.{HasTurned, StandsFor}
 use Rattle.lx_world.proofs.Calls.{room_of_ends}
 
@@ -154,3 +155,23 @@ turned_ends stands laws p t s x old new mid after q answer st few on asks is ser
 
 pub has_work_of : (p : Program) (t : ℕ) (r : Runner) (x : Thread) → StandsFor p t r x → IsTrue (has_call (calls_left r)) → IsTrue (has_work x)
 has_work_of p t r x st work = ap has_call (sym st.runs.calls) ∙ work
+
+pub answer_laws : AnswerLaws
+answer_laws = record { answers = serve_answers }
+
+-- what is served for the part's own program is served for each that it stands for
+module _ {C : Type 0} (stands : C → History → Type 0) (old : SharedPart C) (t : ℕ) (r : Request) where
+  pub served_for : (new : SharedPart C) (answer : Reply)
+      → ((s : State) → StandsForState stands (program_of old) old s → is_servable (program_of old) t r ≡ true → Serves stands (program_of old) new answer (serve (program_of old) s t r))
+      → (p : Program) (s : State) → StandsForState stands p old s → is_servable p t r ≡ true → Serves stands p new answer (serve p s t r)
+  served_for new answer serves p s st =
+      subst (λ (q : Program). (x : State) → StandsForState stands q old x → is_servable q t r ≡ true → Serves stands q new answer (serve q x t r)) st.program serves s st
+
+  pub stays_for : (new : SharedPart C)
+      → ((s : State) → StandsForState stands (program_of old) old s → StandsForState stands (program_of old) new s)
+      → (p : Program) (s : State) → StandsForState stands p old s → StandsForState stands p new s
+  stays_for new stays p s st = subst (λ (q : Program). (x : State) → StandsForState stands q old x → StandsForState stands q new x) st.program stays s st
+
+  pub undecided_for : ((s : State) → StandsForState stands (program_of old) old s → IsUndecided (program_of old) s t r.who r.what)
+      → (p : Program) (s : State) → StandsForState stands p old s → IsUndecided p s t r.who r.what
+  undecided_for none p s st = subst (λ (q : Program). (x : State) → StandsForState stands q old x → IsUndecided q x t r.who r.what) st.program none s st

@@ -1,2 +1,4 @@
 pub mod Worlds
+pub mod Parts
+pub mod Answers
 pub mod Accounts

@@ -31,7 +31,7 @@ AllStand p t (r ∷ rs) (x ∷ xs) = StandsFor p t r x × AllStand p (suc t) rs 
 
 -- the shared part stands for the state, and the runners for the threads
 pub record StandsForWorld {C : Type 0} (stands : C → History → Type 0) (p : Program) (w : World C) (m : Meaning) : Type 0 where
-  pub program : w.linked.code ≡ p
+  pub program : w.code ≡ p
   pub shared : StandsForState stands p w.shared m.state
   pub threads : AllStand p 0 w.runners.list.items m.threads
 
@@ -47,7 +47,7 @@ pub record HasStayed {C : Type 0} (stands : C → History → Type 0) (p : Progr
 
 -- the program that runs
 abbrev pub program_of : {C : Type 0} → World C → Program
-program_of w = w.linked.code
+program_of w = w.code
 
 -- how many events the world may still have
 abbrev pub events_in : {C : Type 0} → World C → ℕ

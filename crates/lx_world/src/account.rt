@@ -38,7 +38,7 @@ impl<C: CapStore + Drop> World<C> {
         requires images { images ≡ map (image_count (program_of self.now)) (below (length (program_of self.now).modules)) }
         ensures { IfOk result (λ a. (p : Program) (w : Meaning) → StandsForWorld C.stands p self.now w → a ≡ account p w) }
     {
-        let program = self.linked.code.program();
+        let program = self.code.program();
         let modules = number_of(program.modules.len())?;
         let types = number_of(program.interface.reftypes.len())?;
         let outcomes = outcomes(alloc, self.runners.list.as_slice())?;

@@ -4,7 +4,7 @@
 mod account;
 mod fault;
 mod instances;
-mod linked;
+mod laws;
 mod outcomes;
 mod owners;
 mod runners;
@@ -12,6 +12,6 @@ mod turn;
 mod world;
 
 pub use fault::EventFault;
-pub use linked::LinkedCode;
+pub use laws::answer_laws;
 pub use runners::Runners;
 pub use world::World;

@@ -17,6 +17,7 @@ pub struct Runners {
 }
 
 impl Runners {
+    ghost use Rattle.lx_world.specs.Parts.{list_of};
     ghost use Rattle.lx_world.specs.Worlds.{AllStand, script_calls, script_events};
 
     /// A runner for each list of calls.
@@ -33,5 +34,22 @@ impl Runners {
             list.push(runner)?;
         }
         Ok(Runners { list })
+    }
+
+    /// The runners by value, by thread.
+    pub fn into_list(self) -> Vec<Runner>
+        ensures list { result.items ≡ list_of self }
+        ensures few { length result.items ≤ 16 }
+    {
+        let Runners { list } = self;
+        list
+    }
+
+    /// The runners of a list, by thread.
+    pub fn of_list(list: Vec<Runner>) -> Runners
+        requires { length list.items ≤ 16 }
+        ensures { list_of result ≡ list.items }
+    {
+        Runners { list }
     }
 }

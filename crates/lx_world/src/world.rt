@@ -10,7 +10,6 @@ ghost use Rattle.lx_serve.specs.Stands.{StandsForState};
 ghost use Rattle.lx_world.specs.Worlds.{AllStand, is_idle, script_calls, script_events};
 
 use crate::fault::EventFault;
-use crate::linked::LinkedCode;
 use crate::runners::Runners;
 use crate::turn::turn;
 use lx_caps::CapStore;
@@ -25,7 +24,7 @@ use std::alloc::Global;
 pub struct World<C: CapStore + Drop> {
     pub(crate) shared: SharedPart<C>,
     pub(crate) runners: Runners,
-    pub(crate) linked: LinkedCode,
+    pub(crate) code: Code,
 }
 
 /// The sum of two counts, if a number can tell it.
@@ -106,9 +105,9 @@ impl<C: CapStore + Drop> World<C> {
     ghost use Rattle.lx_model.specs.World.{World as Meaning, event, can_act, is_done, opening};
     ghost use Rattle.lx_model.specs.Account.{schedule_of};
     ghost use Rattle.lx_model.specs.Opening.{opening_state};
+    ghost use Rattle.lx_world.specs.Parts.{AreParts};
     ghost use Rattle.lx_world.specs.Worlds.{HasEndsRoom, HasRoom, StandsForWorld, program_of, events_in, is_idle_at, script_events};
     ghost use Rattle.lx_serve.specs.Room.{journal_room};
-    ghost use Rattle.lx_serve.specs.Sources.{IsLinked};
     ghost use Rattle.lx_serve.specs.Stands.{StandsForState};
     ghost use Rattle.lx_world.specs.declared.fault.EventFault.{EventFault};
 
@@ -124,7 +123,6 @@ impl<C: CapStore + Drop> World<C> {
         script: Vec<Calls>,
         shared: SharedPart<C>,
     ) -> Result<Self, Memory>
-        requires linked { IsLinked code }
         requires opened { StandsForState C.stands code shared (opening_state code) }
         requires threads { length script.items ≤ 16 }
         ensures opens { IfOk result (λ world. StandsForWorld C.stands code world (opening code script.items)) }
@@ -138,7 +136,7 @@ impl<C: CapStore + Drop> World<C> {
             Ok(runners) => Ok(World {
                 shared,
                 runners,
-                linked: LinkedCode { code },
+                code,
             }),
             Err(why) => {
                 drop(code);
@@ -152,7 +150,7 @@ impl<C: CapStore + Drop> World<C> {
     pub fn program(&self) -> &Program
         ensures { result.now ≡ program_of self.now }
     {
-        self.linked.code.program()
+        self.code.program()
     }
 
     fn is_idle(&self, place: usize) -> bool
@@ -187,7 +185,7 @@ impl<C: CapStore + Drop> World<C> {
         turn(
             &mut self.shared,
             &mut self.runners.list[place],
-            &self.linked,
+            &self.code,
             thread,
         )?;
         Ok(())
@@ -205,5 +203,28 @@ impl<C: CapStore + Drop> World<C> {
         ensures { (p : Program) (w : Meaning) → StandsForWorld C.stands p self.now w → result.now ≡ schedule_of w }
     {
         self.shared.threads()
+    }
+
+    /// What its threads share, their runners, and the code that they run.
+    pub fn into_parts(self) -> (SharedPart<C>, Runners, Code)
+        ensures { AreParts self result.0 result.1 result.2 }
+    {
+        let World {
+            shared,
+            runners,
+            code,
+        } = self;
+        (shared, runners, code)
+    }
+
+    /// The world of these parts.
+    pub fn from_parts(shared: SharedPart<C>, runners: Runners, code: Code) -> Self
+        ensures { AreParts result shared runners code }
+    {
+        World {
+            shared,
+            runners,
+            code,
+        }
     }
 }

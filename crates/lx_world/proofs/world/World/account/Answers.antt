@@ -32,7 +32,7 @@ instance_names-requires g c =
 
 pub returns : goal.returns
 returns g c = λ p w s.
-    let code = c.args.self.now.linked.code in
+    let code = c.args.self.now.code in
     let h = w.state.history in
     let whole = c.program-program.ensures.whole in
     let kept = ap (λ (x : Instances). x.names) (c.names-instances.ensures p w.state s.shared) in
