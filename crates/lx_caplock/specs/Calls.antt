@@ -1,6 +1,6 @@
 -- What the calls of the lock promise, by what a seat knows before and behind them. In each, the first view is the seat before the
 -- call. Legal and left are said from the part that the lock was opened with.
-use Rattle.std.specs.Prelude.{◌≡◌, ◌≢◌, ◌⊎◌, ℕ, ◌+◌, ◌<◌, ◌≤◌, List, [], ◌∷◌, ◌++◌}
+use Rattle.std.specs.Prelude.{◌≡◌, ◌≢◌, ◌⊎◌, ℕ, ◌+◌, ◌≤◌, ◌<◌, List, [], ◌∷◌, ◌++◌}
 use Rattle.std.specs.Prelude as std
 use Rattle.lx_model.specs.declared.request.Reply.{Reply}
 use Rattle.lx_model.specs.declared.request.Request.{Request}
@@ -50,27 +50,10 @@ pub record IsSplit {T : Type 0} (v w u : View T) : Type 0 where
 abbrev pub IsFull : {T : Type 0} → View T → View T → Type 0
 IsFull v w = w ≡ with_numbers_out v v.seats
 
--- a number that was drawn in vain: it was not out when the seat last looked, is out now, and has no entry
-pub record IsLost {T : Type 0} (v w : View T) (n : ℕ) : Type 0 where
-  pub ended : w.ended ≡ n ∷ v.ended
-  pub number : v.out ≤ n
-  pub out : n < w.out
-  pub no_entry : entries_of n w.seen ≡ []
-
--- there was no memory for a further seat
-pub record SplitFailed {T : Type 0} (v w : View T) : Type 0 where
-  pub opened_part : w.opened_part ≡ v.opened_part
-  pub seats : w.seats ≡ v.seats
-  pub number : w.number ≡ v.number
-  pub seen : w.seen ≡ v.seen
-  pub mine : w.mine ≡ v.mine
-  pub out : v.out ≤ w.out
-  pub lost : (w.ended ≡ v.ended) ⊎ ((n : ℕ) × IsLost v w n)
-
--- why there is no further seat
+-- why there is no further seat: all numbers are out, and never for want of memory
 abbrev pub IsUnsplit : {T : Type 0} → View T → View T → SplitFault → Type 0
 IsUnsplit v w NoSeat = IsFull v w
-IsUnsplit v w Memory = SplitFailed v w
+IsUnsplit v w Memory = ⊥
 
 -- the seat that took in another one (w; u is the seat behind the call) has seen all that both had seen, and has the other's numbers,
 -- which are none of its own

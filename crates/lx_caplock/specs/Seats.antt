@@ -31,7 +31,7 @@ module _ {T : Type 0} where
   abbrev pub mine_of : Seat T → List Entry
   mine_of seat = seat.place.me.0.mine
 
-  -- the numbers of the seats that were joined into it, and those that were drawn in vain
+  -- the numbers of the seats that were joined into it, directly or through others
   abbrev pub ended_of : Seat T → List ℕ
   ended_of seat = seat.place.me.0.ended
 

@@ -32,7 +32,7 @@ impl<T: Part + Drop> CapLock<T> {
     /// A further seat, with a number that no seat had before. It has seen what the dividing seat has seen, and asked nothing.
     ///
     /// # Errors
-    /// `NoSeat` where all numbers are out, which the seat then knows. `Memory` leaves what the seat has seen and asked.
+    /// `NoSeat` where all numbers are out, which the seat then knows. It is never `Memory`.
     pub fn split<R: Wait>(&self, rt: &R, seat: &mut Seat<T>) -> Result<Seat<T>, SplitFault>
         requires { IsSeatOf self.now seat.old }
         ensures of { IsSeatOf self.now seat.new }

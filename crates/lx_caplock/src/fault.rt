@@ -7,7 +7,7 @@ pub enum SplitFault {
     /// All numbers are out.
     #[error("no seat is left")]
     NoSeat,
-    /// There was not enough memory. A further seat takes none today, so nothing answers this yet.
+    /// There was not enough memory. No seat takes any, so this is never answered.
     #[error("out of memory")]
     Memory,
 }
