@@ -1,0 +1,50 @@
+use Rattle.std.proofs.Common.{rules, ◌≡◌, ◌∙◌, sym, subst}
+use Rattle.lx_serve.specs.Stands.{program_of}
+use Rattle.lx_workers.specs.Monitor.{world_behind}
+use Rattle.lx_workers.specs.Working.{AllStand}
+use Rattle.lx_world.specs.Worlds.{StandsFor}
+use Rattle.lx_threads.specs.declared.runner.ThreadCode.{ThreadCode}
+use denote.Exit.{no}
+use denote.Param.Send.{sendable, param_send, arg_send}
+use Rattle.std.proofs.Crossing.{crosses}
+use Rattle.lx_serve.proofs.Crossing.{part_send}
+use Rattle.lx_threads.proofs.Crossing.{text_sync}
+use Rattle.lx_threads.proofs.Worlds.{parts_of, has_run}
+use Rattle.lx_threads.proofs.run.run_threads.Goals as goal
+
+pub run_workers-requires-clause-may : goal.run_workers-requires-clause-may
+run_workers-requires-clause-may g c κs within =
+    let st = c.requires.stands in
+    let parts = parts_of g.C.CapStore.stands st.0 c.args.world st.1 c.into_parts-shared.result.0 c.into_parts-shared.result.1 c.into_parts-shared.result.2 c.into_list.result.items st.2 c.into_parts-shared.ensures c.into_list.ensures.list in
+    record {
+      same = parts.state.program ∙ sym parts.program;
+      state = (st.1.state, parts.own);
+      threads = (st.1.threads, parts.threads);
+      served = λ p t r fits. fits;
+    }
+
+pub returns-then-done : goal.returns-then-done
+returns-then-done g c =
+    let h = c.in_ok-part.ensures in
+    let text : ThreadCode = record { code = c.into_parts-shared.result.2 } in
+    record {
+      runs = record {
+        history = h.history;
+        runs = λ p before st.
+            let parts = parts_of g.C.CapStore.stands p c.args.world before c.into_parts-shared.result.0 c.into_parts-shared.result.1 c.into_parts-shared.result.2 c.into_list.result.items st c.into_parts-shared.ensures c.into_list.ensures.list in
+            let came = h.comes before.state before.threads parts.own parts.threads in (
+              world_behind p before h.history came.0,
+              has_run g.C.CapStore.stands c.monitor_laws.ensures p (program_of c.into_parts-shared.result.0) c.in_ok-part.part c.of_list.result text c.from_parts-done.result before came.0 h.history parts.program parts.state.program
+                  (h.same ∙ parts.state.program) came.1.events came.1.state
+                  (subst (λ l. AllStand (λ (k : ThreadCode) t r x. StandsFor k.code t r x) text 0 l came.0) (sym c.of_list.ensures) came.1.threads)
+                  c.from_parts-done.ensures
+                  (λ q w s. sym c.if-done.true ∙ c.done.ensures q w s),
+            );
+      };
+    }
+
+pub run_workers-requires-sync-K : goal.run_workers-requires-sync-K
+run_workers-requires-sync-K g c κs within = search (text_sync, crosses, sendable) depth 60 fits 20000
+
+pub run_workers-requires-send-T : goal.run_workers-requires-send-T
+run_workers-requires-send-T g c κs within = param_send 0 _ (arg_send _ no _ (part_send _ c.type_bounds.send-C))
