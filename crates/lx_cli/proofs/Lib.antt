@@ -5,6 +5,5 @@ pub mod Replays
 pub mod Reported
 pub mod Statuses
 pub mod Telling
-pub mod Threads
 pub mod Turns
 pub mod Written

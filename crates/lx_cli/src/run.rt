@@ -2,13 +2,13 @@
 ghost use Rattle.std.specs.Prelude.{◌≡◌, ◌<◌, ◌≤◌, ℕ, List, [], Bool, Some, None, true, false, IfOk, OnOk, length, option_copied};
 ghost use Rattle.lx_model.specs.declared.program.Program.{Program};
 ghost use Rattle.lx_model.specs.declared.program.ScriptCall.{ScriptCall};
-ghost use Rattle.lx_model.specs.World.{World as Meaning, opening, run, is_whole, can_act};
+ghost use Rattle.lx_model.specs.World.{World as Meaning, opening, run};
 ghost use Rattle.lx_link_texts.specs.WellFormed.{IsWellFormed};
 ghost use Rattle.lx_input.specs.Laws.{IsReady};
 ghost use Rattle.lx_world.specs.Worlds.{StandsForWorld};
 ghost use Rattle.lx_report.specs.Laws.{IsSchedule};
 ghost use Rattle.lx_cli.specs.Answer.{IsAccountOf, is_returned, all_returned, broken_at};
-ghost use Rattle.lx_cli.specs.Runs.{images_of, is_lawful};
+ghost use Rattle.lx_cli.specs.Runs.{images_of};
 ghost use Rattle.lx_cli.specs.Told.{TellsRun};
 
 use crate::answer::Answer;
@@ -18,36 +18,23 @@ use lx_input::Input;
 use lx_model::account::{CallOutcome, ImageCount};
 use lx_model::request::Outcome;
 use lx_opening::open_world;
+use lx_outside::Gate;
 use lx_plain_runs::run_laws;
 use lx_report::{report, report_laws};
 use lx_tables::image_counts;
+use lx_threads::run_threads;
 use lx_words::{Items, Memory, Name, Schedule};
 use lx_world::{EventFault, World};
 use std::alloc::Global;
+use std::sync::Wait;
+use std::thread::Threads;
 
-/// Runs a thread until it has no call left.
-fn run_thread<C: CapStore + Drop>(world: &mut World<C>, thread: u32) -> Result<(), Memory>
-    ensures { OnOk result ((p : Program) (w : Meaning) → StandsForWorld C.stands p world.old w
-        → (s : List ℕ) × (is_lawful p s w ≡ true) × StandsForWorld C.stands p world.new (run p s w) × (can_act (run p s w) thread ≡ false)) }
-{
-    loop {
-        match world.event(thread) {
-            Ok(()) => {}
-            Err(EventFault::NoWork { .. }) => return Ok(()),
-            Err(EventFault::Memory) => return Err(Memory),
-        }
-    }
-}
-
-/// Runs the threads one after the other.
-fn run_threads<C: CapStore + Drop>(world: &mut World<C>, count: u32) -> Result<(), Memory>
-    ensures { OnOk result ((p : Program) (w : Meaning) → StandsForWorld C.stands p world.old w → length w.threads ≡ count
-        → (s : List ℕ) × (is_whole p s w ≡ true) × StandsForWorld C.stands p world.new (run p s w)) }
-{
-    for thread in 0..count {
-        run_thread(world, thread)?;
-    }
-    Ok(())
+/// Where a run takes place: the handle by which threads are made and wait, the allocator, and the gate that threads pass.
+#[derive(Drop)]
+pub(crate) struct Host<'a, R, G> {
+    pub(crate) rt: &'a R,
+    pub(crate) alloc: Global,
+    pub(crate) gate: &'a G,
 }
 
 /// Runs the threads in the order of a schedule. Where it is not whole, the answer is its first entry, counted from 0,
@@ -109,21 +96,20 @@ fn report_of<C: CapStore + Drop>(
     Ok(Answer::Report(Name::from_vec(text), returned))
 }
 
-/// Runs the threads one after the other, and reports.
-fn run_world<C: CapStore + Drop>(
-    alloc: Global,
-    world: &mut World<C>,
-    threads: u32,
+/// Runs the threads beside each other, and reports.
+fn run_world<C: CapStore + Drop + Send, R: Threads + Wait + Sync, G: Gate + Sync>(
+    host: &Host<'_, R, G>,
+    world: World<C>,
     images: Items<ImageCount>,
 ) -> Result<Answer, Memory>
-    requires { (p : Program) × (script : List (List ScriptCall)) × StandsForWorld C.stands p world.old (opening p script)
-        × IsWellFormed p × (images ≡ images_of p) × (length script ≡ threads) × (length script ≤ 16) }
-    ensures { IfOk result (λ a. (p : Program) (script : List (List ScriptCall)) → StandsForWorld C.stands p world.old (opening p script)
-        → length script ≡ threads → TellsRun p script None a) }
+    requires { (p : Program) × (script : List (List ScriptCall)) × StandsForWorld C.stands p world (opening p script)
+        × IsWellFormed p × (images ≡ images_of p) }
+    ensures { IfOk result (λ a. (p : Program) (script : List (List ScriptCall)) → StandsForWorld C.stands p world (opening p script)
+        → length script ≤ 16 → TellsRun p script None a) }
 {
     run_laws();
-    run_threads(world, threads)?;
-    report_of(alloc, world, images)
+    let done = run_threads(host.rt, host.alloc, world, host.gate)?;
+    report_of(host.alloc, &done, images)
 }
 
 /// Runs the threads in the order of a schedule, and reports where it is whole.
@@ -145,44 +131,46 @@ fn replay_world<C: CapStore + Drop>(
     }
 }
 
-/// Runs the threads under the schedule that is replayed, or else one after the other, and reports.
-fn run_asked<C: CapStore + Drop>(
-    alloc: Global,
-    world: &mut World<C>,
-    threads: u32,
-    schedule: Option<Schedule>,
-    images: Items<ImageCount>,
-) -> Result<Answer, Memory>
-    requires { (p : Program) × (script : List (List ScriptCall)) × StandsForWorld C.stands p world.old (opening p script)
-        × IsWellFormed p × (images ≡ images_of p) × (length script ≡ threads) × (length script ≤ 16) }
-    ensures { IfOk result (λ a. (p : Program) (script : List (List ScriptCall)) → StandsForWorld C.stands p world.old (opening p script)
-        → length script ≡ threads → length script ≤ 16 → TellsRun p script schedule a) }
-{
-    match schedule {
-        None => run_world(alloc, world, threads, images),
-        Some(schedule) => replay_world(alloc, world, schedule.as_slice(), images),
-    }
-}
-
-/// The same of a world that is given up behind it. A world is dropped nowhere else: each place where one is costs much to
-/// prove, and beside other code more.
-fn run_opened<C: CapStore + Drop>(
+/// The same of a world that is given up behind it. A world that is replayed is dropped nowhere else: each place where one is
+/// costs much to prove, and beside other code more.
+fn replay_opened<C: CapStore + Drop>(
     alloc: Global,
     mut world: World<C>,
-    threads: u32,
+    schedule: &[u32],
+    images: Items<ImageCount>,
+) -> Result<Answer, Memory>
+    requires { (p : Program) × (script : List (List ScriptCall)) × StandsForWorld C.stands p world (opening p script)
+        × IsWellFormed p × (images ≡ images_of p) }
+    ensures { IfOk result (λ a. (p : Program) (script : List (List ScriptCall)) → StandsForWorld C.stands p world (opening p script)
+        → length script ≤ 16 → TellsRun p script (Some schedule.now) a) }
+{
+    replay_world(alloc, &mut world, schedule, images)
+}
+
+/// Runs the threads under the schedule that is replayed, or else beside each other, and reports.
+fn run_opened<C: CapStore + Drop + Send, R: Threads + Wait + Sync, G: Gate + Sync>(
+    host: &Host<'_, R, G>,
+    world: World<C>,
     schedule: Option<Schedule>,
     images: Items<ImageCount>,
 ) -> Result<Answer, Memory>
     requires { (p : Program) × (script : List (List ScriptCall)) × StandsForWorld C.stands p world (opening p script)
-        × IsWellFormed p × (images ≡ images_of p) × (length script ≡ threads) × (length script ≤ 16) }
+        × IsWellFormed p × (images ≡ images_of p) }
     ensures { IfOk result (λ a. (p : Program) (script : List (List ScriptCall)) → StandsForWorld C.stands p world (opening p script)
-        → length script ≡ threads → length script ≤ 16 → TellsRun p script schedule a) }
+        → length script ≤ 16 → TellsRun p script schedule a) }
 {
-    run_asked(alloc, &mut world, threads, schedule, images)
+    match schedule {
+        None => run_world(host, world, images),
+        Some(schedule) => replay_opened(host.alloc, world, schedule.as_slice(), images),
+    }
 }
 
 /// Runs an input over a store of capabilities, and reports.
-fn run_over<C: CapStore + Drop>(alloc: Global, input: Input, caps: C) -> Result<Answer, Memory>
+fn run_over<C: CapStore + Drop + Send, R: Threads + Wait + Sync, G: Gate + Sync>(
+    host: &Host<'_, R, G>,
+    input: Input,
+    caps: C,
+) -> Result<Answer, Memory>
     requires ready { IsReady input }
     requires new { C.stands caps [] }
     ensures { IfOk result (TellsRun input.program input.script input.schedule) }
@@ -193,20 +181,22 @@ fn run_over<C: CapStore + Drop>(alloc: Global, input: Input, caps: C) -> Result<
         annotated,
         schedule,
     } = input;
-    let threads = script.len() as u32;
     let annotated = annotated.as_slice();
-    let images = image_counts(alloc, &program, annotated)?;
-    let world = open_world(alloc, program, script.into_vec(), annotated, caps)?;
-    run_opened(alloc, world, threads, schedule, images)
+    let images = image_counts(host.alloc, &program, annotated)?;
+    let world = open_world(host.alloc, program, script.into_vec(), annotated, caps)?;
+    run_opened(host, world, schedule, images)
 }
 
 /// Runs an input, under the schedule that is replayed where there is one, and reports.
-pub(crate) fn run_input(alloc: Global, input: Input) -> Result<Answer, Memory>
+pub(crate) fn run_input<R: Threads + Wait + Sync, G: Gate + Sync>(
+    host: &Host<'_, R, G>,
+    input: Input,
+) -> Result<Answer, Memory>
     requires { IsReady input }
     ensures { IfOk result (TellsRun input.program input.script input.schedule) }
 {
-    match CapTables::new(alloc) {
-        Ok(caps) => run_over(alloc, input, caps),
+    match CapTables::new(host.alloc) {
+        Ok(caps) => run_over(host, input, caps),
         Err(_) => {
             drop(input);
             Err(Memory)

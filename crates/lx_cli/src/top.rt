@@ -14,7 +14,7 @@ ghost use Rattle.lx_cli.specs.Told.{TellsInput};
 
 use crate::answer::{Answer, answer_text, status_of};
 use crate::command::{Command, command_of};
-use crate::run::run_input;
+use crate::run::{Host, run_input};
 use lx_input::{InputStop, one_input, read_input};
 use lx_outside::{Gate, Shelf, Sink, put_all};
 use lx_words::Memory;
@@ -59,28 +59,28 @@ fn stopped(stop: InputStop) -> Result<Answer, Memory>
 }
 
 /// The answer to a command: what the first fault of its files is, which file was not read, or what its run was.
-fn answer_to<S: Shelf>(
-    alloc: Global,
+fn answer_to<R: Threads + Wait + Sync, S: Shelf, G: Gate + Sync>(
+    host: &Host<'_, R, G>,
     shelf: &mut S,
     command: &Command<'_>,
 ) -> Result<Answer, Memory>
     ensures answer { IfOk result (λ a. (files : List FileText) → S.files shelf.old ≡ Some files → TellsInput (InputTurn files command.now.case command.now.schedule) a) }
     ensures unread { (file : List ℕ) → result ≡ Ok (Answer.Unread file) → S.faults shelf.new ≡ S.faults shelf.old ++ file ∷ [] }
 {
-    match read_input(alloc, shelf, command.case, command.schedule) {
-        Ok(input) => run_input(alloc, input),
+    match read_input(host.alloc, shelf, command.case, command.schedule) {
+        Ok(input) => run_input(host, input),
         Err(stop) => stopped(stop),
     }
 }
 
 /// All that the program does: its words, its shelf of files and its sink. Its answer is the exit status.
 pub fn lxfi<R: Threads + Wait + Sync, S: Shelf, K: Sink, G: Gate + Sync>(
-    _rt: &R,
+    rt: &R,
     alloc: Global,
     words: &[String],
     shelf: &mut S,
     sink: &mut K,
-    _gate: &G,
+    gate: &G,
 ) -> u8
     // With status 0 or 1 the sink gained the report of the monitor's run of the program as it is written, under the
     // schedule that the report prints. What each act of that run needed was held, what was not held was refused, and
@@ -126,7 +126,8 @@ pub fn lxfi<R: Threads + Wait + Sync, S: Shelf, K: Sink, G: Gate + Sync>(
     let Some(command) = command_of(words) else {
         return put(sink, USAGE.as_bytes(), 2);
     };
-    let Ok(answer) = answer_to(alloc, shelf, &command) else {
+    let host = Host { rt, alloc, gate };
+    let Ok(answer) = answer_to(&host, shelf, &command) else {
         return WANT_OF_MEMORY;
     };
     let status = status_of(&answer);

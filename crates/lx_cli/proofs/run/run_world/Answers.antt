@@ -1,7 +1,7 @@
-use Rattle.std.proofs.Common.{◌≡◌, ◌≤◌, length, map, arith, None}
-use Rattle.std.proofs.lemmas.List.{length-map}
-use Rattle.lx_model.specs.Thread.{fresh_thread}
-use Rattle.lx_model.specs.World.{opening, run}
+use Rattle.std.proofs.Common.{subst, None}
+use Rattle.lx_model.specs.World.{World as Meaning, opening, run}
+use Rattle.lx_world.specs.Worlds.{StandsForWorld}
+use Rattle.lx_workers.specs.Monitor.{threads_of}
 use Rattle.lx_cli.proofs.Reported.{if_ok, told_of}
 use Rattle.lx_cli.proofs.run.run_world.Goals as goal
 
@@ -9,17 +9,14 @@ use Rattle.lx_cli.proofs.run.run_world.Goals as goal
 pub report_of-requires : goal.report_of-requires
 report_of-requires g c =
     let given = c.requires in
-    let start = opening given.0 given.1 in
-    let many : length (map fresh_thread given.1) ≡ c.args.threads = simp length-map given.5 in
-    let ran = c.in_ok-run_threads.ensures given.0 start given.2 many in (given.0, run given.0 ran.0 start, ran.2, given.3, given.4)
+    let ran = c.in_ok-done.ensures.runs.runs given.0 (opening given.0 given.1) given.2 in (given.0, ran.0, ran.1.stands_for, given.3, given.4)
 
 pub returns : goal.returns
 returns g c =
-    if_ok c.report_of.result (λ a said. λ p script stands threads.
+    if_ok c.report_of.result (λ a said. λ p script stands few.
     let start = opening p script in
-    let many : length (map fresh_thread script) ≡ c.args.threads = simp length-map threads in
-    let ran = c.in_ok-run_threads.ensures p start stands many in
-    let few : length script ≤ 16 = omega (arith, threads, c.requires.5, c.requires.6) in
-    told_of p script ran.0 None a ran.1 tt (c.run_laws.ensures.authorised p ran.0 start)
-    (c.run_laws.ensures.plain p script ran.0 few stands.shared.keeps.history.placed)
-    (said.0, said.1, said.2, said.3 p (run p ran.0 start) ran.2)) c.report_of.ensures
+    let schedule = threads_of c.in_ok-done.ensures.runs.history in
+    let ran = c.in_ok-done.ensures.runs.runs p start stands in
+    told_of p script schedule None a ran.1.whole tt (c.run_laws.ensures.authorised p schedule start)
+    (c.run_laws.ensures.plain p script schedule few stands.shared.keeps.history.placed)
+    (said.0, said.1, said.2, said.3 p (run p schedule start) (subst (λ (w : Meaning). StandsForWorld g.C.CapStore.stands p c.in_ok-done.done w) ran.1.run.run ran.1.stands_for))) c.report_of.ensures
