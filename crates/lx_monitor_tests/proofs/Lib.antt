@@ -1,1 +1,3 @@
 pub mod Programs
+mod Alone
+mod Callers

@@ -25,6 +25,16 @@ module_with fs = record { types = []; globals = []; functions = fs }
 abbrev pub interface_with : List (List ℕ) → List Slot → Interface
 interface_with reftypes slots = record { reftypes = reftypes; iterators = []; slots = slots; fields = []; exports = [] }
 
+-- a program that defines nothing
+abbrev pub empty : Program
+empty = record {
+  kernel = module_with [];
+  modules = [];
+  functions = [];
+  globals = [];
+  interface = interface_with [] [];
+}
+
 -- a program of one function, which its module defines
 abbrev pub one_function : Function → Program
 one_function f = record {

@@ -2,7 +2,7 @@
 ghost use Rattle.std.specs.Prelude.{◌≡◌, ◌∷◌, [], None, IfOk};
 ghost use Rattle.lx_monitor_tests.specs.Programs.{function_with, import_with, naming, naming_kernel, naming_module};
 
-use crate::common::{function_with, interface_with, module_with, modules_with, slot_with};
+use crate::common::{function_with, interface_with, module_with, modules_with, owned, slot_with};
 use lx_annot::interface::Slot;
 use lx_code::{Code, Target, cut};
 use lx_ir::module::Function;
@@ -113,6 +113,7 @@ fn naming(alloc: Global) -> Result<Program, Memory>
 #[tactic(auto, using(crate::proofs::Programs::naming_within_reach, crate::proofs::Programs::naming_counts))]
 fn code(alloc: Global) -> Result<Code, Memory> {
     let program = naming(alloc)?;
+    let program = owned(alloc, program)?;
     let code = Code::new(alloc, program, Vec::new(alloc))?;
     Ok(code)
 }

@@ -1,9 +1,10 @@
 //! Small programs, built by hand: a kernel and one module, which have no types and no globals.
 ghost use Rattle.std.specs.Prelude.{◌≡◌, ◌∷◌, [], IfOk};
+ghost use Rattle.std.specs.Arc.{arc_value};
 ghost use Rattle.lx_caps.specs.History.{History};
 ghost use Rattle.lx_model.specs.Opening.{opening_history, opening_state, with_globals};
 ghost use Rattle.lx_monitor_tests.specs.Programs.{function_with, interface_with, module_with, one_function, slot_with};
-ghost use Rattle.lx_serve.specs.Sources.{Knows};
+ghost use Rattle.lx_serve.specs.Sources.{IsLinked, Knows};
 ghost use Rattle.lx_serve.specs.Stands.{StandsForState};
 ghost use Rattle.lx_writers.specs.Stands.{StandsRecorded};
 
@@ -19,6 +20,7 @@ use lx_serve::SharedPart;
 use lx_words::{Items, Memory, Name, Names};
 use lx_writers::Recorded;
 use std::alloc::Global;
+use std::sync::Arc;
 use std::test::Fail;
 
 /// A function without parameters that has no instruction.
@@ -109,6 +111,19 @@ pub fn one_function(alloc: Global, function: Function) -> Result<Program, Memory
     })
 }
 
+/// A program that others may own too.
+pub fn owned(alloc: Global, program: Program) -> Result<Arc<Program>, Memory>
+    ensures { IfOk result (λ owner. arc_value owner ≡ program) }
+{
+    match Arc::new(alloc, program) {
+        Ok(owner) => Ok(owner),
+        Err(failed) => {
+            drop(failed);
+            Err(Memory)
+        }
+    }
+}
+
 /// A call of function 0 with this fuel.
 pub fn call_with(alloc: Global, fuel: u32) -> ScriptCall {
     ScriptCall {
@@ -122,13 +137,14 @@ pub fn call_with(alloc: Global, fuel: u32) -> ScriptCall {
 #[tactic(auto, unfolding(lx_actions::specs::Shown::IsShownBy))]
 pub fn part_of<C: CapStore + Drop>(
     alloc: Global,
-    program: &Program,
+    program: Arc<Program>,
     caps: Recorded<C>,
 ) -> Result<SharedPart<C>, Fail>
-    requires written { with_globals program.now program.now.globals [] ≡ [] }
-    requires owned { StandsRecorded C.stands caps (opening_history program.now) }
-    requires known { Knows program.now [] }
-    ensures { IfOk result (λ part. StandsForState C.stands program.now part (opening_state program.now)) }
+    requires linked { IsLinked (arc_value program) }
+    requires written { with_globals (arc_value program) (arc_value program).globals [] ≡ [] }
+    requires owned { StandsRecorded C.stands caps (opening_history (arc_value program)) }
+    requires known { Knows (arc_value program) [] }
+    ensures { IfOk result (λ part. StandsForState C.stands (arc_value program) part (opening_state (arc_value program))) }
 {
     let space = Space::new(alloc)?;
     let part = SharedPart::open(alloc, program, space, caps, Vec::new(alloc), 30)?;

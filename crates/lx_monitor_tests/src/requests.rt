@@ -1,9 +1,10 @@
 //! Requests as the monitor answers them, one after the other.
 ghost use Rattle.std.specs.Prelude.{◌≡◌, ◌∷◌, [], IfOk};
 ghost use Rattle.lx_monitor_tests.specs.Programs.{slotted};
-ghost use Rattle.lx_serve.specs.Sources.{IsLinked};
 
-use crate::common::{function_with, interface_with, module_with, modules_with, part_of, slot_with};
+use crate::common::{
+    function_with, interface_with, module_with, modules_with, owned, part_of, slot_with,
+};
 use lx_caps::{PlainCaps, Principal};
 use lx_model::program::{Program, ProgramFunction};
 use lx_model::request::{Outcome, Refusal, Reply, Request, Trap, Way, What};
@@ -198,10 +199,11 @@ fn program(alloc: Global) -> Result<Program, Memory>
     })
 }
 
-#[tactic(auto, using(crate::proofs::Programs::slotted_blank, crate::proofs::Programs::slotted_owns, crate::proofs::Programs::slotted_known))]
-fn part(alloc: Global, program: &Program) -> Result<SharedPart<PlainCaps>, Fail>
-    requires { program.now ≡ slotted }
+#[tactic(auto, using(crate::proofs::Programs::slotted_blank, crate::proofs::Programs::slotted_owns, crate::proofs::Programs::slotted_known, crate::proofs::Programs::slotted_linked))]
+fn part(alloc: Global, program: Program) -> Result<SharedPart<PlainCaps>, Fail>
+    requires { program ≡ slotted }
 {
+    let program = owned(alloc, program)?;
     let caps = Recorded::new(alloc, PlainCaps::new(alloc));
     let part = part_of(alloc, program, caps)?;
     Ok(part)
@@ -210,16 +212,13 @@ fn part(alloc: Global, program: &Program) -> Result<SharedPart<PlainCaps>, Fail>
 /// Serves a request.
 fn serve(
     alloc: Global,
-    program: &Program,
     part: &mut SharedPart<PlainCaps>,
     thread: u32,
     who: Principal,
     asked: Asked,
-) -> Result<Seen, Fail>
-    requires { IsLinked program.now }
-{
+) -> Result<Seen, Fail> {
     let what = what_of(alloc, asked)?;
-    let reply = part.serve(program, thread, &Request { who, what })?;
+    let reply = part.serve(thread, &Request { who, what })?;
     Ok(reply_seen(reply))
 }
 
@@ -227,34 +226,22 @@ fn serve(
 fn serve_each(
     rt: &impl Abort,
     alloc: Global,
-    program: &Program,
     part: &mut SharedPart<PlainCaps>,
     rows: &[Row],
-) -> Result<(), Fail>
-    requires { IsLinked program.now }
-{
+) -> Result<(), Fail> {
     for (thread, who, asked, answer) in rows {
-        let seen = serve(alloc, program, part, *thread, *who, *asked)?;
+        let seen = serve(alloc, part, *thread, *who, *asked)?;
         assert_eq!(rt; seen, *answer);
     }
     Ok(())
 }
 
 /// Serves the rows from the state before the first call.
-#[tactic(auto, using(crate::proofs::Programs::slotted_linked))]
-fn serve_rows(rt: &impl Abort, alloc: Global, program: &Program, rows: &[Row]) -> Result<(), Fail>
-    requires { program.now ≡ slotted }
-{
-    let mut part = part(alloc, program)?;
-    let served = serve_each(rt, alloc, program, &mut part, rows);
-    drop(part);
-    served
-}
-
 fn serve_all(rt: &impl Abort, alloc: Global, rows: &[Row]) -> Result<(), Fail> {
     let program = program(alloc)?;
-    let served = serve_rows(rt, alloc, &program, rows);
-    drop(program);
+    let mut part = part(alloc, program)?;
+    let served = serve_each(rt, alloc, &mut part, rows);
+    drop(part);
     served
 }
 

@@ -2,7 +2,7 @@
 ghost use Rattle.std.specs.Prelude.{◌≡◌, true, IsTrue, IfOk, []};
 ghost use Rattle.lx_code.specs.Reach.{CountsActions, IsWithinReach, are_sized, are_sized_instrs, is_sized, is_sized_function};
 
-use crate::common::{call_with, one_function};
+use crate::common::{call_with, one_function, owned};
 use lx_caps::Principal;
 use lx_code::Code;
 use lx_interp::Runner;
@@ -87,6 +87,7 @@ fn program_of(alloc: Global, function: Function) -> Result<Program, Memory>
 fn code_of(alloc: Global) -> Result<Code, Memory> {
     let function = deep(alloc)?;
     let program = program_of(alloc, function)?;
+    let program = owned(alloc, program)?;
     let code = Code::new(alloc, program, Vec::new(alloc))?;
     Ok(code)
 }

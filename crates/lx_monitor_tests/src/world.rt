@@ -1,12 +1,13 @@
 //! A small world, event by event.
 ghost use Rattle.std.specs.Prelude.{◌≡◌, [], IfOk, length};
+ghost use Rattle.std.specs.Arc.{arc_value};
 ghost use Rattle.lx_model.specs.Opening.{opening_state};
 ghost use Rattle.lx_model.specs.World.{World as Meaning};
 ghost use Rattle.lx_monitor_tests.specs.Programs.{one_silent};
 ghost use Rattle.lx_serve.specs.Stands.{StandsForState};
 ghost use Rattle.lx_world.specs.Worlds.{StandsForWorld};
 
-use crate::common::{call_with, function_with, one_function, part_of};
+use crate::common::{call_with, function_with, one_function, owned, part_of};
 use lx_caps::{Cap, CapStore, PlainCaps, Principal};
 use lx_code::Code;
 use lx_model::account::{Account, CallOutcome, ImageCount, Owned};
@@ -18,6 +19,7 @@ use lx_world::{EventFault, World};
 use lx_writers::Recorded;
 use std::alloc::Global;
 use std::process::Abort;
+use std::sync::Arc;
 use std::test::Fail;
 
 /// A program of one module with one function, at 0x10000, that has no instruction, so that a call of it traps at its start.
@@ -31,15 +33,15 @@ fn program(alloc: Global) -> Result<Program, Memory>
 
 /// What its threads share before the first call: the module owns the call of its function, and there is room for three
 /// calls of nine units of fuel.
-#[tactic(auto, using(crate::proofs::Programs::silent_blank, crate::proofs::Programs::silent_known))]
+#[tactic(auto, using(crate::proofs::Programs::silent_blank, crate::proofs::Programs::silent_known, crate::proofs::Programs::silent_linked))]
 fn shared<C: CapStore + Drop>(
     alloc: Global,
-    program: &Program,
+    program: Arc<Program>,
     caps: C,
 ) -> Result<SharedPart<C>, Fail>
-    requires tested { program.now ≡ one_silent }
+    requires tested { arc_value program ≡ one_silent }
     requires new { C.stands caps [] }
-    ensures { IfOk result (λ part. StandsForState C.stands program.now part (opening_state program.now)) }
+    ensures { IfOk result (λ part. StandsForState C.stands (arc_value program) part (opening_state (arc_value program))) }
 {
     let mut caps = Recorded::new(alloc, caps);
     caps.reserve(1)?;
@@ -59,22 +61,38 @@ fn script(alloc: Global) -> Result<Vec<Calls>, Memory>
 }
 
 #[tactic(auto, using(crate::proofs::Programs::silent_within_reach, crate::proofs::Programs::silent_counts))]
-fn code(alloc: Global) -> Result<Code, Memory>
+fn code(alloc: Global, program: Arc<Program>) -> Result<Code, Memory>
+    requires { arc_value program ≡ one_silent }
     ensures { IfOk result (λ code. code ≡ one_silent) }
 {
-    let program = program(alloc)?;
     let code = Code::new(alloc, program, Vec::new(alloc))?;
     Ok(code)
 }
 
-#[tactic(auto, using(crate::proofs::Programs::silent_linked))]
-fn world<C: CapStore + Drop>(alloc: Global, caps: C) -> Result<World<C>, Fail>
+/// The program with two owners.
+fn owned_twice(alloc: Global) -> Result<(Arc<Program>, Arc<Program>), Memory>
+    ensures { IfOk result (λ owners. (arc_value owners.0 ≡ one_silent) × (arc_value owners.1 ≡ one_silent)) }
+{
+    let program = program(alloc)?;
+    let first = owned(alloc, program)?;
+    match Arc::try_clone(&first) {
+        Ok(second) => Ok((first, second)),
+        Err(_) => {
+            drop(first);
+            Err(Memory)
+        }
+    }
+}
+
+/// The small world before its first event.
+pub fn world<C: CapStore + Drop>(alloc: Global, caps: C) -> Result<World<C>, Fail>
     requires { C.stands caps [] }
     ensures { IfOk result (λ world. (w : Meaning) × StandsForWorld C.stands one_silent world w) }
 {
     let script = script(alloc)?;
-    let code = code(alloc)?;
-    match shared(alloc, code.program(), caps) {
+    let (first, second) = owned_twice(alloc)?;
+    let code = code(alloc, first)?;
+    match shared(alloc, second, caps) {
         Ok(shared) => {
             let world = World::open(alloc, code, script, shared)?;
             Ok(world)

@@ -37,3 +37,5 @@ mod system;
 mod table;
 #[cfg(test)]
 mod tests;
+#[cfg(test)]
+mod threads;

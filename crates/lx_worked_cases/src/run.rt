@@ -10,7 +10,7 @@ use lx_c_texts::{
     nic_past_text, nic_text, ring_text,
 };
 use lx_cli::lxfi;
-use lx_outside::{MemShelf, MemSink, OpenGate};
+use lx_outside::{Gate, MemShelf, MemSink, OpenGate};
 use std::alloc::Global;
 use std::sync::Wait;
 use std::test::Fail;
@@ -66,6 +66,22 @@ pub fn sink_of(alloc: Global) -> Result<MemSink, Fail> {
     Ok(sink)
 }
 
+/// The status of a run on these words at a gate.
+pub fn run_gated<R: Threads + Wait + Sync, G: Gate + Sync>(
+    rt: &R,
+    alloc: Global,
+    words: &[&str],
+    outside: (&mut MemShelf, &mut MemSink),
+    gate: &G,
+) -> Result<u8, Fail> {
+    let mut texts = Vec::new(alloc);
+    for word in words {
+        texts.push(String::from_str(alloc, word)?)?;
+    }
+    let (shelf, sink) = outside;
+    Ok(lxfi(rt, alloc, &texts, shelf, sink, gate))
+}
+
 /// The status of a run on these words.
 pub fn run_words<R: Threads + Wait + Sync>(
     rt: &R,
@@ -74,11 +90,7 @@ pub fn run_words<R: Threads + Wait + Sync>(
     shelf: &mut MemShelf,
     sink: &mut MemSink,
 ) -> Result<u8, Fail> {
-    let mut texts = Vec::new(alloc);
-    for word in words {
-        texts.push(String::from_str(alloc, word)?)?;
-    }
-    Ok(lxfi(rt, alloc, &texts, shelf, sink, &OpenGate))
+    run_gated(rt, alloc, words, (shelf, sink), &OpenGate)
 }
 
 /// The words of a row: it is run, or replayed under its schedule.
