@@ -1,0 +1,10 @@
+pub mod Image
+pub mod ImageWorld
+pub mod ImageCode
+pub mod Guarded
+pub mod Stands
+pub mod Kept
+pub mod Places
+pub mod Fitting
+pub mod HasImages
+pub mod Lines

@@ -1,0 +1,30 @@
+-- The laws are lemmas.
+use Rattle.lx_simulation.specs.Simulation.{code_of}
+use Rattle.lx_simulation.proofs.Linking.{linked}
+use Rattle.lx_simulation.proofs.Accepting.{images_accepted}
+use Rattle.lx_simulation.proofs.SparedRuns.{run_stands, run_places}
+use Rattle.lx_simulation.proofs.Guarded.{guarded_run_agrees}
+use Rattle.lx_simulation.proofs.KeepingRuns.{run_kept}
+use Rattle.lx_simulation.proofs.Runs.{event_agrees}
+use Rattle.lx_simulation.proofs.Steps.{step_agrees}
+use Rattle.lx_simulation.proofs.ImageAsking.{image_next_within-stable}
+use Rattle.lx_simulation.proofs.ByLines.{lines_lead, pre_lines}
+use Rattle.lx_simulation.proofs.Guarding.{erased-image}
+use Rattle.lx_simulation.proofs.simulation.Goals as goal
+
+pub returns : goal.returns
+returns c = record {
+  stands = λ p images w are script schedule few fits.
+      run_stands c.model_laws.ensures c.history_laws.ensures c.loan_laws.ensures (code_of p images) (images_accepted (code_of p images) (record { linked = linked p w; images = are })) script schedule few fits;
+  linked = linked;
+  images_are = images_accepted;
+  runs = run_stands c.model_laws.ensures c.history_laws.ensures c.loan_laws.ensures;
+  guarded_runs = guarded_run_agrees c.model_laws.ensures;
+  keeps = run_kept;
+  places = run_places;
+  events = λ code acc t w v well stands held. (event_agrees c.model_laws.ensures code acc t w v well stands held).1;
+  steps = step_agrees;
+  image_asks = image_next_within-stable;
+  by_lines = record { lines = lines_lead; pre_lines = pre_lines };
+  erases = erased-image;
+}

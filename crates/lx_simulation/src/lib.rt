@@ -1,0 +1,16 @@
+//! Accepted images run as their programs do under the monitor, whatever the schedule.
+#![tactic(auto)]
+
+ghost use Rattle.lx_simulation.specs.Simulation.{SimulationLaws};
+
+use lx_caps::{history_laws, loan_laws};
+use lx_model::model_laws;
+
+/// Accepted images run as their programs do under the monitor.
+pub fn simulation()
+    ensures { SimulationLaws }
+{
+    history_laws();
+    loan_laws();
+    model_laws();
+}
