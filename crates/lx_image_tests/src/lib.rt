@@ -1,0 +1,5 @@
+//! Tests of what makes images.
+#![tactic(auto)]
+
+#[cfg(test)]
+mod wrap;

@@ -1,0 +1,9 @@
+use Rattle.std.proofs.Common.{◌++◌, map}
+use Rattle.lx_image_texts.specs.WrapperText.{pre_lines, unlined}
+use Rattle.lx_wrap.proofs.Steps.{pre_step}
+use Rattle.lx_wrap.proofs.lines.push_pre_lines.Goals as goal
+
+pub loop-place-preserved : goal.loop-place-preserved
+loop-place-preserved c =
+    let all = c.args.code.now ++ map unlined (pre_lines c.args.f 0 c.args.actions.now) in
+    pre_step c.args.f c.args.actions.now c.loop-place.place c.loop-place.code c.push_pre.new.code all c.loop-place-test.true c.loop-place.invariant c.in_ok-push_pre.ensures
