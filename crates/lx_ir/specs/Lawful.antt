@@ -29,7 +29,7 @@ use Rattle.lx_ir.specs.IrType.{IrType, One}
 use Rattle.lx_ir.specs.Init.{Init, Plain, Empty, Bytes, Group, Inits, no_more, more}
 use Rattle.lx_ir.specs.Layout.{is_struct, is_lawful_type}
 use Rattle.lx_ir.specs.Lookup.{blocks_of, instrs_of, all_instrs, is_defined}
-use Rattle.lx_ir.specs.Operands.{operands_of, labels_of, is_terminator, is_image_line, register_count, given_numbers}
+use Rattle.lx_ir.specs.Operands.{operands_of, labels_of, is_terminator, is_image_line, operands_where, register_count, given_numbers}
 use Rattle.lx_ir.specs.Text.{symbol_name}
 
 -- Names.
@@ -212,9 +212,14 @@ register_in (value.Constant c) = None
 abbrev pub registers_in : List Argument → List ℕ
 registers_in xs = filter_map (λ a. register_in a.value) xs
 
--- the registers that the instructions of a function read, in the order of the text
+-- the registers that instructions read, those of the lines that images alone have or those of all others, in the order of the text
+abbrev pub numbers_read : Bool → List Instr → List ℕ
+numbers_read lines is = flat_map (λ i. registers_in (operands_where lines i.op)) is
+
+-- the registers that the instructions of a function read; what the lines read that images alone have comes last, so that an image
+-- numbers the registers of its program as the program does
 abbrev pub read_numbers : Function → List ℕ
-read_numbers f = flat_map (λ i. registers_in (operands_of i.op)) (instrs_of f)
+read_numbers f = numbers_read false (instrs_of f) ++ numbers_read true (instrs_of f)
 
 -- numbers from this one on come first in their order, up to another
 abbrev pub first_come : ℕ → ℕ → List ℕ → Bool

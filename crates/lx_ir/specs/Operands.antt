@@ -1,5 +1,5 @@
 -- What an instruction reads, gives and goes to.
-use Rattle.std.specs.Prelude.{ℕ, ◌+◌, Bool, true, false, Option, Some, None, List, [], ◌∷◌, ◌++◌, map, filter_map, flat_map, length, slice_get, option_map}
+use Rattle.std.specs.Prelude.{ℕ, ◌+◌, Bool, true, false, Option, Some, None, List, [], ◌∷◌, ◌++◌, map, filter_map, flat_map, length, slice_get, option_map, if◌then◌else◌}
 use Rattle.lx_words.specs.declared.word.Width.{Width}
 use Rattle.lx_words.specs.declared.word.Width.TheVariants.{W1, W8, W32, W64}
 use Rattle.lx_ir.specs.declared.types.Scalar.{Scalar}
@@ -127,6 +127,11 @@ is_image_line (op.Pre f k) = true
 is_image_line (op.Post f k) = true
 is_image_line (op.Leave f) = true
 is_image_line _ = false
+
+-- what an instruction reads, if it is a line that images alone have (true), or if it is another (false)
+abbrev pub operands_where : Bool → Op → List Argument
+operands_where true o = if is_image_line o then operands_of o else []
+operands_where false o = if is_image_line o then [] else operands_of o
 
 -- the registers of a function: its parameters, then what its instructions give, then those that it only reads
 abbrev pub register_count : Function → ℕ

@@ -3,6 +3,7 @@ pub mod SeenConstants
 pub mod SeenInits
 pub mod SeenOperands
 pub mod SeenCalls
+pub mod ReadWhere
 pub mod SeenForms
 pub mod SeenBlocks
 pub mod SeenStatements

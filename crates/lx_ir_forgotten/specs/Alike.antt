@@ -7,7 +7,7 @@ use Rattle.lx_ir.specs.declared.module.Block.{Block}
 use Rattle.lx_ir.specs.declared.instr.Argument.{Argument}
 use Rattle.lx_ir.specs.declared.instr.Instr.{Instr}
 use Rattle.lx_ir.specs.declared.instr.Op.{Op}
-use Rattle.lx_ir.specs.Operands.{operands_of, given_by, is_terminator}
+use Rattle.lx_ir.specs.Operands.{operands_of, given_by, is_terminator, is_image_line}
 use Rattle.lx_ir_terms.specs.Context.{Context, register_number}
 use Rattle.lx_ir_statements.specs.declared.form.Statement.{Statement}
 use Rattle.lx_ir_statements.specs.declared.form.Statement.TheVariants as statements
@@ -49,6 +49,7 @@ pub record AlikeOps (c d : Context) (o p : Op) : Type 0 where
   pub given : AlikeGiven c d (given_by o) (given_by p)
   pub read : AllZip (AlikeArguments c d) (operands_of o) (operands_of p)
   pub ends : is_terminator o ≡ is_terminator p
+  pub lines : is_image_line o ≡ is_image_line p
 
 abbrev pub AlikeInstrs : Context → Context → Instr → Instr → Type 0
 AlikeInstrs c d i j = AlikeOps c d i.op j.op × (i.line ≡ j.line)

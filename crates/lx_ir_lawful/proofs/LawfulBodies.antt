@@ -22,8 +22,8 @@ use Rattle.lx_ir.specs.declared.module.Module.{Module}
 use Rattle.lx_ir.specs.declared.instr.Argument.{Argument}
 use Rattle.lx_ir.specs.declared.instr.Instr.{Instr}
 use Rattle.lx_ir.specs.declared.instr.Op.{Op}
-use Rattle.lx_ir.specs.Operands.{operands_of, labels_of, register_count}
-use Rattle.lx_ir.specs.Lawful.{is_name, is_label, is_distinct, is_lawful_value, is_lawful_op, is_lawful_block, has_form, ends_once, counts_from, register_in, registers_in, first_come, numbers_registers}
+use Rattle.lx_ir.specs.Operands.{operands_of, operands_where, labels_of, register_count, is_image_line}
+use Rattle.lx_ir.specs.Lawful.{is_name, is_label, is_distinct, is_lawful_value, is_lawful_op, is_lawful_block, has_form, ends_once, counts_from, register_in, registers_in, numbers_read, first_come, numbers_registers}
 use Rattle.lx_ir_lawful.proofs.LawfulLimits.{lawful}
 use Rattle.lx_ir_terms.specs.Context.{Context, nothing}
 use Rattle.lx_ir_constants.specs.Constants.{is_register}
@@ -42,8 +42,8 @@ use Rattle.lx_ir_lawful.specs.TokenNames.{mark_count, IsNamed, IsTokenNamed}
 use Rattle.lx_ir_lawful.proofs.FewNames.{few_names}
 use Rattle.lx_ir_lawful.specs.BodyLaws.{said_by, ReadBody, LawfulBody}
 use Rattle.lx_ir_lawful.proofs.RegisterTables.{unknown}
-use Rattle.lx_ir_lawful.proofs.Passes.{more_more, Grown}
-use Rattle.lx_ir_lawful.proofs.Numbered.{all_given, read_of, all_read, body_from, AllGiven, body_given, blocks_read}
+use Rattle.lx_ir_lawful.proofs.Passes.{more_more, Grown, reads_then}
+use Rattle.lx_ir_lawful.proofs.Numbered.{all_given, all_read, body_from, AllGiven, body_given, blocks_read}
 use Rattle.lx_ir_lawful.proofs.HeadNames.{GoodHead, head_good, head_few}
 use Rattle.lx_ir_lawful.proofs.Labels.{labels_of as labels_in, LawfulLabels, body_labels}
 
@@ -121,22 +121,38 @@ module _ (m : Module) (f : Function) (c : Context) where
   op_lawful o h low =
       three_true (has_form m o) (list_all (λ a. is_lawful_value m f a.ty a.value) (operands_of o)) (list_all is_name (labels_of o)) h.0.form (operands_lawful (operands_of o) h.0.values low) (labels_lawful (labels_of o) h.1.labels)
 
-  instrs_lawful : (is : List Instr) → AllByRecursion (λ i. IsRead i.op) is → below (read_of is) ≡ true → list_all (λ i. is_lawful_op m f i.op) is ≡ true
-  instrs_lawful [] h low = refl
-  instrs_lawful (i ∷ is) h low =
-      let both = and_parts (below (registers_in (operands_of i.op))) (below (read_of is)) (sym (list_all-append (λ k. nat_lt k (register_count f)) (registers_in (operands_of i.op)) (read_of is)) ∙ low) in
-      both_true (is_lawful_op m f i.op) (list_all (λ j. is_lawful_op m f j.op) is) (op_lawful i.op h.0 both.0) (instrs_lawful is h.1 both.1)
+  -- both kinds of instructions are all
+  either_low : (o : Op) → below (registers_in (operands_where false o)) ≡ true → below (registers_in (operands_where true o)) ≡ true → below (registers_in (operands_of o)) ≡ true
+  either_low o plain lines = by (is_image_line o) plain lines
+    where
+      by : (v : Bool) → below (registers_in (if v then [] else operands_of o)) ≡ true → below (registers_in (if v then operands_of o else [])) ≡ true → below (registers_in (operands_of o)) ≡ true
+      by false plain lines = plain
+      by true plain lines = lines
 
-  pub blocks_lawful : (bs : List Block) → AllByRecursion (λ b. AllByRecursion (λ i. IsRead i.op) b.instrs) bs → below (all_read bs) ≡ true → list_all (λ x. is_label x.name && ends_once x.instrs) bs ≡ true → list_all (is_lawful_block m f) bs ≡ true
-  blocks_lawful [] h low good = refl
-  blocks_lawful (b ∷ bs) h low good =
-      let whole : below (read_of b.instrs ++ all_read bs) ≡ true = ap below (sym (flat_map-append (λ i. registers_in (operands_of i.op)) b.instrs (flat_map (λ x. x.instrs) bs))) ∙ low in
-      let both = and_parts (below (read_of b.instrs)) (below (all_read bs)) (sym (list_all-append (λ k. nat_lt k (register_count f)) (read_of b.instrs) (all_read bs)) ∙ whole) in
+  both_low : (xs ys : List ℕ) → below (xs ++ ys) ≡ true → (below xs ≡ true) × (below ys ≡ true)
+  both_low xs ys low = and_parts (below xs) (below ys) (sym (list_all-append (λ k. nat_lt k (register_count f)) xs ys) ∙ low)
+
+  instrs_lawful : (is : List Instr) → AllByRecursion (λ i. IsRead i.op) is → below (numbers_read false is) ≡ true → below (numbers_read true is) ≡ true → list_all (λ i. is_lawful_op m f i.op) is ≡ true
+  instrs_lawful [] h plain lines = refl
+  instrs_lawful (i ∷ is) h plain lines =
+      let p = both_low (registers_in (operands_where false i.op)) (numbers_read false is) plain in
+      let l = both_low (registers_in (operands_where true i.op)) (numbers_read true is) lines in
+      both_true (is_lawful_op m f i.op) (list_all (λ j. is_lawful_op m f j.op) is) (op_lawful i.op h.0 (either_low i.op p.0 l.0)) (instrs_lawful is h.1 p.1 l.1)
+
+  block_low : (lines : Bool) (b : Block) (bs : List Block) → below (all_read lines (b ∷ bs)) ≡ true → (below (numbers_read lines b.instrs) ≡ true) × (below (all_read lines bs) ≡ true)
+  block_low lines b bs low =
+      both_low (numbers_read lines b.instrs) (all_read lines bs) (ap below (sym (flat_map-append (λ i. registers_in (operands_where lines i.op)) b.instrs (flat_map (λ x. x.instrs) bs))) ∙ low)
+
+  pub blocks_lawful : (bs : List Block) → AllByRecursion (λ b. AllByRecursion (λ i. IsRead i.op) b.instrs) bs → below (all_read false bs) ≡ true → below (all_read true bs) ≡ true → list_all (λ x. is_label x.name && ends_once x.instrs) bs ≡ true → list_all (is_lawful_block m f) bs ≡ true
+  blocks_lawful [] h plain lines good = refl
+  blocks_lawful (b ∷ bs) h plain lines good =
+      let p = block_low false b bs plain in
+      let l = block_low true b bs lines in
       let two = and_parts (is_label b.name && ends_once b.instrs) (list_all (λ x. is_label x.name && ends_once x.instrs) bs) good in
       let one = and_parts (is_label b.name) (ends_once b.instrs) two.0 in
       both_true (is_lawful_block m f b) (list_all (is_lawful_block m f) bs)
-      (three_true (is_label b.name) (ends_once b.instrs) (list_all (λ i. is_lawful_op m f i.op) b.instrs) one.0 one.1 (instrs_lawful b.instrs h.0 both.0))
-      (blocks_lawful bs h.1 both.1 two.1)
+      (three_true (is_label b.name) (ends_once b.instrs) (list_all (λ i. is_lawful_op m f i.op) b.instrs) one.0 one.1 (instrs_lawful b.instrs h.0 p.0 l.0))
+      (blocks_lawful bs h.1 p.1 l.1 two.1)
 
 -- the names behind others are distinct
 distinct_behind : (xs ys : List (List ℕ)) → is_distinct (xs ++ ys) ≡ true → is_distinct ys ≡ true
@@ -174,12 +190,18 @@ body_lawful m c form places head ds es tells told once few read =
     let grown : Grown names once few c W = record { distinct = good.distinct; each = good.each } in
     let given : AllGiven names once few c form places ds es W = body_given names once few c form places head.numbered head.registers ds es read.body read.behind W read.alike read.unknown_is all grown good.numbers in
     let from = body_from (IsNamed names) u form places (FromNames (IsNamed names) u) (form_named (IsNamed names) u form) head.numbered head.registers es read.body read.behind read.unknown_is all in
-    let reads = blocks_read names once few c form places ds es given.gives.after read.alike from given.gives.grown in
+    let plain = blocks_read names once few c form places false ds es given.gives.after read.alike from given.gives.grown in
+    let lines = blocks_read names once few c form places true ds es plain.after read.alike from plain.grown in
+    let reads =
+    reads_then names once few c (λ ks. all_read false ds ++ ks) (λ ks. all_read true ds ++ ks) given.gives.after (with_all_read false (named_things names given.gives.after) es) (with_all_read true (named_things names plain.after) es) plain lines in
     let more = more_more names once few c W given.gives.after reads.after given.gives.more reads.more in
     let V : List (List ℕ) = more.0 in
     let start : with_parameters names (numbering (length names) []) head.params ≡ named_things names W = parameters_added names (length names) head.params [] in
     let table : registers_of names (numbering (length names) []) head.params es ≡ named_things names reads.after =
-    ap (λ t. with_all_read (with_all_given t es) es) start ∙ ap (λ t. with_all_read t es) given.gives.is ∙ reads.is in
+    ap (λ t. with_all_read true (with_all_read false (with_all_given t es) es) es) start
+    ∙ ap (λ t. with_all_read true (with_all_read false t es) es) given.gives.is
+    ∙ ap (λ t. with_all_read true t es) plain.is
+    ∙ reads.is in
     let knows : c.registers ≡ table_of (named_things names (given.gives.after ++ reads.more.0)) = read.registers ∙ ap table_of table ∙ ap (λ ws. table_of (named_things names ws)) reads.more.1 in
     let knows_all : c.registers ≡ table_of (named_things names (reads.after ++ [])) = read.registers ∙ ap table_of table ∙ ap (λ ws. table_of (named_things names ws)) (sym (append-nil reads.after)) in
     record {
@@ -201,16 +223,17 @@ body_lawful m c form places head ds es tells told once few read =
           counts_last (length W) (length given.gives.after) (all_given ds) (given.gives.counts reads.more.0 knows (length given.gives.after ∷ []) (both_true (nat_eq (length given.gives.after) (length given.gives.after)) true (eq_self (length given.gives.after)) refl)) in
           let here : length head.params + length (all_given ds) ≡ length given.gives.after = omega (arith, place, size) in
           let last : nat_eq (length reads.after) (register_count f) ≡ true = ap (λ n. nat_eq n (register_count f)) total ∙ eq_self (register_count f) in
-          let comes : first_come (length head.params + length (all_given ds)) (register_count f) (all_read ds) ≡ true =
-          ap (λ n. first_come n (register_count f) (all_read ds)) here
-          ∙ ap (first_come (length given.gives.after) (register_count f)) (sym (append-nil (all_read ds)))
+          let comes : first_come (length head.params + length (all_given ds)) (register_count f) (all_read false ds ++ all_read true ds) ≡ true =
+          ap (λ n. first_come n (register_count f) (all_read false ds ++ all_read true ds)) here
+          ∙ ap (λ ks. first_come (length given.gives.after) (register_count f) (all_read false ds ++ ks)) (sym (append-nil (all_read true ds)))
           ∙ reads.comes [] knows_all (register_count f) [] last in
           let numbered : numbers_registers f ≡ true =
-          both_true (counts_from (length head.params) (all_given ds)) (first_come (length head.params + length (all_given ds)) (register_count f) (all_read ds)) counts comes in
-          let low : list_all (λ k. nat_lt k (register_count f)) (all_read ds) ≡ true = below_last (length head.params + length (all_given ds)) (register_count f) (all_read ds) comes in
+          both_true (counts_from (length head.params) (all_given ds)) (first_come (length head.params + length (all_given ds)) (register_count f) (all_read false ds ++ all_read true ds)) counts comes in
+          let low =
+          both_low m f c (all_read false ds) (all_read true ds) (below_last (length head.params + length (all_given ds)) (register_count f) (all_read false ds ++ all_read true ds) comes) in
           let ops =
           body_from (IsNamed names) c form places (IsRead m f c) (λ o ts h n. (form_said m c form tells told (written_lawful m c tells lawful) o ts h, form_named (IsNamed names) c form o ts h n)) head.numbered head.registers ds read.body read.behind read.known_is all in
-          let each : list_all (is_lawful_block m f) ds ≡ true = blocks_lawful m f c ds ops low labels.each in
+          let each : list_all (is_lawful_block m f) ds ≡ true = blocks_lawful m f c ds ops low.0 low.1 labels.each in
           let some : nat_lt 0 (length ds) ≡ true = less_test 0 (length ds) (let e : length ds ≡ suc (length labels.some.1) = ap length labels.some.2 in omega (arith, e)) in
           let names_are : list_all is_name (W ++ V) ≡ true = ap (list_all is_name) (sym more.1) ∙ reads.grown.each in
           let names_once : is_distinct (W ++ V) ≡ true = ap is_distinct (sym more.1) ∙ reads.grown.distinct in

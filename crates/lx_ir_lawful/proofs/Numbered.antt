@@ -1,5 +1,5 @@
 -- The registers of the blocks of a function, in order.
-use Rattle.std.proofs.Common.{◌≡◌, inl, inr, ℕ, ◌≤◌, Some, List, [], ◌∷◌, ◌++◌, length, refl, ap, ◌∙◌, subst, append_assoc}
+use Rattle.std.proofs.Common.{◌≡◌, Bool, inl, inr, ℕ, ◌≤◌, Some, List, [], ◌∷◌, ◌++◌, length, refl, ap, ◌∙◌, subst, append_assoc}
 use Rattle.std.specs.Prelude.{flat_map, filter_map}
 use Rattle.std.specs.List.{AllZip, AllByRecursion, cons_option}
 use Rattle.std.proofs.lemmas.Grind.{flat_map-append}
@@ -9,8 +9,8 @@ use Rattle.lx_ir_tokens.specs.declared.token.Tok.{Tok}
 use Rattle.lx_ir.specs.declared.module.Block.{Block}
 use Rattle.lx_ir.specs.declared.instr.Instr.{Instr}
 use Rattle.lx_ir.specs.declared.instr.Op.{Op}
-use Rattle.lx_ir.specs.Operands.{given_by, operands_of}
-use Rattle.lx_ir.specs.Lawful.{counts_from, registers_in, first_come}
+use Rattle.lx_ir.specs.Operands.{given_by, operands_where}
+use Rattle.lx_ir.specs.Lawful.{counts_from, registers_in, numbers_read, first_come}
 use Rattle.lx_ir_terms.specs.Context.{Context, nothing}
 use Rattle.lx_ir_constants.specs.Constants.{is_register}
 use Rattle.lx_ir_calls.specs.declared.intrinsics.TextForm.{TextForm}
@@ -71,20 +71,17 @@ given_of is = filter_map (λ i. given_by i.op) is
 abbrev pub all_given : List Block → List ℕ
 all_given bs = given_of (flat_map (λ b. b.instrs) bs)
 
-abbrev pub read_of : List Instr → List ℕ
-read_of is = flat_map (λ i. registers_in (operands_of i.op)) is
-
-abbrev pub all_read : List Block → List ℕ
-all_read bs = read_of (flat_map (λ b. b.instrs) bs)
+abbrev pub all_read : Bool → List Block → List ℕ
+all_read lines bs = numbers_read lines (flat_map (λ b. b.instrs) bs)
 
 -- what the first block gives or reads, and the others
 block_given : (b : Block) (bs : List Block) (rest : List ℕ) → all_given (b ∷ bs) ++ rest ≡ given_of b.instrs ++ (all_given bs ++ rest)
 block_given b bs rest =
     ap (λ ks. ks ++ rest) (filter_map-append (λ i. given_by i.op) b.instrs (flat_map (λ x. x.instrs) bs)) ∙ append_assoc (given_of b.instrs) (all_given bs) rest
 
-block_read : (b : Block) (bs : List Block) (rest : List ℕ) → all_read (b ∷ bs) ++ rest ≡ read_of b.instrs ++ (all_read bs ++ rest)
-block_read b bs rest =
-    ap (λ ks. ks ++ rest) (flat_map-append (λ i. registers_in (operands_of i.op)) b.instrs (flat_map (λ x. x.instrs) bs)) ∙ append_assoc (read_of b.instrs) (all_read bs) rest
+block_read : (lines : Bool) (b : Block) (bs : List Block) (rest : List ℕ) → all_read lines (b ∷ bs) ++ rest ≡ numbers_read lines b.instrs ++ (all_read lines bs ++ rest)
+block_read lines b bs rest =
+    ap (λ ks. ks ++ rest) (flat_map-append (λ i. registers_in (operands_where lines i.op)) b.instrs (flat_map (λ x. x.instrs) bs)) ∙ append_assoc (numbers_read lines b.instrs) (all_read lines bs) rest
 
 module _ (names : List (List ℕ)) (once : AreOnce names) (few : length names ≤ nothing) (c : Context) (form : TextForm) (places : List Token) where
   abbrev u : Context
@@ -180,19 +177,19 @@ module _ (names : List (List ℕ)) (once : AreOnce names) (few : length names �
         };
       }
 
-  pub blocks_read : (xs ys : List Block) (W : List (List ℕ)) → AllZip (AlikeBlocks c u) xs ys → AllByRecursion (λ y. AllByRecursion (λ j. FromNames (IsNamed names) u j.op) y.instrs) ys → Grown names once few c W
-      → Reads names once few c (λ ks. all_read xs ++ ks) W (with_all_read (named_things names W) ys)
-  blocks_read [] [] W alike from g = reads_none names once few c W g
-  blocks_read [] (y ∷ ys) W alike from g = absurd alike
-  blocks_read (x ∷ xs) [] W alike from g = absurd alike
-  blocks_read (x ∷ xs) (y ∷ ys) W alike from g =
-      let step = instrs_read names once few c x.instrs y.instrs W alike.0.1 from.0 g in
-      let rest = blocks_read xs ys step.after alike.1 from.1 step.grown in
-      let both = reads_then names once few c (λ ks. read_of x.instrs ++ ks) (λ ks. all_read xs ++ ks) W _ (with_all_read (named_things names step.after) ys) step rest in
+  pub blocks_read : (lines : Bool) (xs ys : List Block) (W : List (List ℕ)) → AllZip (AlikeBlocks c u) xs ys → AllByRecursion (λ y. AllByRecursion (λ j. FromNames (IsNamed names) u j.op) y.instrs) ys → Grown names once few c W
+      → Reads names once few c (λ ks. all_read lines xs ++ ks) W (with_all_read lines (named_things names W) ys)
+  blocks_read lines [] [] W alike from g = reads_none names once few c W g
+  blocks_read lines [] (y ∷ ys) W alike from g = absurd alike
+  blocks_read lines (x ∷ xs) [] W alike from g = absurd alike
+  blocks_read lines (x ∷ xs) (y ∷ ys) W alike from g =
+      let step = instrs_read names once few c lines x.instrs y.instrs W alike.0.1 from.0 g in
+      let rest = blocks_read lines xs ys step.after alike.1 from.1 step.grown in
+      let both = reads_then names once few c (λ ks. numbers_read lines x.instrs ++ ks) (λ ks. all_read lines xs ++ ks) W _ (with_all_read lines (named_things names step.after) ys) step rest in
       record {
         after = both.after;
         more = both.more;
         grown = both.grown;
-        is = ap (λ v. with_all_read v ys) step.is ∙ both.is;
-        comes = λ R knows last ks h. ap (first_come (length W) last) (block_read x xs ks) ∙ both.comes R knows last ks h;
+        is = ap (λ v. with_all_read lines v ys) step.is ∙ both.is;
+        comes = λ R knows last ks h. ap (first_come (length W) last) (block_read lines x xs ks) ∙ both.comes R knows last ks h;
       }

@@ -1,6 +1,6 @@
 -- The registers that instructions give and read, one after the other.
 use Rattle.std.proofs.Common.{◌≡◌, ℕ, suc, ◌+◌, ◌<◌, ◌≤◌, Bool, true, false, ◌&&◌, Option, Some, None, is_some, List, [], ◌∷◌, ◌++◌, length, map, slice_get, nat_eq, nat_lt, nat_le, refl, sym, ap, ◌∙◌, subst, arith, append_assoc}
-use Rattle.std.specs.Prelude.{if◌then◌else◌, is_none, flat_map}
+use Rattle.std.specs.Prelude.{if◌then◌else◌, is_none}
 use Rattle.std.specs.List.{AllZip, AllByRecursion, list_all, list_any, cons_option}
 use Rattle.std.proofs.lemmas.Bool.Decides.{nat_tests}
 use Rattle.std.proofs.lemmas.Bool.{or_from}
@@ -12,13 +12,15 @@ use Rattle.lx_ir.specs.declared.module.Value.{Value}
 use Rattle.lx_ir.specs.declared.module.Value.TheVariants as values
 use Rattle.lx_ir.specs.declared.instr.Argument.{Argument}
 use Rattle.lx_ir.specs.declared.instr.Instr.{Instr}
-use Rattle.lx_ir.specs.Operands.{operands_of}
-use Rattle.lx_ir.specs.Lawful.{is_name, is_distinct, counts_from, register_in, registers_in, first_come}
+use Rattle.lx_ir.specs.declared.instr.Op.{Op}
+use Rattle.lx_ir.specs.Operands.{operands_of, operands_where, is_image_line}
+use Rattle.lx_ir.specs.Lawful.{is_name, is_distinct, counts_from, register_in, registers_in, numbers_read, first_come}
 use Rattle.lx_ir_terms.specs.Context.{Context, nothing, register_or, register_number}
 use Rattle.lx_ir_heads.specs.Numbers.{has_number, has_some, with_some}
 use Rattle.lx_ir_tables.specs.Numbering.{Numbering, numbering, number_from, number_named, table_of, with_thing, is_new}
 use Rattle.lx_ir_tables.specs.Registers.{with_given, with_read, with_operands, with_read_by}
 use Rattle.lx_ir_forgotten.specs.Alike.{AlikeRegisters, AlikeValues, AlikeArguments, AlikeGiven, AlikeInstrs}
+use Rattle.lx_ir_forgotten.proofs.ReadWhere.{read_where}
 use Rattle.lx_ir_lawful.specs.Named.{FromValue, FromArgument, FromNames}
 use Rattle.lx_ir_lawful.specs.NamedThings.{somes, numbers_of, has_numbers, named_things, AreOnce}
 use Rattle.lx_ir_lawful.specs.TokenNames.{IsNamed}
@@ -268,19 +270,32 @@ module _ (names : List (List ℕ)) (once : AreOnce names) (few : length names �
         comes = λ R knows last ks h. ap (first_come (length W) last) (option_joined (register_in x.value) (registers_in xs) ks) ∙ both.comes R knows last ks h;
       }
 
-  pub instrs_read : (is js : List Instr) (W : List (List ℕ)) → AllZip (AlikeInstrs c u) is js → AllByRecursion (λ j. FromNames (IsNamed names) u j.op) js → Grown W
-      → Reads (λ ks. flat_map (λ i. registers_in (operands_of i.op)) is ++ ks) W (with_read_by (named_things names W) js)
-  instrs_read [] [] W alike from g = reads_none W g
-  instrs_read [] (j ∷ js) W alike from g = absurd alike
-  instrs_read (i ∷ is) [] W alike from g = absurd alike
-  instrs_read (i ∷ is) (j ∷ js) W alike from g =
-      let one = operands_read (operands_of i.op) (operands_of j.op) W alike.0.0.read from.0.read g in
-      let rest = instrs_read is js one.after alike.1 from.1 one.grown in
-      let both = reads_then (λ ks. registers_in (operands_of i.op) ++ ks) (λ ks. flat_map (λ i. registers_in (operands_of i.op)) is ++ ks) W (with_operands (named_things names W) (operands_of j.op)) (with_read_by (named_things names one.after) js) one rest in
+  -- what comes from names does so as a line of images, and as another
+  from_where : (lines : Bool) (o : Op) → AllByRecursion (FromArgument (IsNamed names) u) (operands_of o) → AllByRecursion (FromArgument (IsNamed names) u) (operands_where lines o)
+  from_where true o from = by (is_image_line o)
+    where
+      by : (v : Bool) → AllByRecursion (FromArgument (IsNamed names) u) (if v then operands_of o else [])
+      by true = from
+      by false = tt
+  from_where false o from = by (is_image_line o)
+    where
+      by : (v : Bool) → AllByRecursion (FromArgument (IsNamed names) u) (if v then [] else operands_of o)
+      by true = tt
+      by false = from
+
+  pub instrs_read : (lines : Bool) (is js : List Instr) (W : List (List ℕ)) → AllZip (AlikeInstrs c u) is js → AllByRecursion (λ j. FromNames (IsNamed names) u j.op) js → Grown W
+      → Reads (λ ks. numbers_read lines is ++ ks) W (with_read_by lines (named_things names W) js)
+  instrs_read lines [] [] W alike from g = reads_none W g
+  instrs_read lines [] (j ∷ js) W alike from g = absurd alike
+  instrs_read lines (i ∷ is) [] W alike from g = absurd alike
+  instrs_read lines (i ∷ is) (j ∷ js) W alike from g =
+      let one = operands_read (operands_where lines i.op) (operands_where lines j.op) W (read_where c u lines i.op j.op alike.0.0) (from_where lines j.op from.0.read) g in
+      let rest = instrs_read lines is js one.after alike.1 from.1 one.grown in
+      let both = reads_then (λ ks. registers_in (operands_where lines i.op) ++ ks) (λ ks. numbers_read lines is ++ ks) W (with_operands (named_things names W) (operands_where lines j.op)) (with_read_by lines (named_things names one.after) js) one rest in
       record {
         after = both.after;
         more = both.more;
         grown = both.grown;
-        is = ap (λ t. with_read_by t js) one.is ∙ both.is;
-        comes = λ R knows last ks h. ap (first_come (length W) last) (append_assoc (registers_in (operands_of i.op)) (flat_map (λ i. registers_in (operands_of i.op)) is) ks) ∙ both.comes R knows last ks h;
+        is = ap (λ t. with_read_by lines t js) one.is ∙ both.is;
+        comes = λ R knows last ks h. ap (first_come (length W) last) (append_assoc (registers_in (operands_where lines i.op)) (numbers_read lines is) ks) ∙ both.comes R knows last ks h;
       }

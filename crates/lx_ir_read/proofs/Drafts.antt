@@ -14,7 +14,7 @@ use Rattle.lx_ir.specs.declared.module.Function.{Function}
 use Rattle.lx_ir.specs.declared.module.Module.{Module}
 use Rattle.lx_ir.specs.declared.instr.Instr.{Instr}
 use Rattle.lx_ir.specs.declared.instr.Argument.{Argument}
-use Rattle.lx_ir.specs.Operands.{given_by, operands_of}
+use Rattle.lx_ir.specs.Operands.{given_by, operands_where}
 use Rattle.lx_ir_offsets.specs.Offsets.{Layouts, fitting_layouts}
 use Rattle.lx_ir_offsets.specs.Shapes.{Shape, named_shapes}
 use Rattle.lx_ir_terms.specs.Context.{Context, bytes_of}
@@ -68,9 +68,14 @@ read_keeps : (t : Numbering) (v : Value) → (with_read t v).count ≡ t.count
 read_keeps t (values.Register n) = read_by (is_new t n) t n
 read_keeps t (values.Constant c) = refl
 
+reads_keep : (lines : Bool) (blocks : List Block) (t : Numbering) → (with_all_read lines t blocks).count ≡ t.count
+reads_keep lines blocks t =
+    fold_keeps (λ s (b : Block). with_read_by lines s b.instrs) (λ s b. fold_keeps (λ r (i : Instr). with_operands r (operands_where lines i.op)) (λ r i. fold_keeps (λ q (a : Argument). with_read q a.value) (λ q a. read_keeps q a.value) (operands_where lines i.op) r) b.instrs s) blocks t
+
 registers_keep : (names : List (List ℕ)) (t : Numbering) (params : List Parameter) (blocks : List Block) → (registers_of names t params blocks).count ≡ t.count
 registers_keep names t params blocks =
-    fold_keeps (λ s (b : Block). with_read_by s b.instrs) (λ s b. fold_keeps (λ r (i : Instr). with_operands r (operands_of i.op)) (λ r i. fold_keeps (λ q (a : Argument). with_read q a.value) (λ q a. read_keeps q a.value) (operands_of i.op) r) b.instrs s) blocks (with_all_given (with_parameters names t params) blocks)
+    reads_keep true blocks (with_all_read false (with_all_given (with_parameters names t params) blocks) blocks)
+    ∙ reads_keep false blocks (with_all_given (with_parameters names t params) blocks)
     ∙ fold_keeps (λ s (b : Block). with_given_by s b.instrs) (λ s b. fold_keeps (λ r (i : Instr). with_given r (given_by i.op)) (λ r i. given_keeps r (given_by i.op)) b.instrs s) blocks (with_parameters names t params)
     ∙ fold_keeps (λ s (p : Parameter). with_thing s (number_of names p.name)) (λ s p. refl) params t
 

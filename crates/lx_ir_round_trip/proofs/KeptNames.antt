@@ -12,7 +12,7 @@ use Rattle.lx_ir.specs.declared.module.Value.TheVariants as values
 use Rattle.lx_ir.specs.declared.module.Block.{Block}
 use Rattle.lx_ir.specs.declared.instr.Argument.{Argument}
 use Rattle.lx_ir.specs.declared.instr.Instr.{Instr}
-use Rattle.lx_ir.specs.Operands.{given_by, operands_of}
+use Rattle.lx_ir.specs.Operands.{given_by, operands_where}
 use Rattle.lx_ir_tokens.specs.Names.{number_of}
 use Rattle.lx_ir_tables.specs.Numbering.{Numbering, numbering, with_thing, is_new}
 use Rattle.lx_ir_tables.specs.Registers.{with_given, with_given_by, with_all_given, with_read, with_operands, with_read_by, with_all_read, with_parameters, registers_of}
@@ -59,13 +59,14 @@ operands_grow : (xs : List Argument) (t : Numbering) → Grows t (with_operands 
 operands_grow [] t = grown t
 operands_grow (x ∷ xs) t = on t (with_read t x.value) (with_operands t (x ∷ xs)) (read_grows t x.value) (operands_grow xs (with_read t x.value))
 
-read_by_grows : (is : List Instr) (t : Numbering) → Grows t (with_read_by t is)
-read_by_grows [] t = grown t
-read_by_grows (i ∷ is) t = on t (with_operands t (operands_of i.op)) (with_read_by t (i ∷ is)) (operands_grow (operands_of i.op) t) (read_by_grows is (with_operands t (operands_of i.op)))
+read_by_grows : (lines : Bool) (is : List Instr) (t : Numbering) → Grows t (with_read_by lines t is)
+read_by_grows lines [] t = grown t
+read_by_grows lines (i ∷ is) t =
+    on t (with_operands t (operands_where lines i.op)) (with_read_by lines t (i ∷ is)) (operands_grow (operands_where lines i.op) t) (read_by_grows lines is (with_operands t (operands_where lines i.op)))
 
-all_read_grows : (bs : List Block) (t : Numbering) → Grows t (with_all_read t bs)
-all_read_grows [] t = grown t
-all_read_grows (b ∷ bs) t = on t (with_read_by t b.instrs) (with_all_read t (b ∷ bs)) (read_by_grows b.instrs t) (all_read_grows bs (with_read_by t b.instrs))
+all_read_grows : (lines : Bool) (bs : List Block) (t : Numbering) → Grows t (with_all_read lines t bs)
+all_read_grows lines [] t = grown t
+all_read_grows lines (b ∷ bs) t = on t (with_read_by lines t b.instrs) (with_all_read lines t (b ∷ bs)) (read_by_grows lines b.instrs t) (all_read_grows lines bs (with_read_by lines t b.instrs))
 
 parameters_added : (names : List (List ℕ)) (count : ℕ) (ps : List Parameter) (done : List (Option ℕ)) → with_parameters names (numbering count done) ps ≡ numbering count (done ++ map (λ p. number_of names p.name) ps)
 parameters_added names count [] done = ap (numbering count) (sym (append-nil done))
@@ -76,7 +77,12 @@ parameters_added names count (p ∷ ps) done =
 registers_grow : (names : List (List ℕ)) (ps : List Parameter) (bs : List Block) → (ns : List ℕ) × (registers_of names (numbering (length names) []) ps bs ≡ numbering (length names) (map (λ p. number_of names p.name) ps ++ map Some ns))
 registers_grow names ps bs =
     let start : Numbering = with_parameters names (numbering (length names) []) ps in
-    let g = on start (with_all_given start bs) (with_all_read (with_all_given start bs) bs) (all_given_grows bs start) (all_read_grows bs (with_all_given start bs)) in
+    let given : Numbering = with_all_given start bs in
+    let plain : Numbering = with_all_read false given bs in
+    let g =
+    on start plain (with_all_read true plain bs)
+    (on start given plain (all_given_grows bs start) (all_read_grows false bs given))
+    (all_read_grows true bs plain) in
     (g.0, g.1 ∙ ap (λ (t : Numbering). numbering t.count (t.things ++ map Some g.0)) (parameters_added names (length names) ps []))
 
 -- Names of registers.

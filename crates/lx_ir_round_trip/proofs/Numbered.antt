@@ -15,9 +15,9 @@ use Rattle.lx_ir.specs.declared.module.Function.{Function}
 use Rattle.lx_ir.specs.declared.instr.Instr.{Instr}
 use Rattle.lx_ir.specs.declared.instr.Op.{Op}
 use Rattle.lx_ir.specs.Lookup.{blocks_of_option}
-use Rattle.lx_ir.specs.Operands.{register_count, given_numbers, given_by, operands_of}
+use Rattle.lx_ir.specs.Operands.{register_count, given_numbers, given_by}
 use Rattle.lx_ir.specs.Text.{register_names}
-use Rattle.lx_ir.specs.Lawful.{is_distinct, counts_from, first_come, read_numbers, registers_in, numbers_registers}
+use Rattle.lx_ir.specs.Lawful.{is_distinct, counts_from, first_come, read_numbers, numbers_read, numbers_registers}
 use Rattle.lx_ir_tokens.specs.Names.{number_of}
 use Rattle.lx_ir_terms.specs.Context.{Context, entry, nothing, register_or, register_number}
 use Rattle.lx_ir_tables.specs.Numbering.{Numbering, numbering, has_name, number_from, number_named, numbers_from, table_of, with_thing, own_numbers}
@@ -208,21 +208,28 @@ module _ (f : Function) (c : Context) (few : register_count f < nothing) (has : 
       let apart = distinct_places c.names (register_names f) (once_of (register_names f) distinct) in
       let both = and_parts (counts_from (length f.params) (given_numbers f)) (first_come (length f.params + length (given_numbers f)) (register_count f) (read_numbers f)) numbers in
       let given : List ℕ = filter_map (λ i. given_by i.op) (flat_map (λ b. b.instrs) bs) in
-      let read : List ℕ = flat_map (λ i. registers_in (operands_of i.op)) (flat_map (λ b. b.instrs) bs) in
+      let plain : List ℕ = numbers_read false (flat_map (λ b. b.instrs) bs) in
+      let lines : List ℕ = numbers_read true (flat_map (λ b. b.instrs) bs) in
       let given_same : given_numbers f ≡ given = ap (λ o. filter_map (λ i. given_by i.op) (flat_map (λ b. b.instrs) (blocks_of_option o))) body in
-      let read_same : read_numbers f ≡ read = ap (λ o. flat_map (λ i. registers_in (operands_of i.op)) (flat_map (λ b. b.instrs) (blocks_of_option o))) body in
+      let inside : Option (List Block) → List Instr = λ o. flat_map (λ b. b.instrs) (blocks_of_option o) in
+      let read_same : read_numbers f ≡ plain ++ lines = ap (λ o. numbers_read false (inside o) ++ numbers_read true (inside o)) body in
       let up : length f.params + length (given_numbers f) ≤ register_count f = first_come_le (length f.params + length (given_numbers f)) (register_count f) (read_numbers f) both.1 in
       let ends : given_numbers f ≡ given ++ [] = given_same ∙ sym (append-nil given) in
       let bound : length f.params + length (given ++ []) ≤ length things = omega (arith, up, ap length ends, count_things) in
       let one = given_blocks c d count things traced apart within bs es alike (length f.params) [] (ap (counts_from (length f.params)) (sym ends) ∙ both.0) bound in
       let place : length f.params + length (given_numbers f) ≡ one.0 = omega (arith, one.3, ap length ends) in
       let le : register_count f ≤ length things = omega (arith, count_things) in
-      let more =
-      read_blocks c d count things traced apart within bs es alike one.0 (register_count f) [] le
-      (ap (first_come one.0 (register_count f)) (append-nil read ∙ sym read_same) ∙ ap (λ n. first_come n (register_count f) (read_numbers f)) (sym place) ∙ both.1) in
+      let begins =
+      read_blocks c d count things traced apart within false bs es alike one.0 (register_count f) (lines ++ []) le
+      (ap (λ ks. first_come one.0 (register_count f) (plain ++ ks)) (append-nil lines) ∙ ap (first_come one.0 (register_count f)) (sym read_same) ∙ ap (λ n. first_come n (register_count f) (read_numbers f)) (sym place) ∙ both.1) in
+      let more = read_blocks c d count things traced apart within true bs es alike begins.0 (register_count f) [] le begins.2 in
       let last : more.0 ≡ register_count f = eqb-true more.0 (register_count f) more.2 in
       let all : take more.0 things ≡ things = take_all more.0 things (omega (arith, last, count_things)) in
-      ap (λ t. with_all_read (with_all_given t es) es) parameters_first ∙ ap (λ t. with_all_read t es) one.1 ∙ more.1 ∙ ap (numbering count) all
+      ap (λ t. with_all_read true (with_all_read false (with_all_given t es) es) es) parameters_first
+      ∙ ap (λ t. with_all_read true (with_all_read false t es) es) one.1
+      ∙ ap (λ t. with_all_read true t es) begins.1
+      ∙ more.1
+      ∙ ap (numbering count) all
 
 -- A first reading of a function numbers its registers as the function does.
 pub registers_numbered : (f : Function) (bs ds es : List Block) (c : Context) → f.blocks ≡ Some bs → numbers_registers f ≡ true → is_distinct (register_names f) ≡ true → register_count f < nothing → AreOnce c.names → HasRegisters f c

@@ -14,12 +14,13 @@ use Rattle.lx_ir.specs.declared.module.Value.TheVariants as values
 use Rattle.lx_ir.specs.declared.module.Block.{Block}
 use Rattle.lx_ir.specs.declared.instr.Argument.{Argument}
 use Rattle.lx_ir.specs.declared.instr.Instr.{Instr}
-use Rattle.lx_ir.specs.Operands.{operands_of, given_by}
-use Rattle.lx_ir.specs.Lawful.{counts_from, register_in, registers_in, first_come}
+use Rattle.lx_ir.specs.Operands.{operands_where, given_by}
+use Rattle.lx_ir.specs.Lawful.{counts_from, register_in, registers_in, numbers_read, first_come}
 use Rattle.lx_ir_terms.specs.Context.{Context}
 use Rattle.lx_ir_tables.specs.Numbering.{Numbering, numbering, has_name, number_from, number_named, with_thing, is_new}
 use Rattle.lx_ir_tables.specs.Registers.{with_given, with_given_by, with_all_given, with_read, with_operands, with_read_by, with_all_read}
 use Rattle.lx_ir_forgotten.specs.Alike.{AlikeRegisters, AlikeValues, AlikeArguments, AlikeGiven, AlikeOps}
+use Rattle.lx_ir_forgotten.proofs.ReadWhere.{read_where}
 
 -- Lists.
 
@@ -142,9 +143,6 @@ module _ (c d : Context) (count : ℕ) (things : List (Option ℕ))
 
   -- What instructions read.
 
-  abbrev read_of : List Instr → List ℕ
-  read_of is = flat_map (λ i. registers_in (operands_of i.op)) is
-
   new_one : (k s : ℕ) → slice_get things k ≡ Some (Some s) → is_new (so_far k) s ≡ true
   new_one k s at =
       let lt : s < count = within k s at in
@@ -189,24 +187,28 @@ module _ (c d : Context) (count : ℕ) (things : List (Option ℕ))
       let more = read_operands xs ys a.1 one.0 last rest le one.2 in
       (more.0, ap (λ t. with_operands t ys) one.1 ∙ more.1, more.2)
 
-  read_instrs : (is js : List Instr) → AlikeInside is js → (k last : ℕ) (rest : List ℕ) → last ≤ length things → first_come k last (read_of is ++ rest) ≡ true → Reads k last rest (with_read_by (so_far k) js)
-  read_instrs [] [] a k last rest le h = (k, refl, h)
-  read_instrs [] (j ∷ js) a k last rest le h = absurd a
-  read_instrs (i ∷ is) [] a k last rest le h = absurd a
-  read_instrs (i ∷ is) (j ∷ js) a k last rest le h =
-      let one = read_operands (operands_of i.op) (operands_of j.op) a.0.read k last (read_of is ++ rest) le (ap (first_come k last) (sym (append_assoc (registers_in (operands_of i.op)) (read_of is) rest)) ∙ h) in
-      let more = read_instrs is js a.1 one.0 last rest le one.2 in
-      (more.0, ap (λ t. with_read_by t js) one.1 ∙ more.1, more.2)
+  read_instrs : (lines : Bool) (is js : List Instr) → AlikeInside is js → (k last : ℕ) (rest : List ℕ) → last ≤ length things → first_come k last (numbers_read lines is ++ rest) ≡ true → Reads k last rest (with_read_by lines (so_far k) js)
+  read_instrs lines [] [] a k last rest le h = (k, refl, h)
+  read_instrs lines [] (j ∷ js) a k last rest le h = absurd a
+  read_instrs lines (i ∷ is) [] a k last rest le h = absurd a
+  read_instrs lines (i ∷ is) (j ∷ js) a k last rest le h =
+      let xs : List Argument = operands_where lines i.op in
+      let one =
+      read_operands xs (operands_where lines j.op) (read_where c d lines i.op j.op a.0) k last (numbers_read lines is ++ rest) le
+      (ap (first_come k last) (sym (append_assoc (registers_in xs) (numbers_read lines is) rest)) ∙ h) in
+      let more = read_instrs lines is js a.1 one.0 last rest le one.2 in
+      (more.0, ap (λ t. with_read_by lines t js) one.1 ∙ more.1, more.2)
 
-  block_read : (b : Block) (bs : List Block) (rest : List ℕ) → read_of (flat_map (λ x. x.instrs) (b ∷ bs)) ++ rest ≡ read_of b.instrs ++ (read_of (flat_map (λ x. x.instrs) bs) ++ rest)
-  block_read b bs rest =
-      ap (λ ks. ks ++ rest) (flat_map-append (λ i. registers_in (operands_of i.op)) b.instrs (flat_map (λ x. x.instrs) bs)) ∙ append_assoc (read_of b.instrs) (read_of (flat_map (λ x. x.instrs) bs)) rest
+  block_read : (lines : Bool) (b : Block) (bs : List Block) (rest : List ℕ) → numbers_read lines (flat_map (λ x. x.instrs) (b ∷ bs)) ++ rest ≡ numbers_read lines b.instrs ++ (numbers_read lines (flat_map (λ x. x.instrs) bs) ++ rest)
+  block_read lines b bs rest =
+      ap (λ ks. ks ++ rest) (flat_map-append (λ i. registers_in (operands_where lines i.op)) b.instrs (flat_map (λ x. x.instrs) bs)) ∙ append_assoc (numbers_read lines b.instrs) (numbers_read lines (flat_map (λ x. x.instrs) bs)) rest
 
-  pub read_blocks : (bs es : List Block) → AlikeBodies bs es → (k last : ℕ) (rest : List ℕ) → last ≤ length things → first_come k last (read_of (flat_map (λ b. b.instrs) bs) ++ rest) ≡ true → Reads k last rest (with_all_read (so_far k) es)
-  read_blocks [] [] a k last rest le h = (k, refl, h)
-  read_blocks [] (e ∷ es) a k last rest le h = absurd a
-  read_blocks (b ∷ bs) [] a k last rest le h = absurd a
-  read_blocks (b ∷ bs) (e ∷ es) a k last rest le h =
-      let one = read_instrs b.instrs e.instrs a.0 k last (read_of (flat_map (λ x. x.instrs) bs) ++ rest) le (ap (first_come k last) (sym (block_read b bs rest)) ∙ h) in
-      let more = read_blocks bs es a.1 one.0 last rest le one.2 in
-      (more.0, ap (λ t. with_all_read t es) one.1 ∙ more.1, more.2)
+  pub read_blocks : (lines : Bool) (bs es : List Block) → AlikeBodies bs es → (k last : ℕ) (rest : List ℕ) → last ≤ length things → first_come k last (numbers_read lines (flat_map (λ b. b.instrs) bs) ++ rest) ≡ true → Reads k last rest (with_all_read lines (so_far k) es)
+  read_blocks lines [] [] a k last rest le h = (k, refl, h)
+  read_blocks lines [] (e ∷ es) a k last rest le h = absurd a
+  read_blocks lines (b ∷ bs) [] a k last rest le h = absurd a
+  read_blocks lines (b ∷ bs) (e ∷ es) a k last rest le h =
+      let tail : List ℕ = numbers_read lines (flat_map (λ x. x.instrs) bs) ++ rest in
+      let one = read_instrs lines b.instrs e.instrs a.0 k last tail le (ap (first_come k last) (sym (block_read lines b bs rest)) ∙ h) in
+      let more = read_blocks lines bs es a.1 one.0 last rest le one.2 in
+      (more.0, ap (λ t. with_all_read lines t es) one.1 ∙ more.1, more.2)

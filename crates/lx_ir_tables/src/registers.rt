@@ -7,7 +7,7 @@ use crate::numbering::Numbering;
 use lx_ir::instr::{Argument, Instr};
 use lx_ir::module::{Block, Parameter, Value};
 use lx_ir_tokens::NameTable;
-use lx_ir_walks::{given_by, operands_of};
+use lx_ir_walks::{given_by, operands_where};
 use lx_words::Memory;
 use std::alloc::Global;
 
@@ -72,28 +72,39 @@ fn add_operands(registers: &mut Numbering, operands: &[Argument]) -> Result<(), 
     Ok(())
 }
 
-fn add_read_by(alloc: Global, registers: &mut Numbering, instrs: &[Instr]) -> Result<(), Memory>
-    ensures { OnOk result (registers.new ≡ with_read_by registers.old instrs.now) }
+fn add_read_by(
+    alloc: Global,
+    registers: &mut Numbering,
+    instrs: &[Instr],
+    lines: bool,
+) -> Result<(), Memory>
+    ensures { OnOk result (registers.new ≡ with_read_by lines registers.old instrs.now) }
 {
     for instr in instrs {
-        let operands = operands_of(alloc, &instr.op)?;
+        let operands = operands_where(alloc, &instr.op, lines)?;
         add_operands(registers, &operands)?;
     }
     Ok(())
 }
 
-/// Adds what the instructions of blocks only read.
-fn add_all_read(alloc: Global, registers: &mut Numbering, blocks: &[Block]) -> Result<(), Memory>
-    ensures { OnOk result (registers.new ≡ with_all_read registers.old blocks.now) }
+/// Adds what the instructions of blocks only read: the lines that images alone have (`lines`), or all others.
+fn add_all_read(
+    alloc: Global,
+    registers: &mut Numbering,
+    blocks: &[Block],
+    lines: bool,
+) -> Result<(), Memory>
+    ensures { OnOk result (registers.new ≡ with_all_read lines registers.old blocks.now) }
 {
     for block in blocks {
-        add_read_by(alloc, registers, block.instrs.as_slice())?;
+        add_read_by(alloc, registers, block.instrs.as_slice(), lines)?;
     }
     Ok(())
 }
 
 /// Numbering the registers of a function, in whose instructions each register is the number of its name: the parameters,
-/// then what the instructions give, then those that they only read, where they are first read.
+/// then what the instructions give, then those that they only read, where they are first read, and last those that only the
+/// lines read that images alone have.
 pub fn number_registers(
     alloc: Global,
     names: &NameTable,
@@ -105,6 +116,7 @@ pub fn number_registers(
 {
     add_parameters(registers, names, params)?;
     add_all_given(registers, blocks)?;
-    add_all_read(alloc, registers, blocks)?;
+    add_all_read(alloc, registers, blocks, false)?;
+    add_all_read(alloc, registers, blocks, true)?;
     Ok(())
 }

@@ -9,5 +9,5 @@ mod search;
 
 pub use exits::last_of;
 pub use first::first_unassigned;
-pub use operands::{blocks_of, given_by, operands_of};
+pub use operands::{blocks_of, given_by, operands_of, operands_where};
 pub use reads::Read;

@@ -2,7 +2,7 @@
 ghost use Rattle.std.specs.Prelude.{◌≡◌, ◌∷◌, ◌++◌, IfOk, map};
 ghost use Rattle.lx_words.specs.declared.word.Width.TheVariants.{W1};
 ghost use Rattle.lx_ir.specs.Lookup.{blocks_of};
-ghost use Rattle.lx_ir.specs.Operands.{operands_of, callee_operands, given_by, guard_width};
+ghost use Rattle.lx_ir.specs.Operands.{operands_of, operands_where, callee_operands, given_by, guard_width, is_image_line};
 
 use lx_ir::instr::{Argument, Callee, Edge, Op, SwitchCase};
 use lx_ir::module::{Block, Function, Value};
@@ -176,6 +176,31 @@ pub fn operands_of(alloc: Global, op: &Op) -> Result<Vec<Argument>, Memory>
         | Op::Pre { .. }
         | Op::Post { .. }
         | Op::Leave { .. } => Ok(Vec::new(alloc)),
+    }
+}
+
+/// Whether an instruction is a line that images alone have.
+fn is_image_line(op: &Op) -> bool
+    ensures { result ≡ is_image_line op.now }
+{
+    matches!(
+        op,
+        Op::Guard { .. }
+            | Op::Check { .. }
+            | Op::Enter { .. }
+            | Op::Pre { .. }
+            | Op::Post { .. }
+            | Op::Leave { .. }
+    )
+}
+
+/// The operands of an instruction, if it is a line that images alone have (`lines`), or if it is another (not `lines`); else none.
+pub fn operands_where(alloc: Global, op: &Op, lines: bool) -> Result<Vec<Argument>, Memory>
+    ensures { IfOk result (λ v. v.items ≡ operands_where lines op.now) }
+{
+    match (lines, is_image_line(op)) {
+        (true, true) | (false, false) => operands_of(alloc, op),
+        (true, false) | (false, true) => Ok(Vec::new(alloc)),
     }
 }
 
