@@ -1,5 +1,6 @@
 //! The runners of a world.
-ghost use Rattle.std.specs.Prelude.{◌≡◌, ◌≤◌, length, map, IfOk};
+ghost use Rattle.std.specs.Prelude.{◌≡◌, ◌<◌, ◌≤◌, length, map, slice_index_or, IfOk};
+ghost use Rattle.std.specs.Borrow.{sem};
 ghost use Rattle.std.specs.List.{sum_by};
 ghost use Rattle.lx_interp.specs.Runner.{calls_left, events_left};
 ghost use Rattle.lx_model.specs.Thread.{fresh_thread};
@@ -18,6 +19,7 @@ pub struct Runners {
 
 impl Runners {
     ghost use Rattle.lx_world.specs.Parts.{list_of};
+    ghost use Rattle.lx_world.specs.Lending.{LendsRunner};
     ghost use Rattle.lx_world.specs.Worlds.{AllStand, script_calls, script_events};
 
     /// A runner for each list of calls.
@@ -34,6 +36,15 @@ impl Runners {
             list.push(runner)?;
         }
         Ok(Runners { list })
+    }
+
+    /// The runner of a thread.
+    pub fn at(&mut self, thread: u32) -> &mut Runner
+        requires { thread < length (list_of self.old) }
+        ensures value { result.now ≡ slice_index_or (list_of self.old) thread result.now }
+        ensures* stays { sem 𝓛 (LendsRunner self.entry thread result) }
+    {
+        &mut self.list[thread as usize]
     }
 
     /// The runners by value, by thread.

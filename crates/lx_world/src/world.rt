@@ -184,7 +184,7 @@ impl<C: CapStore + Drop> World<C> {
         }
         turn(
             &mut self.shared,
-            &mut self.runners.list[place],
+            self.runners.at(thread),
             &self.code,
             thread,
         )?;
