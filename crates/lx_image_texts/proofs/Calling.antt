@@ -32,7 +32,7 @@ pub out_wrapper_names : (i : Interface) (n : ℕ) (fs : List Function) → names
 out_wrapper_names i n [] = refl
 out_wrapper_names i n (f ∷ fs) = out_one i n f fs (is_wrapped f) (out_wrapper_names i (suc n) fs)
 
-image_names : (i : Interface) (m x : Module) → Guards i m x → names_of x.functions ≡ names_of m.functions ++ (map (λ (g : Function). out_prefix ++ g.name) (filter is_wrapped m.functions) ++ names_of (in_wrappers i m))
+pub image_names : (i : Interface) (m x : Module) → Guards i m x → names_of x.functions ≡ names_of m.functions ++ (map (λ (g : Function). out_prefix ++ g.name) (filter is_wrapped m.functions) ++ names_of (in_wrappers i m))
 image_names i m x g =
     ap names_of (sym (split_at (length m.functions) x.functions)) ∙ (names_append (take (length m.functions) x.functions) (drop (length m.functions) x.functions)
     ∙ (λ j. guarded_names m m.functions (take (length m.functions) x.functions) g.functions j
@@ -162,7 +162,7 @@ never false b e = refl
 pub less : (j k n : ℕ) → j < k → k < n → j < n
 less j k n h l = omega (arith, h, l)
 
-program_name : (m : Module) (i : Interface) (x : Module) → Guards i m x → (k : ℕ) (f : Function) → slice_get m.functions k ≡ Some f → is_own_name f.name ≡ false
+pub program_name : (m : Module) (i : Interface) (x : Module) → Guards i m x → (k : ℕ) (f : Function) → slice_get m.functions k ≡ Some f → is_own_name f.name ≡ false
 program_name m i x g k f e = not_own (is_own_name f.name) (all_at is_program_name (names_of m.functions) k f.name (plain_functions m g.plain) (name_got m.functions k f e))
 
 import_found : (i : Interface) (m x : Module) → is_distinct (names_of m.functions) ≡ true → Guards i m x → (k : ℕ) (f : Function) → k < length m.functions → slice_get m.functions k ≡ Some f → is_wrapped f ≡ true → wrapped_number x (out_prefix ++ f.name) ≡ Some k
@@ -224,7 +224,7 @@ any_first : (p : List ℕ → Bool) (xs ys : List (List ℕ)) → list_any p (xs
 any_first p [] ys e = refl
 any_first p (x ∷ xs) ys e = any_by (p x) (list_any p xs) (list_any p (xs ++ ys)) e (any_first p xs ys)
 
-distinct_first : (xs ys : List (List ℕ)) → is_distinct (xs ++ ys) ≡ true → is_distinct xs ≡ true
+pub distinct_first : (xs ys : List (List ℕ)) → is_distinct (xs ++ ys) ≡ true → is_distinct xs ≡ true
 distinct_first [] ys d = refl
 distinct_first (x ∷ xs) ys d =
     both_of (not (list_any (bytes_eq x) xs)) (is_distinct xs)

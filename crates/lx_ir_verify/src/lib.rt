@@ -14,4 +14,7 @@ mod verified;
 
 pub use fault::VerifyFault;
 pub use laws::{verifier_laws, worked_faults};
+pub use phis::{is_same_symbol, is_same_value};
+pub use types::is_same_scalar;
+pub use typing::is_same_result;
 pub use verified::{Verified, verify};

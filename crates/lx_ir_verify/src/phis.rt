@@ -14,7 +14,8 @@ use lx_ir_walks::blocks_of;
 use lx_words::{Width, Word};
 use std::alloc::Global;
 
-fn is_same_symbol(a: Symbol, b: Symbol) -> bool
+/// Whether two names stand for the same function or global.
+pub fn is_same_symbol(a: Symbol, b: Symbol) -> bool
     ensures { result ≡ same_symbol a b }
 {
     match (a, b) {
@@ -116,7 +117,7 @@ fn is_same_constant(a: Constant, b: Constant) -> bool
 }
 
 /// Whether two operands are kept alike.
-fn is_same_value(a: Value, b: Value) -> bool
+pub fn is_same_value(a: Value, b: Value) -> bool
     ensures { result ≡ same_value a b }
 {
     match (a, b) {

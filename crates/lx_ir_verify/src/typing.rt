@@ -174,7 +174,7 @@ fn indices_fit(m: &Module, t: &IrType, indices: &[Argument]) -> bool
 }
 
 /// Whether a call or a return has the result that is asked for.
-fn is_same_result(a: Option<Scalar>, b: Option<Scalar>) -> bool
+pub fn is_same_result(a: Option<Scalar>, b: Option<Scalar>) -> bool
     ensures { result ≡ same_result a b }
 {
     match (a, b) {

@@ -14,7 +14,7 @@ use Rattle.lx_ir.specs.declared.module.GlobalVar.{GlobalVar}
 use Rattle.lx_ir.specs.Lawful.{IsLawful, is_lawful_named, is_lawful_global, is_lawful_init, nesting_of_init, is_name}
 use Rattle.lx_ir.specs.TypeNodes.{types_of_list}
 use Rattle.lx_ir.proofs.Layouts.{array_within, lawful_fields, group, list_back}
-use Rattle.lx_slot_types.specs.Within.{AreWithin}
+use Rattle.lx_slot_types.specs.Within.{AreWithin, HasLawfulTypes}
 
 all_more : (f g : IrType → Bool) → ((t : IrType) → f t ≡ true → g t ≡ true) → (ts : List IrType) → list_all f ts ≡ true → list_all g ts ≡ true
 all_more f g h [] k = refl
@@ -130,24 +130,39 @@ found p (y ∷ ys) zero x h e =
     subst (λ z. p z ≡ true) q a.0
 found p (y ∷ ys) (suc k) x h e = found p ys k x (and_parts (p y) (list_all p ys) h).1 e
 
-named_found : (m : Module) (k : ℕ) (t : IrType) (e : Option NamedType) → IsLawful m → Some t ≡ option_map (λ (x : NamedType). x.ty) e → slice_get m.types k ≡ e → IsTrue (is_lawful_type m.types t)
+named_found : (m : Module) (k : ℕ) (t : IrType) (e : Option NamedType) → HasLawfulTypes m → Some t ≡ option_map (λ (x : NamedType). x.ty) e → slice_get m.types k ≡ e → IsTrue (is_lawful_type m.types t)
 named_found m k t None h p s = absurd (cc)
 named_found m k t (Some e) h p s =
     let a : is_lawful_named m e ≡ true = found (is_lawful_named m) m.types k e h.types s in
     let q : e.ty ≡ t = cc in
     subst (λ u. IsTrue (is_lawful_type m.types u)) q (and_parts (is_name e.name && is_struct e.ty) (is_lawful_type m.types e.ty) a).1
 
-pub named_lawful : (m : Module) (k : ℕ) (t : IrType) → IsLawful m → Some t ≡ option_map (λ (x : NamedType). x.ty) (slice_get m.types k) → IsTrue (is_lawful_type m.types t)
+pub named_lawful : (m : Module) (k : ℕ) (t : IrType) → HasLawfulTypes m → Some t ≡ option_map (λ (x : NamedType). x.ty) (slice_get m.types k) → IsTrue (is_lawful_type m.types t)
 named_lawful m k t h p = named_found m k t (slice_get m.types k) h p refl
 
-global_found : (m : Module) (k : ℕ) (t : IrType) (g : Option GlobalVar) → IsLawful m → Some t ≡ option_map (λ (x : GlobalVar). x.ty) g → slice_get m.globals k ≡ g → IsTrue (is_lawful_type m.types t)
+global_found : (m : Module) (k : ℕ) (t : IrType) (g : Option GlobalVar) → HasLawfulTypes m → Some t ≡ option_map (λ (x : GlobalVar). x.ty) g → slice_get m.globals k ≡ g → IsTrue (is_lawful_type m.types t)
 global_found m k t None h p s = absurd (cc)
 global_found m k t (Some g) h p s =
-    let a : is_lawful_global m g ≡ true = found (is_lawful_global m) m.globals k g h.globals s in
+    let a : is_lawful_type m.types g.ty ≡ true = found (λ (x : GlobalVar). is_lawful_type m.types x.ty) m.globals k g h.globals s in
     let q : g.ty ≡ t = cc in
+    subst (λ u. IsTrue (is_lawful_type m.types u)) q a
+
+pub global_lawful : (m : Module) (k : ℕ) (t : IrType) → HasLawfulTypes m → Some t ≡ option_map (λ (x : GlobalVar). x.ty) (slice_get m.globals k) → IsTrue (is_lawful_type m.types t)
+global_lawful m k t h p = global_found m k t (slice_get m.globals k) h p refl
+
+-- of a lawful module they are
+
+global_type_lawful : (m : Module) (g : GlobalVar) → is_lawful_global m g ≡ true → is_lawful_type m.types g.ty ≡ true
+global_type_lawful m g a =
     let b = and_parts (is_name g.name && is_lawful_type m.types g.ty && is_lawful_init m g.ty g.init) (nat_le (nesting_of_init g.init) 64) a in
     let c = and_parts (is_name g.name && is_lawful_type m.types g.ty) (is_lawful_init m g.ty g.init) b.0 in
-    subst (λ u. IsTrue (is_lawful_type m.types u)) q (and_parts (is_name g.name) (is_lawful_type m.types g.ty) c.0).1
+    (and_parts (is_name g.name) (is_lawful_type m.types g.ty) c.0).1
 
-pub global_lawful : (m : Module) (k : ℕ) (t : IrType) → IsLawful m → Some t ≡ option_map (λ (x : GlobalVar). x.ty) (slice_get m.globals k) → IsTrue (is_lawful_type m.types t)
-global_lawful m k t h p = global_found m k t (slice_get m.globals k) h p refl
+global_types_lawful : (m : Module) (gs : List GlobalVar) → list_all (is_lawful_global m) gs ≡ true → list_all (λ (g : GlobalVar). is_lawful_type m.types g.ty) gs ≡ true
+global_types_lawful m [] h = refl
+global_types_lawful m (g ∷ gs) h =
+    let a = and_parts (is_lawful_global m g) (list_all (is_lawful_global m) gs) h in
+    (λ j. global_type_lawful m g a.0 j && global_types_lawful m gs a.1 j)
+
+pub lawful_types : (m : Module) → IsLawful m → HasLawfulTypes m
+lawful_types m h = record { types = h.types; globals = global_types_lawful m m.globals h.globals; few_functions = h.few_functions }

@@ -2,10 +2,9 @@
 
 ghost use Rattle.std.specs.Prelude.{◌≡◌, ◌++◌, ◌<◌, ◌≤◌, ◌/◌, ◌%◌, ◌&&◌, IsTrue, OnOk, [], if◌then◌else◌, nat_eq, nat_le, nat_lt, option_copied, option_map, slice_get};
 ghost use Rattle.lx_ir.specs.Layout.{is_lawful_type, layout, size_of};
-ghost use Rattle.lx_ir.specs.Lawful.{IsLawful};
 ghost use Rattle.lx_ir.specs.TypeNodes.{types_of_list};
 ghost use Rattle.lx_propagate.specs.Sites.{array_fields_at, entry_fields, field_here, fields_at, named_fields_at, names_of, start_of, struct_fields_at};
-ghost use Rattle.lx_slot_types.specs.Within.{AreWithin};
+ghost use Rattle.lx_slot_types.specs.Within.{AreWithin, HasLawfulTypes};
 
 use lx_ir::module::Module;
 use lx_ir::types::{IrType, TypeNode};
@@ -119,7 +118,7 @@ pub fn push_fields(
     t: &IrType,
     offset: u64,
 ) -> Result<(), Memory>
-    requires lawful { IsLawful m.now }
+    requires lawful { HasLawfulTypes m.now }
     requires within { IsTrue (is_lawful_type m.now.types t.now) }
     ensures { OnOk result (out.new.items ≡ out.old.items ++ fields_at m.now.types (named_fields_at m.now.types names) t.now offset) }
 {
@@ -146,7 +145,7 @@ fn push_fields_if(
     holds: bool,
     offset: u64,
 ) -> Result<(), Memory>
-    requires lawful { IsLawful m.now }
+    requires lawful { HasLawfulTypes m.now }
     requires within { IsTrue (is_lawful_type m.now.types t.now) }
     ensures { OnOk result (out.new.items ≡ out.old.items ++ (if holds then fields_at m.now.types (named_fields_at m.now.types names) t.now offset else [])) }
 {
@@ -167,7 +166,7 @@ fn push_array_fields(
     count: u64,
     offset: u64,
 ) -> Result<(), Memory>
-    requires lawful { IsLawful m.now }
+    requires lawful { HasLawfulTypes m.now }
     requires within { IsTrue (is_lawful_type m.now.types element.now) }
     ensures { OnOk result (out.new.items ≡ out.old.items ++ array_fields_at (fields_at m.now.types (named_fields_at m.now.types names) element.now) count (size_of m.now.types element.now) offset) }
 {
@@ -192,7 +191,7 @@ fn push_struct_fields(
     fields: &[IrType],
     offset: u64,
 ) -> Result<(), Memory>
-    requires lawful { IsLawful m.now }
+    requires lawful { HasLawfulTypes m.now }
     requires within { AreWithin m.now.types packed fields.now }
     ensures { OnOk result (out.new.items ≡ out.old.items ++ struct_fields_at m.now.types (named_fields_at m.now.types names) name packed (types_of_list fields.now) 0 (layout 0 1) offset) }
 {
@@ -216,7 +215,7 @@ fn push_inner_fields(
     start: u64,
     offset: u64,
 ) -> Result<(), Memory>
-    requires lawful { IsLawful m.now }
+    requires lawful { HasLawfulTypes m.now }
     requires within { IsTrue (is_lawful_type m.now.types field.now) }
     ensures { OnOk result (out.new.items ≡ out.old.items ++ field_here [] (fields_at m.now.types (named_fields_at m.now.types names) field.now) start (size_of m.now.types field.now) offset) }
 {
@@ -239,7 +238,7 @@ fn push_named_fields(
     number: u32,
     offset: u64,
 ) -> Result<(), Memory>
-    requires { IsLawful m.now }
+    requires { HasLawfulTypes m.now }
     ensures { OnOk result (out.new.items ≡ out.old.items ++ named_fields_at m.now.types names number offset) }
 {
     if names == 0 {
@@ -261,7 +260,7 @@ fn push_entry_fields(
     t: &IrType,
     offset: u64,
 ) -> Result<(), Memory>
-    requires lawful { IsLawful m.now }
+    requires lawful { HasLawfulTypes m.now }
     requires within { IsTrue (is_lawful_type m.now.types t.now) }
     ensures { OnOk result (out.new.items ≡ out.old.items ++ entry_fields m.now.types (named_fields_at m.now.types names) number t.now offset) }
 {

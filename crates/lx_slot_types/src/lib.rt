@@ -14,5 +14,5 @@ mod sites;
 
 pub use decide::is_same_annotation;
 pub use fault::PropagateFault;
-pub use module::{propagate, slot_of};
+pub use module::{annotated, check_conflicts, propagate, slot_of};
 pub use rows::worked_slots;

@@ -1,7 +1,7 @@
 //! Functions with the slot types that they get.
 
 ghost use Rattle.std.specs.Prelude.{◌≡◌, ◌++◌, IfOk, OnOk, flat_map, filter_map, option_to_list, slice_get};
-ghost use Rattle.lx_ir.specs.Lawful.{IsLawful};
+ghost use Rattle.lx_slot_types.specs.Within.{HasLawfulTypes};
 ghost use Rattle.lx_propagate.specs.Gets.{has_name};
 ghost use Rattle.lx_slot_types.specs.Marks.{is_typed_by, mark_by, marks_of, site_marks, slot_if, slots_in};
 
@@ -89,7 +89,7 @@ fn push_site_marks(
 
 /// The functions of a module with the slot types that they get.
 pub fn marks_of(alloc: Global, i: &Interface, m: &Module) -> Result<Vec<Marked>, Memory>
-    requires { IsLawful m.now }
+    requires { HasLawfulTypes m.now }
     ensures { IfOk result (λ marks. marks.items ≡ marks_of i.now m.now) }
 {
     let sites = sites_of(alloc, m)?;

@@ -1,7 +1,7 @@
 //! What takes memory where slot types are handed on.
 
 ghost use Rattle.std.specs.Prelude.{◌≡◌, IfOk, MatchResult, Some, ⊤};
-ghost use Rattle.lx_ir.specs.Lawful.{IsLawful};
+ghost use Rattle.lx_slot_types.specs.Within.{HasLawfulTypes};
 ghost use Rattle.lx_slot_types.specs.Answers.{IsAnswerOr};
 ghost use Rattle.lx_slot_types.specs.Marks.{marks_of, slots_in};
 ghost use Rattle.lx_slot_types.specs.Slots.{annotated_of, conflict, differ};
@@ -24,7 +24,7 @@ pub trait Means {
 
     /// The functions of a module with the slot types that they get.
     fn marks_of(&self, i: &Interface, m: &Module) -> Result<Vec<Marked>, Memory>
-        requires { IsLawful m.now }
+        requires { HasLawfulTypes m.now }
         ensures { MatchResult result (λ marks. marks.items ≡ marks_of i.now m.now) (λ _. lacks self.now) };
 
     /// The slot types of a function among marks.
@@ -47,7 +47,7 @@ pub trait Means {
 
     /// The functions of a module with their slot types.
     fn annotated_of(&self, i: &Interface, m: &Module, marks: &[Marked]) -> Result<Annotated, Memory>
-        requires lawful { IsLawful m.now }
+        requires lawful { HasLawfulTypes m.now }
         requires marks { marks.now ≡ marks_of i.now m.now }
         ensures { MatchResult result (λ list. list ≡ annotated_of i.now m.now) (λ _. lacks self.now) };
 }

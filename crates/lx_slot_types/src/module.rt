@@ -1,8 +1,9 @@
 //! Which functions of a module get which slot types.
 
-ghost use Rattle.std.specs.Prelude.{◌≡◌, IfOk};
+ghost use Rattle.std.specs.Prelude.{◌≡◌, IfOk, ⊤};
 ghost use Rattle.lx_ir.specs.Lawful.{IsLawful};
 ghost use Rattle.lx_slot_types.specs.Answers.{GivesOr, Propagates, PropagatesOr};
+ghost use Rattle.lx_slot_types.specs.Within.{HasLawfulTypes};
 ghost use Rattle.lx_slot_types.specs.Marks.{marks_of};
 ghost use Rattle.lx_propagate.specs.Gets.{slot_of};
 ghost use Rattle.lx_slot_types.specs.Slots.{annotated_of, conflict_of};
@@ -37,7 +38,7 @@ pub fn annotated_of(
     m: &Module,
     marks: &[Marked],
 ) -> Result<Annotated, Memory>
-    requires lawful { IsLawful m.now }
+    requires lawful { HasLawfulTypes m.now }
     requires marks { marks.now ≡ marks_of i.now m.now }
     ensures { IfOk result (λ list. list ≡ annotated_of i.now m.now) }
 {
@@ -48,7 +49,7 @@ pub fn annotated_of(
 /// Hands on slot types over any means.
 #[tactic(auto, using(crate::proofs::Passes::wanted))]
 fn propagate_by<M: Means>(means: &M, i: &Interface, m: &Module) -> Result<Annotated, PropagateFault>
-    requires { IsLawful m.now }
+    requires { HasLawfulTypes m.now }
     ensures { PropagatesOr (M.lacks means.now) i.now m.now result }
 {
     let marks = means.marks_of(i, m)?;
@@ -70,7 +71,7 @@ fn propagate_by<M: Means>(means: &M, i: &Interface, m: &Module) -> Result<Annota
 /// same canonical text; it names the first such function. `PropagateFault::Memory` comes only where there was no memory
 /// for the lists of sites, for the texts of annotations or for the names in the fault: a conflict is looked for in
 /// those lists and texts, so that one may go unseen for want of them, but none that was found is told as want of memory.
-#[tactic(auto, using(crate::proofs::Passes::any_want))]
+#[tactic(auto, using(crate::proofs::Passes::any_want, crate::proofs::Within::lawful_types))]
 pub fn propagate(alloc: Global, i: &Interface, m: &Module) -> Result<Annotated, PropagateFault>
     requires { IsLawful m.now }
     ensures { Propagates i.now m.now result }
@@ -79,8 +80,37 @@ pub fn propagate(alloc: Global, i: &Interface, m: &Module) -> Result<Annotated, 
     Ok(list)
 }
 
+/// The functions that a module defines and that get a slot type, in order, each with the first slot type in interface
+/// order that it gets, whether functions have conflicts or not. Nothing is asked of the module's functions.
+///
+/// # Errors
+/// Want of memory.
+pub fn annotated(alloc: Global, i: &Interface, m: &Module) -> Result<Annotated, Memory>
+    requires { HasLawfulTypes m.now }
+    ensures { IfOk result (λ list. list ≡ annotated_of i.now m.now) }
+{
+    let marks = marks_of(alloc, i, m)?;
+    let list = annotated_of(alloc, i, m, &marks)?;
+    Ok(list)
+}
+
+/// Finds the first function with a conflict. Nothing is asked of the module's functions.
+///
+/// # Errors
+/// `PropagateFault::Conflict` comes exactly where some function gets two slot types whose annotations have not the same canonical
+/// text; it names the first such function.
+#[tactic(auto, using(crate::proofs::Passes::wanted))]
+pub fn check_conflicts(alloc: Global, i: &Interface, m: &Module) -> Result<(), PropagateFault>
+    requires { HasLawfulTypes m.now }
+    ensures { GivesOr ⊤ (conflict_of i.now m.now) result }
+{
+    let marks = marks_of(alloc, i, m)?;
+    check_module(&alloc, i, m, &marks)?;
+    Ok(())
+}
+
 /// The first slot type in interface order that a function of a module gets, if it gets one. Want of memory is the only error.
-#[tactic(auto, using(crate::proofs::Agree::slot_is))]
+#[tactic(auto, using(crate::proofs::Agree::slot_is, crate::proofs::Within::lawful_types))]
 pub fn slot_of(
     alloc: Global,
     i: &Interface,

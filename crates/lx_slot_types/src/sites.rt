@@ -2,7 +2,7 @@
 
 ghost use Rattle.std.specs.Prelude.{◌≡◌, ◌++◌, IfOk, OnOk, flat_map, map, option_copied, option_map, option_to_list, slice_get};
 ghost use Rattle.lx_ir.specs.InitNodes.{inits_of_list};
-ghost use Rattle.lx_ir.specs.Lawful.{IsLawful};
+ghost use Rattle.lx_slot_types.specs.Within.{HasLawfulTypes};
 ghost use Rattle.lx_ir.specs.Lookup.{blocks_of, instrs_of};
 ghost use Rattle.lx_propagate.specs.Sites.{address_fields, element_fields, field_if_named, function_init, function_sites, function_value, global_fields_at, init_sites, items_sites, register_fields, site, sites_at, sites_of, store_sites};
 
@@ -127,7 +127,7 @@ fn push_global_fields(
     number: u32,
     offset: u64,
 ) -> Result<(), Memory>
-    requires { IsLawful m.now }
+    requires { HasLawfulTypes m.now }
     ensures { OnOk result (out.new.items ≡ out.old.items ++ global_fields_at m.now number offset) }
 {
     match global_type(m, number) {
@@ -138,7 +138,7 @@ fn push_global_fields(
 
 /// Appends the fields that an address names, where it is a constant.
 fn push_address_fields(out: &mut Vec<FieldName>, m: &Module, at: &Value) -> Result<(), Memory>
-    requires { IsLawful m.now }
+    requires { HasLawfulTypes m.now }
     ensures { OnOk result (out.new.items ≡ out.old.items ++ address_fields m.now at.now) }
 {
     match *at {
@@ -213,7 +213,7 @@ fn stored_fields(
     blocks: &[Block],
     at: &Value,
 ) -> Result<Vec<FieldName>, Memory>
-    requires { IsLawful m.now }
+    requires { HasLawfulTypes m.now }
     ensures { IfOk result (λ fields. fields.items ≡ address_fields m.now at.now ++ register_fields m.now (flat_map (λ b. b.instrs) blocks.now) at.now) }
 {
     let mut fields = Vec::new(alloc);
@@ -231,7 +231,7 @@ fn push_store(
     value: Value,
     at: &Value,
 ) -> Result<(), Memory>
-    requires { IsLawful m.now }
+    requires { HasLawfulTypes m.now }
     ensures { OnOk result (out.new.items ≡ out.old.items ++ sites_at (address_fields m.now at.now ++ register_fields m.now (flat_map (λ b. b.instrs) blocks.now) at.now) (function_value value)) }
 {
     match function_value(value) {
@@ -251,7 +251,7 @@ fn push_store_sites(
     blocks: &[Block],
     op: &Op,
 ) -> Result<(), Memory>
-    requires { IsLawful m.now }
+    requires { HasLawfulTypes m.now }
     ensures { OnOk result (out.new.items ≡ out.old.items ++ store_sites m.now (flat_map (λ b. b.instrs) blocks.now) op.now) }
 {
     match op {
@@ -268,7 +268,7 @@ fn push_instrs_sites(
     blocks: &[Block],
     instrs: &[Instr],
 ) -> Result<(), Memory>
-    requires { IsLawful m.now }
+    requires { HasLawfulTypes m.now }
     ensures { OnOk result (out.new.items ≡ out.old.items ++ flat_map (λ i. store_sites m.now (flat_map (λ b. b.instrs) blocks.now) i.op) instrs.now) }
 {
     for instr in instrs {
@@ -284,7 +284,7 @@ fn push_blocks_sites(
     m: &Module,
     blocks: &[Block],
 ) -> Result<(), Memory>
-    requires { IsLawful m.now }
+    requires { HasLawfulTypes m.now }
     ensures { OnOk result (out.new.items ≡ out.old.items ++ function_sites m.now (flat_map (λ b. b.instrs) blocks.now)) }
 {
     for block in blocks {
@@ -300,7 +300,7 @@ fn push_function_sites(
     m: &Module,
     f: &Function,
 ) -> Result<(), Memory>
-    requires { IsLawful m.now }
+    requires { HasLawfulTypes m.now }
     ensures { OnOk result (out.new.items ≡ out.old.items ++ function_sites m.now (instrs_of f.now)) }
 {
     match &f.blocks {
@@ -321,7 +321,7 @@ fn push_globals(out: &mut Vec<Site>, m: &Module) -> Result<(), Memory>
 
 /// Appends the sites in functions.
 fn push_functions(alloc: Global, out: &mut Vec<Site>, m: &Module) -> Result<(), Memory>
-    requires { IsLawful m.now }
+    requires { HasLawfulTypes m.now }
     ensures { OnOk result (out.new.items ≡ out.old.items ++ flat_map (λ f. function_sites m.now (instrs_of f)) m.now.functions) }
 {
     for function in m.functions.as_slice() {
@@ -332,7 +332,7 @@ fn push_functions(alloc: Global, out: &mut Vec<Site>, m: &Module) -> Result<(), 
 
 /// All sites of a module: those in initialisers, and then those of stores.
 pub fn sites_of(alloc: Global, m: &Module) -> Result<Vec<Site>, Memory>
-    requires { IsLawful m.now }
+    requires { HasLawfulTypes m.now }
     ensures { IfOk result (λ sites. sites.items ≡ sites_of m.now) }
 {
     let mut sites = Vec::new(alloc);

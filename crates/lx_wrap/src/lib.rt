@@ -11,5 +11,5 @@ mod names;
 mod signature;
 
 pub use functions::{wrapper, wrapper_of};
-pub use module::{push_wrappers, wrappers};
+pub use module::{is_wrapped, push_wrappers, wrappers};
 pub use names::{Side, wrapper_name};

@@ -41,7 +41,7 @@ fn is_alias(name: &[u8]) -> bool
 }
 
 /// Whether a function is an import that has a wrapper.
-fn is_wrapped(f: &Function) -> bool
+pub fn is_wrapped(f: &Function) -> bool
     ensures { result ≡ is_wrapped f.now }
 {
     f.blocks.is_none() && !is_alias(f.name.as_slice())
