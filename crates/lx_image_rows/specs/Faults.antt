@@ -1,5 +1,5 @@
 -- Worked rows: images, changed in one place, and the first fault of each.
-use Rattle.std.specs.Prelude.{◌≡◌, ℕ, true, false, Option, Some, None, List, [], ◌∷◌, ◌++◌, codes}
+use Rattle.std.specs.Prelude.{◌≡◌, ℕ, true, Option, Some, None, List, [], ◌∷◌, ◌++◌, codes}
 use Rattle.std.specs.List.{list_all}
 use Rattle.lx_ir.specs.declared.types.Scalar.TheVariants.{Ptr}
 use Rattle.lx_ir.specs.declared.module.Symbol.TheVariants as symbol
@@ -47,9 +47,10 @@ pub record WorkedFaults : Type 0 where
   pub guarded : first quiet_guarded ≡ None
   pub too_wide : first (quiet_with [] (op.Store i64 (n64 1) (reg 1))) ≡ fault BareStore 4 (codes "f") 1
   pub let_go : first (quiet_with (quiet_guard 8 ∷ at 4 (op.Store Ptr (reg 1) (reg 1)) ∷ []) quiet_store) ≡ fault BareStore 4 (codes "f") 3
-  -- in a block that no walk reaches, the program that erasing gives may number its registers otherwise than a text that is read
+  -- in a block that no walk reaches, where a guard reads an address before its store reads the value: the text numbers its registers as
+  -- the program does that erasing gives
   pub unreached_lawful : IsLawful unreached
   pub unreached_verifies : FirstFault unreached None
   pub unreached_image : first unreached ≡ None
   pub unreached_numbers : list_all numbers_registers unreached.functions ≡ true
-  pub unreached_program : list_all numbers_registers (program_of unreached).functions ≡ false
+  pub unreached_program : list_all numbers_registers (program_of unreached).functions ≡ true

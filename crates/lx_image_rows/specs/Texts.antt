@@ -173,9 +173,9 @@ unreached_function =
     record {
       name = codes "f";
       params = [];
-      locals = codes "a" ∷ codes "v" ∷ [];
+      locals = codes "v" ∷ codes "a" ∷ [];
       ret = None;
-      blocks = Some (block (codes "0") (at 2 (op.Ret None) ∷ []) ∷ block (codes "1") (at 4 (op.Guard (reg 0) (n64 8) false) ∷ at 5 (op.Store i64 (reg 1) (reg 0)) ∷ at 6 (op.Ret None) ∷ []) ∷ []);
+      blocks = Some (block (codes "0") (at 2 (op.Ret None) ∷ []) ∷ block (codes "1") (at 4 (op.Guard (reg 1) (n64 8) false) ∷ at 5 (op.Store i64 (reg 0) (reg 1)) ∷ at 6 (op.Ret None) ∷ []) ∷ []);
       line = 1;
     }
 

@@ -21,7 +21,7 @@ none_unassigned : (place r line : ℕ) → IsUnassigned unreached_function (reco
 none_unassigned place r line u = no_walk u.walk u.comes
 
 verifies : FirstFault unreached None
-verifies = inr (inr (none_unassigned 0 0 4, inr (none_unassigned 1 1 5, inr (none_unassigned 1 0 5, refl))), refl)
+verifies = inr (inr (none_unassigned 0 1 4, inr (none_unassigned 1 0 5, inr (none_unassigned 1 1 5, refl))), refl)
 
 lawful : IsLawful unreached
 lawful = record { types_once = refl; symbols_once = refl; types = refl; globals = refl; functions = refl; imports_first = refl; few_types = omega arith; few_globals = omega arith; few_functions = omega arith }

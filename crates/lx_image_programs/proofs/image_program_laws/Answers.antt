@@ -1,0 +1,9 @@
+-- The laws are lemmas.
+use Rattle.lx_image_programs.proofs.Programs.{programs, erased}
+use Rattle.lx_image_programs.proofs.Images.{functions}
+use Rattle.lx_image_programs.proofs.WholeImages.{faultless, images, full, spared}
+use Rattle.lx_image_programs.proofs.Room.{room}
+use Rattle.lx_image_programs.proofs.image_program_laws.Goals as goal
+
+pub returns : goal.returns
+returns c = record { programs = programs; erased = erased; functions = functions; faultless = faultless; images = images; room = room; full = full; spared = spared }
