@@ -1,0 +1,13 @@
+//! Copies of parts of modules, each equal to what is copied.
+#![tactic(auto)]
+
+mod copied;
+mod inits;
+mod module;
+mod ops;
+mod types;
+
+pub use copied::{Copied, copies};
+pub use inits::copied_init;
+pub use ops::{copied_call, copied_op};
+pub use types::copied_type;
