@@ -1,0 +1,6 @@
+use Rattle.lx_image_marks.proofs.Firsts.{first_all}
+use Rattle.lx_image_check.specs.Expected.{defines}
+use Rattle.lx_image_check.proofs.wrappers.defined_in.Goals as goal
+
+pub returns : goal.returns
+returns c = λ name. first_all (defines name) c.args.functions.now c.loop-left.left _ c.loop-left-test.false (c.loop-left.invariant.so_far name)

@@ -1,0 +1,19 @@
+//! What is wrong in the instructions of an image: marks that are missing, stray or of another place or size, calls past wrappers, and
+//! mentions of what images alone have. `check_instructions` finds the first such fault.
+#![tactic(auto)]
+
+mod fault;
+mod imports;
+mod kinds;
+mod marks;
+mod mentions;
+mod names;
+mod text;
+mod walk;
+
+pub use fault::{FaultKind, ImageFault, Refusal, refuse};
+pub use imports::Imports;
+pub use mentions::constant_mentions;
+pub use names::{is_own_name, is_wrapper};
+pub use text::ImageText;
+pub use walk::check_instructions;
