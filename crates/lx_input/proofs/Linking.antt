@@ -1,5 +1,5 @@
 -- What linking answers, and what is linked.
-use Rattle.std.proofs.Common.{◌≡◌, ◌∙◌, sym, ap, subst, refl, ℕ, ◌≤◌, List, [], ◌∷◌, length, map, Option, Some, None, Result, Ok, Err, inl, inr, ◌⊎◌, arith}
+use Rattle.std.proofs.Common.{◌≡◌, ◌∙◌, sym, ap, subst, refl, ℕ, suc, ◌<◌, ◌≤◌, List, [], ◌∷◌, length, map, Option, Some, None, Result, Ok, Err, inl, inr, ◌⊎◌, arith}
 use Rattle.std.proofs.lemmas.List.{length-map}
 use Rattle.lx_ir.specs.declared.module.Module.{Module}
 use Rattle.lx_annot.specs.declared.interface.Interface.{Interface}
@@ -25,12 +25,14 @@ use Rattle.lx_sources.specs.declared.line.FaultLine.{FaultLine}
 use Rattle.lx_sources.specs.declared.stop.InputStop.{InputStop}
 use Rattle.lx_sources.specs.declared.stop.InputStop.TheVariants as stops
 use Rattle.lx_sources.specs.declared.line.FaultKind.TheVariants as kinds
+use Rattle.lx_sources.specs.declared.sources.Besides.{Besides}
 use Rattle.lx_sources.specs.declared.sources.Sources.{Sources}
+use Rattle.lx_sources.specs.Sound.{IsOneOf}
 use Rattle.lx_sources.specs.Faults.{IsTold, fault_at}
 use Rattle.lx_input.specs.declared.input.Input.{Input}
 use Rattle.lx_input.specs.Lines.{link_answer, link_line, link_number, linked_file, named_or}
 use Rattle.lx_input.specs.Inputs.{LinkTurn, texts_of}
-use Rattle.lx_input.specs.Laws.{IsReady}
+use Rattle.lx_input.specs.Laws.{IsLinkedInput, IsModuleNumber}
 
 -- the line of an answer is that of the fault
 
@@ -64,18 +66,24 @@ all_marked_by i [] (m ∷ ms) as_many = absurd (omega (arith, as_many))
 all_marked_by i (n ∷ ns) [] as_many = absurd (omega (arith, as_many))
 all_marked_by i (n ∷ ns) (m ∷ ms) as_many = ap (λ (xs : List (List Marked)). annotated_of i m ∷ xs) (all_marked_by i ns ms (omega (arith, as_many)))
 
+as_many_named : (ns : List CaseModule) (ms : List Module) → length ms ≡ length ns → length (named_modules ns ms) ≡ length ms
+as_many_named [] [] as_many = refl
+as_many_named [] (m ∷ ms) as_many = absurd (omega (arith, as_many))
+as_many_named (n ∷ ns) [] as_many = absurd (omega (arith, as_many))
+as_many_named (n ∷ ns) (m ∷ ms) as_many = ap suc (as_many_named ns ms (omega (arith, as_many)))
+
 pub all_marked : (kernel : Module) (i : Interface) (ns : List CaseModule) (ms : List Module) (marks : List (List Marked)) → length ms ≡ length ns → marks ≡ map (annotated_of i) ms
     → marks ≡ all_annotated (sources_of kernel i (named_modules ns ms))
 all_marked kernel i ns ms marks as_many is = is ∙ all_marked_by i ns ms as_many
 
-abbrev input : Program → List (List ScriptCall) → List (List Marked) → Option (List ℕ) → Input
-input p script marks schedule = record { program = p; script = script; annotated = marks; schedule = schedule }
+abbrev input : Program → List (List ScriptCall) → List (List Marked) → Besides → Input
+input p script marks besides = record { program = p; script = script; annotated = marks; besides = besides }
 
-same_input : (p q : Program) (cs ds : List (List ScriptCall)) (ms ns : List (List Marked)) (schedule : Option (List ℕ)) → p ≡ q → cs ≡ ds → ms ≡ ns → input p cs ms schedule ≡ input q ds ns schedule
-same_input p q cs ds ms ns schedule e f g =
-    ap (λ (x : Program). input x cs ms schedule) e
-    ∙ ap (λ (x : List (List ScriptCall)). input q x ms schedule) f
-    ∙ ap (λ (x : List (List Marked)). input q ds x schedule) g
+same_input : (p q : Program) (cs ds : List (List ScriptCall)) (ms ns : List (List Marked)) (besides : Besides) → p ≡ q → cs ≡ ds → ms ≡ ns → input p cs ms besides ≡ input q ds ns besides
+same_input p q cs ds ms ns besides e f g =
+    ap (λ (x : Program). input x cs ms besides) e
+    ∙ ap (λ (x : List (List ScriptCall)). input q x ms besides) f
+    ∙ ap (λ (x : List (List Marked)). input q ds x besides) g
 
 module _ (case : List ℕ) (s : Sources) (linked : LinkedParts) (p : Program) (script : List (List ScriptCall)) (marks : List (List Marked))
     (is : linked ≡ linked_of (texts_of s) s.case) (program_is : p ≡ linked.program) (script_is : script ≡ linked.calls) (marks_are : marks ≡ all_annotated (texts_of s)) where
@@ -85,10 +93,10 @@ module _ (case : List ℕ) (s : Sources) (linked : LinkedParts) (p : Program) (s
   calls_of_script : script ≡ calls_of (program_of (texts_of s)) s.case.threads
   calls_of_script = script_is ∙ ap (λ (x : LinkedParts). x.calls) is
 
-  pub is_input : link_fault (texts_of s) s.case ≡ None → LinkTurn case s (Ok (record { program = p; script = script; annotated = marks; schedule = s.schedule }))
+  pub is_input : link_fault (texts_of s) s.case ≡ None → LinkTurn case s (Ok (record { program = p; script = script; annotated = marks; besides = s.besides }))
   is_input none = (
     none,
-    same_input p (program_of (texts_of s)) script (calls_of (program_of (texts_of s)) s.case.threads) marks (all_annotated (texts_of s)) s.schedule
+    same_input p (program_of (texts_of s)) script (calls_of (program_of (texts_of s)) s.case.threads) marks (all_annotated (texts_of s)) s.besides
         program_of_texts calls_of_script marks_are,
   )
 
@@ -98,11 +106,20 @@ module _ (case : List ℕ) (s : Sources) (linked : LinkedParts) (p : Program) (s
       ap length calls_of_script ∙ length-map s.case.threads (λ (calls : List CaseCall). map (resolved (program_of (texts_of s))) calls) in
       omega (arith, as_many, few)
 
-  pub is_ready : IsWellFormed linked.program → FitsCalls linked.program linked.calls → length s.case.threads ≤ 16
-      → IsReady (record { program = p; script = script; annotated = marks; schedule = s.schedule })
-  is_ready formed fits few = record {
+  -- the program has the modules of the texts
+  pub is_number : length s.modules ≡ length s.case.modules → (number : Option ℕ) → IsOneOf s.modules number → IsModuleNumber p number
+  is_number as_many None below = tt
+  is_number as_many (Some k) below =
+      let modules : length p.modules ≡ length (named_modules s.case.modules s.modules) = ap (λ (q : Program). length q.modules) program_of_texts in
+      let named : length (named_modules s.case.modules s.modules) ≡ length s.modules = as_many_named s.case.modules s.modules as_many in
+      omega (arith, below, modules, named)
+
+  pub is_linked : IsWellFormed linked.program → FitsCalls linked.program linked.calls → length s.case.threads ≤ 16 → length s.modules ≡ length s.case.modules → IsOneOf s.modules s.besides.number
+      → IsLinkedInput (record { program = p; script = script; annotated = marks; besides = s.besides })
+  is_linked formed fits few as_many below = record {
     formed = subst IsWellFormed (sym program_is) formed;
     fits = subst (λ (q : Program). FitsCalls q script) (sym program_is) (subst (FitsCalls linked.program) (sym script_is) fits);
     few = few_calls few;
     annotated = marks_are ∙ ap (λ (q : Program). all_annotated (texts_of_program q)) (sym program_of_texts);
+    number = is_number as_many s.besides.number below;
   }

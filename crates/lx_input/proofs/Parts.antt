@@ -1,5 +1,5 @@
 -- The checks of what was read, one after the other.
-use Rattle.std.proofs.Common.{◌≡◌, ◌∙◌, sym, subst, refl, ℕ, List, [], ◌∷◌, Option, None, Result, Ok, Err}
+use Rattle.std.proofs.Common.{◌≡◌, ◌∙◌, sym, subst, refl, ℕ, List, [], ◌∷◌, Option, Some, None, Result, Ok, Err}
 use Rattle.lx_ir.specs.declared.module.Module.{Module}
 use Rattle.lx_ir.specs.Faults.{FirstFault}
 use Rattle.lx_script.specs.declared.case.CaseModule.{CaseModule}
@@ -7,10 +7,11 @@ use Rattle.lx_link.specs.Answers.{origin_name}
 use Rattle.lx_sources.specs.declared.stop.InputStop.{InputStop}
 use Rattle.lx_sources.specs.declared.stop.InputStop.TheVariants as stops
 use Rattle.lx_sources.specs.declared.sources.Sources.{Sources}
-use Rattle.lx_sources.specs.Turns.{Then, Goes, HasNoted}
+use Rattle.lx_sources.specs.Turns.{Then, Goes, Gives, HasNoted}
+use Rattle.lx_sources.specs.declared.sources.ImageFile.{ImageFile}
 use Rattle.lx_input.specs.declared.input.Input.{Input}
 use Rattle.lx_input.specs.Checks.{Passed, VerifyTurn, PropagateTurn, EachModule}
-use Rattle.lx_input.specs.Inputs.{LinkTurn, BehindVerified, BehindKernel, CheckTurn}
+use Rattle.lx_input.specs.Inputs.{LinkTurn, ImageCheck, BehindLink, BehindSlots, BehindVerified, BehindKernel, CheckTurn}
 use Rattle.lx_input.proofs.Each.{Turn}
 
 -- a fault of a module does not depend on what a check gives
@@ -55,7 +56,7 @@ module _ (case : List ℕ) (s : Sources) where
     refl,
   )
 
-  pub slots_passed : (ns : List CaseModule) (ms : List Module) (answer : Result Input InputStop) → ns ≡ s.case.modules → ms ≡ s.modules → EachModule (PropagateTurn s.interface) ns ms (Ok tt) → LinkTurn case s answer → BehindVerified case s answer
+  pub slots_passed : (ns : List CaseModule) (ms : List Module) (answer : Result Input InputStop) → ns ≡ s.case.modules → ms ≡ s.modules → EachModule (PropagateTurn s.interface) ns ms (Ok tt) → BehindSlots case s answer → BehindVerified case s answer
   slots_passed ns ms answer listed same t rest = (
     Ok tt,
     subst (λ (xs : List CaseModule). EachModule (PropagateTurn s.interface) xs s.modules (Ok tt)) listed
@@ -63,13 +64,19 @@ module _ (case : List ℕ) (s : Sources) where
     rest,
   )
 
-  -- all of them, linked
+  -- all of them, linked, and the image
+
+  pub link_stops : (e : InputStop) → LinkTurn case s (Err e) → BehindSlots case s (Err e)
+  link_stops e t = (Err e, t, refl)
+
+  pub link_passed : (i : Input) (answer : Result Input InputStop) → LinkTurn case s (Ok i) → BehindLink i answer → BehindSlots case s answer
+  link_passed i answer t rest = (Ok i, t, rest)
 
   pub linked_alike : (kernel : Module) (ms : List Module) (answer : Result Input InputStop) → kernel ≡ s.kernel → ms ≡ s.modules
-      → LinkTurn case (record { case = s.case; kernel = kernel; interface = s.interface; modules = ms; schedule = s.schedule }) answer → LinkTurn case s answer
+      → LinkTurn case (record { case = s.case; kernel = kernel; interface = s.interface; modules = ms; besides = s.besides }) answer → LinkTurn case s answer
   linked_alike kernel ms answer same_kernel same h =
-      subst (λ (k : Module). LinkTurn case (record { case = s.case; kernel = k; interface = s.interface; modules = s.modules; schedule = s.schedule }) answer) same_kernel
-      (subst (λ (ys : List Module). LinkTurn case (record { case = s.case; kernel = kernel; interface = s.interface; modules = ys; schedule = s.schedule }) answer) same h)
+      subst (λ (k : Module). LinkTurn case (record { case = s.case; kernel = k; interface = s.interface; modules = s.modules; besides = s.besides }) answer) same_kernel
+      (subst (λ (ys : List Module). LinkTurn case (record { case = s.case; kernel = kernel; interface = s.interface; modules = ys; besides = s.besides }) answer) same h)
 
 -- a check asks for no file
 
@@ -84,12 +91,20 @@ each_reads_none turn file none (n ∷ ns) [] h = absurd (cc)
 each_reads_none turn file none (n ∷ ns) (m ∷ ms) h =
     then_reads_none (turn n.file m) (λ _. EachModule turn ns ms) file (none n.file m) (λ _. each_reads_none turn file none ns ms) h
 
+image_reads_none : (image : Option ImageFile) (file : List ℕ) → ImageCheck image (Err (stops.Unread file)) → ⊥
+image_reads_none None file h = absurd (cc)
+image_reads_none (Some x) file h = h
+
+link_reads_none : (i : Input) (file : List ℕ) → BehindLink i (Err (stops.Unread file)) → ⊥
+link_reads_none i file h = then_reads_none (ImageCheck i.besides.image) (λ _. Gives i) file (image_reads_none i.besides.image file) (λ _ x. absurd (cc)) h
+
 pub check_reads_none : (case : List ℕ) (s : Sources) (file : List ℕ) → CheckTurn case s (Err (stops.Unread file)) → ⊥
 check_reads_none case s file h =
     then_reads_none (VerifyTurn {A = Unit {0}} (origin_name s.case.kernel) s.kernel) (λ _. BehindKernel case s) file (λ x. x)
     (λ _. then_reads_none (EachModule VerifyTurn s.case.modules s.modules) (λ _. BehindVerified case s) file (each_reads_none VerifyTurn file (λ name m x. x) s.case.modules s.modules)
-    (λ _. then_reads_none (EachModule (PropagateTurn s.interface) s.case.modules s.modules) (λ _. LinkTurn case s) file
-    (each_reads_none (PropagateTurn s.interface) file (λ name m x. x) s.case.modules s.modules) (λ _ x. x)))
+    (λ _. then_reads_none (EachModule (PropagateTurn s.interface) s.case.modules s.modules) (λ _. BehindSlots case s) file
+    (each_reads_none (PropagateTurn s.interface) file (λ name m x. x) s.case.modules s.modules)
+    (λ _. then_reads_none (LinkTurn case s) BehindLink file (λ x. x) (λ i. link_reads_none i file))))
     h
 
 pub noted_check : (before now : List (List ℕ)) (case : List ℕ) (s : Sources) (e : InputStop) → now ≡ before → CheckTurn case s (Err e) → HasNoted {A = Input} before now (Err e)

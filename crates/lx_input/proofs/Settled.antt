@@ -12,14 +12,17 @@ use Rattle.lx_link.specs.Answers.{link_fault, origin_name}
 use Rattle.lx_sources.specs.declared.line.FaultLine.{FaultLine}
 use Rattle.lx_sources.specs.declared.stop.InputStop.{InputStop}
 use Rattle.lx_sources.specs.declared.stop.InputStop.TheVariants as stops
+use Rattle.lx_sources.specs.declared.sources.ImageFile.{ImageFile}
 use Rattle.lx_sources.specs.declared.sources.Sources.{Sources}
+use Rattle.lx_sources.specs.Asked.{Asked}
+use Rattle.lx_sources.specs.Turns.{Gives}
 use Rattle.lx_sources.specs.Inputs.{SourcesTurn}
 use Rattle.lx_sources.specs.Laws.{IsOne, IsSettled, EndsAt, OneInput as OneSources, MissingFilesEnd as MissingSourcesEnd}
 use Rattle.lx_sources.proofs.Settled.{then_one, then_ends, gives_one}
 use Rattle.lx_input.specs.declared.input.Input.{Input}
 use Rattle.lx_input.specs.Lines.{verify_line, conflict_line, link_line}
 use Rattle.lx_input.specs.Checks.{Passed, VerifyTurn, PropagateTurn, EachModule}
-use Rattle.lx_input.specs.Inputs.{LinkTurn, BehindVerified, BehindKernel, CheckTurn, InputTurn, input_of, texts_of}
+use Rattle.lx_input.specs.Inputs.{LinkTurn, ImageCheck, BehindLink, BehindSlots, BehindVerified, BehindKernel, CheckTurn, InputTurn, input_of, texts_of}
 use Rattle.lx_input.proofs.Each.{Turn}
 use Rattle.lx_input.proofs.Parts.{check_reads_none}
 
@@ -76,17 +79,25 @@ each_one turn one [] ms = gives_one tt
 each_one turn one (n ∷ ns) [] = gives_one tt
 each_one turn one (n ∷ ns) (m ∷ ms) = then_one (turn n.file m) (λ _. EachModule turn ns ms) (one n.file m) (λ _. each_one turn one ns ms)
 
+image_check_one : OneFirstFault → (image : Option ImageFile) → IsOne (ImageCheck image)
+image_check_one one None = gives_one tt
+image_check_one one (Some x) = verify_one one x.file x.text
+
+image_one : OneFirstFault → (i : Input) → IsOne (BehindLink i)
+image_one one i = then_one (ImageCheck i.besides.image) (λ _. Gives i) (image_check_one one i.besides.image) (λ _. gives_one i)
+
 check_one : OneFirstFault → (case : List ℕ) (s : Sources) → IsOne (CheckTurn case s)
 check_one one case s =
     then_one (VerifyTurn {A = Unit {0}} (origin_name s.case.kernel) s.kernel) (λ _. BehindKernel case s) (verify_one one (origin_name s.case.kernel) s.kernel)
     (λ _. then_one (EachModule VerifyTurn s.case.modules s.modules) (λ _. BehindVerified case s) (each_one VerifyTurn (verify_one one) s.case.modules s.modules)
-    (λ _. then_one (EachModule (PropagateTurn s.interface) s.case.modules s.modules) (λ _. LinkTurn case s)
-    (each_one (PropagateTurn s.interface) (propagate_one s.interface) s.case.modules s.modules) (λ _. link_one case s)))
+    (λ _. then_one (EachModule (PropagateTurn s.interface) s.case.modules s.modules) (λ _. BehindSlots case s)
+    (each_one (PropagateTurn s.interface) (propagate_one s.interface) s.case.modules s.modules)
+    (λ _. then_one (LinkTurn case s) BehindLink (link_one case s) (image_one one))))
 
-pub input_one : OneFirstFault → OneSources → (files : List FileText) (case : List ℕ) (schedule : Option (List ℕ)) → IsOne (InputTurn files case schedule)
-input_one one sources files case schedule = then_one (SourcesTurn files case schedule) (CheckTurn case) (sources files case schedule) (check_one one case)
+pub input_one : OneFirstFault → OneSources → (files : List FileText) (case : List ℕ) (asked : Asked) → IsOne (InputTurn files case asked)
+input_one one sources files case asked = then_one (SourcesTurn files case asked) (CheckTurn case) (sources files case asked) (check_one one case)
 
-pub input_ends : OneFirstFault → OneSources → MissingSourcesEnd → (files : List FileText) (case : List ℕ) (schedule : Option (List ℕ)) → EndsAt files (InputTurn files case schedule)
-input_ends one sources missing files case schedule =
-    then_ends (SourcesTurn files case schedule) (CheckTurn case) files (sources files case schedule) (missing files case schedule)
+pub input_ends : OneFirstFault → OneSources → MissingSourcesEnd → (files : List FileText) (case : List ℕ) (asked : Asked) → EndsAt files (InputTurn files case asked)
+input_ends one sources missing files case asked =
+    then_ends (SourcesTurn files case asked) (CheckTurn case) files (sources files case asked) (missing files case asked)
     (λ s file a unread none turn settled. check_reads_none case s file unread)

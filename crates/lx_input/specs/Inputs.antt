@@ -7,26 +7,28 @@ use Rattle.lx_link_texts.specs.Faults.{Fault, all_annotated}
 use Rattle.lx_link_texts.specs.Placing.{program_of}
 use Rattle.lx_link.specs.Answers.{link_fault, named_modules, origin_name, sources_of}
 use Rattle.lx_link.specs.Calls.{calls_of}
+use Rattle.lx_sources.specs.declared.sources.ImageFile.{ImageFile}
 use Rattle.lx_sources.specs.declared.sources.Sources.{Sources}
 use Rattle.lx_sources.specs.declared.stop.InputStop.{InputStop}
 use Rattle.lx_sources.specs.declared.stop.InputStop.TheVariants as stops
-use Rattle.lx_sources.specs.Turns.{Then}
+use Rattle.lx_sources.specs.Asked.{Asked}
+use Rattle.lx_sources.specs.Turns.{Then, Gives}
 use Rattle.lx_sources.specs.Inputs.{SourcesTurn}
 use Rattle.lx_input.specs.declared.input.Input.{Input}
 use Rattle.lx_input.specs.Lines.{link_line}
-use Rattle.lx_input.specs.Checks.{VerifyTurn, PropagateTurn, EachModule}
+use Rattle.lx_input.specs.Checks.{Passed, VerifyTurn, PropagateTurn, EachModule}
 
 -- the texts that are linked: the modules have the names of the case
 abbrev pub texts_of : Sources → Texts
 texts_of s = sources_of s.kernel s.interface (named_modules s.case.modules s.modules)
 
--- the program of the texts, its script, which functions have which slot types, and the schedule
+-- the program of the texts, its script, which functions have which slot types, and what is asked for besides
 abbrev pub input_of : Sources → Input
 input_of s = record {
   program = program_of (texts_of s);
   script = calls_of (program_of (texts_of s)) s.case.threads;
   annotated = all_annotated (texts_of s);
-  schedule = s.schedule;
+  besides = s.besides;
 }
 
 -- the texts link, or the line is about the first fault; `case` is the name of the case
@@ -36,10 +38,22 @@ LinkTurn case s (Err (stops.Fault f)) = (x : Fault) × (link_fault (texts_of s) 
 LinkTurn case s (Err (stops.Unread name)) = ⊥
 LinkTurn case s (Err stops.Memory) = Unit {0}
 
--- behind the files the kernel is verified and then each module, slot types are handed on in each module, and all is linked
+-- the image is verified, where there is one
+abbrev pub ImageCheck : Option ImageFile → Result Passed InputStop → Type 0
+ImageCheck None answer = Gives tt answer
+ImageCheck (Some x) answer = VerifyTurn x.file x.text answer
+
+abbrev pub BehindLink : Input → Result Input InputStop → Type 0
+BehindLink i answer = Then (ImageCheck i.besides.image) (λ _. Gives i) answer
+
+-- behind the files the kernel is verified and then each module, slot types are handed on in each module, all is linked, and the image is
+-- verified
+
+abbrev pub BehindSlots : List ℕ → Sources → Result Input InputStop → Type 0
+BehindSlots case s answer = Then (LinkTurn case s) BehindLink answer
 
 abbrev pub BehindVerified : List ℕ → Sources → Result Input InputStop → Type 0
-BehindVerified case s answer = Then (EachModule (PropagateTurn s.interface) s.case.modules s.modules) (λ _. LinkTurn case s) answer
+BehindVerified case s answer = Then (EachModule (PropagateTurn s.interface) s.case.modules s.modules) (λ _. BehindSlots case s) answer
 
 abbrev pub BehindKernel : List ℕ → Sources → Result Input InputStop → Type 0
 BehindKernel case s answer = Then (EachModule VerifyTurn s.case.modules s.modules) (λ _. BehindVerified case s) answer
@@ -47,6 +61,6 @@ BehindKernel case s answer = Then (EachModule VerifyTurn s.case.modules s.module
 abbrev pub CheckTurn : List ℕ → Sources → Result Input InputStop → Type 0
 CheckTurn case s answer = Then (VerifyTurn {A = Unit {0}} (origin_name s.case.kernel) s.kernel) (λ _. BehindKernel case s) answer
 
--- what the files of a command come to, where the case and the schedule have these names
-abbrev pub InputTurn : List FileText → List ℕ → Option (List ℕ) → Result Input InputStop → Type 0
-InputTurn files case schedule answer = Then (SourcesTurn files case schedule) (CheckTurn case) answer
+-- what the files of a command come to, where the case has this name, and this is asked for besides
+abbrev pub InputTurn : List FileText → List ℕ → Asked → Result Input InputStop → Type 0
+InputTurn files case asked answer = Then (SourcesTurn files case asked) (CheckTurn case) answer

@@ -4,10 +4,11 @@ ghost use Rattle.std.specs.Prelude.{◌≡◌, ◌≤◌, All, IfOk, length, map
 ghost use Rattle.lx_ir.specs.Lawful.{IsPlain};
 ghost use Rattle.lx_annot_lawful.specs.Lawful.{IsLawfulInterface};
 ghost use Rattle.lx_slot_types.specs.Slots.{annotated_of};
-ghost use Rattle.lx_sources.specs.Sound.{AreSound};
+ghost use Rattle.lx_sources.specs.Sound.{AreSound, IsOneOf, IsSoundImage};
 ghost use Rattle.lx_link.specs.Answers.{origin_name};
-ghost use Rattle.lx_input.specs.Inputs.{CheckTurn, LinkTurn};
-ghost use Rattle.lx_input.specs.Laws.{IsReady};
+ghost use Rattle.lx_input.specs.Checks.{passed};
+ghost use Rattle.lx_input.specs.Inputs.{BehindLink, CheckTurn, ImageCheck, LinkTurn};
+ghost use Rattle.lx_input.specs.Laws.{IsLinkedInput, IsReady, IsVerifiedImage};
 
 use crate::checks::{annotate_modules, verify_module, verify_modules};
 use crate::input::Input;
@@ -17,8 +18,8 @@ use lx_ir_verify::Verified;
 use lx_link::link;
 use lx_propagate::Annotated;
 use lx_script::{Case, Origin};
-use lx_sources::{InputStop, Sources};
-use lx_words::{Items, Schedule};
+use lx_sources::{Besides, ImageFile, InputStop, Sources};
+use lx_words::Items;
 use std::alloc::Global;
 
 /// The name of the file that a text comes from.
@@ -50,15 +51,17 @@ fn link_checked(
     interface: Interface,
     modules: Vec<Verified>,
     annotated: Items<Annotated>,
-    schedule: Option<Schedule>,
+    besides: Besides,
 ) -> Result<Input, InputStop>
     requires as_many { length modules.items ≡ length case.now.modules }
     requires kernel_plain { IsPlain kernel }
     requires modules_plain { All IsPlain modules.items }
     requires interface { IsLawfulInterface interface }
     requires annotated { annotated ≡ map (annotated_of interface) modules.items }
-    ensures turn { LinkTurn name.now (record { case = case.now; kernel = kernel; interface = interface; modules = modules.items; schedule = schedule }) result }
-    ensures ready { IfOk result IsReady }
+    requires number { IsOneOf modules.items besides.number }
+    ensures turn { LinkTurn name.now (record { case = case.now; kernel = kernel; interface = interface; modules = modules.items; besides = besides }) result }
+    ensures linked { IfOk result IsLinkedInput }
+    ensures besides { IfOk result (λ i. i.besides ≡ besides) }
 {
     let _threads = few_threads(case);
     match link(
@@ -75,11 +78,62 @@ fn link_checked(
                 program,
                 script,
                 annotated,
-                schedule,
+                besides,
             })
         }
         Err(fault) => Err(link_stop(alloc, name, fault)),
     }
+}
+
+/// The image, where there is one and it has no fault.
+fn verified_image(alloc: Global, image: Option<ImageFile>) -> Result<Option<ImageFile>, InputStop>
+    requires { IsSoundImage image }
+    ensures turn { ImageCheck image (passed result) }
+    ensures same { IfOk result (λ verified. verified ≡ image) }
+    ensures verified { IfOk result IsVerifiedImage }
+{
+    match image {
+        None => Ok(None),
+        Some(ImageFile { file, text }) => {
+            let verified = verify_module(alloc, file.as_slice(), text)?;
+            Ok(Some(ImageFile {
+                file,
+                text: verified.into_module(),
+            }))
+        }
+    }
+}
+
+/// Verifies the image of what is linked, where there is one.
+fn verify_image(alloc: Global, input: Input) -> Result<Input, InputStop>
+    requires sound { IsSoundImage input.besides.image }
+    requires linked { IsLinkedInput input }
+    ensures turn { BehindLink input result }
+    ensures ready { IfOk result IsReady }
+    ensures besides { IfOk result (λ i. i.besides ≡ input.besides) }
+{
+    let Input {
+        program,
+        script,
+        annotated,
+        besides: Besides {
+            number,
+            schedule,
+            image,
+        },
+    } = input;
+    let image = verified_image(alloc, image)?;
+    let besides = Besides {
+        number,
+        schedule,
+        image,
+    };
+    Ok(Input {
+        program,
+        script,
+        annotated,
+        besides,
+    })
 }
 
 /// Checks and links what was read; `name` is the name of the case.
@@ -87,20 +141,21 @@ pub fn check_sources(alloc: Global, name: &[u8], sources: Sources) -> Result<Inp
     requires { AreSound sources }
     ensures turn { CheckTurn name.now sources result }
     ensures ready { IfOk result IsReady }
+    ensures besides { IfOk result (λ i. i.besides ≡ sources.besides) }
 {
     let Sources {
         case,
         kernel,
         interface,
         modules,
-        schedule,
+        besides,
     } = sources;
     let names = case.modules.as_slice();
     let kernel = verify_module(alloc, origin_name(&case.kernel), kernel)?;
     let modules = verify_modules(alloc, names, modules.into_vec())?;
     let annotated = annotate_modules(alloc, &interface, names, &modules)?;
     let input = link_checked(
-        alloc, name, &case, kernel, interface, modules, annotated, schedule,
+        alloc, name, &case, kernel, interface, modules, annotated, besides,
     )?;
-    Ok(input)
+    verify_image(alloc, input)
 }

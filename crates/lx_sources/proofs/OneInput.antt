@@ -15,17 +15,19 @@ use Rattle.lx_script.specs.Schedule.{Reads as SaysSchedule, FirstScheduleFault}
 use Rattle.lx_kernel.specs.Kernel.{kernel_text}
 use Rattle.lx_kernel.specs.Interface.{interface_text}
 use Rattle.lx_ir.specs.declared.module.Module.{Module}
-use Rattle.lx_ir_calls.specs.declared.intrinsics.TextForm.TheVariants.{Program}
+use Rattle.lx_ir_calls.specs.declared.intrinsics.TextForm.TheVariants.{Program, Image}
 use Rattle.lx_ir_read.specs.Reading.{SaysModule, FirstFault}
 use Rattle.lx_annot.specs.declared.interface.Interface.{Interface}
 use Rattle.lx_annot_read.specs.Texts.{interface_at, SaysInterface, FirstInterfaceFault}
 use Rattle.lx_annot_read.specs.Faults.{answered}
 use Rattle.lx_sources.specs.declared.line.FaultKind.TheVariants as kinds
 use Rattle.lx_sources.specs.declared.line.FaultLine.{FaultLine}
+use Rattle.lx_sources.specs.declared.sources.ImageFile.{ImageFile}
 use Rattle.lx_sources.specs.declared.sources.Sources.{Sources}
+use Rattle.lx_sources.specs.Asked.{Asked}
 use Rattle.lx_sources.specs.Faults.{script_line, module_line, interface_line}
 use Rattle.lx_sources.specs.Turns.{Asks, Reads, Tells, Then, Gives}
-use Rattle.lx_sources.specs.Inputs.{ModuleTurn, KernelTurn, InterfaceTurn, ModulesTurn, Before, ScheduleFileTurn, ScheduleTurn, CaseTurn, BehindCase, BehindKernel, BehindInterface, BehindModules, SourcesTurn, no_module, no_interface, builtin}
+use Rattle.lx_sources.specs.Inputs.{NumberTurn, WordTurn, ModuleTurn, KernelTurn, InterfaceTurn, ModulesTurn, Before, ScheduleFileTurn, ScheduleTurn, ImageFileTurn, NamedImageTurn, ImageTurn, CaseTurn, BehindCase, BehindWord, BehindKernel, BehindInterface, BehindModules, BehindSchedule, SourcesTurn, sources, module_named, lacks_line, no_module, no_interface, builtin}
 use Rattle.lx_sources.specs.Laws.{IsSure, IsOne, EndsAt}
 use Rattle.lx_sources.proofs.Settled.{then_one, then_ends, gives_one, gives_ends, reads_one, reads_ends, tells_one, asks_one, asks_ends}
 
@@ -70,9 +72,17 @@ module _ {A E : Type 0} (Says : List ℕ → A → Type 0) (First : List ℕ →
       then_ends (Asks files name) (Reads Says (Tells First line)) files (asks_one files name) (asks_ends files name)
       (λ text. reads_ends Says (Tells First line) text files)
 
+-- numbers
+
+some_same : (a b : ℕ) → Some a ≡ Some b → a ≡ b
+some_same a b e = cc e
+
+none_some : (a : ℕ) → Some a ≡ None → ⊥
+none_some a e = absurd (cc e)
+
 -- the turns of a command
 
-module _ (case_sure : IsSure SaysCase FirstCaseFault) (module_sure : IsSure (SaysModule Program) (FirstFault Program))
+module _ (case_sure : IsSure SaysCase FirstCaseFault) (module_sure : IsSure (SaysModule Program) (FirstFault Program)) (image_sure : IsSure (SaysModule Image) (FirstFault Image))
     (interface_sure : IsSure SaysInterface FirstInterfaceFault) (schedule_sure : IsSure SaysSchedule FirstScheduleFault) (files : List FileText) where
   module_one : (name : List ℕ) → IsOne (ModuleTurn files name)
   module_one name = file_one (SaysModule Program) (FirstFault Program) module_sure (module_line name) files name
@@ -125,45 +135,97 @@ module _ (case_sure : IsSure SaysCase FirstCaseFault) (module_sure : IsSure (Say
       (file_one SaysSchedule FirstScheduleFault schedule_sure (script_line kinds.Schedule name) files name)
       (file_ends SaysSchedule FirstScheduleFault schedule_sure (script_line kinds.Schedule name) files name) (λ entries. gives_ends files (Some entries))
 
-  module _ (schedule : Option (List ℕ)) where
-    whole : Case → Module → Interface → List Module → Option (List ℕ) → Sources
-    whole c k i ms s = record { case = c; kernel = k; interface = i; modules = ms; schedule = s }
+  -- a word asks for no file
 
-    last_one : (c : Case) (k : Module) (i : Interface) (ms : List Module) → IsOne (BehindModules files schedule c k i ms)
+  number_one : (case : List ℕ) (c : Case) (word : List ℕ) → IsOne (NumberTurn case c word)
+  number_one case c word =
+      reads_one (λ w k. module_named c w ≡ Some k) (λ w f. (module_named c w ≡ None) × (f ≡ lacks_line case w)) word
+      (λ a b x y. some_same a b (sym x ∙ y))
+      (λ e f x y. x.1 ∙ sym y.1)
+      (λ a f x y. none_some a (sym x ∙ y.0))
+
+  word_one : (case : List ℕ) (c : Case) (word : Option (List ℕ)) → IsOne (WordTurn case c word)
+  word_one case c None = gives_one None
+  word_one case c (Some word) = then_one (NumberTurn case c word) (λ k. Gives (Some k)) (number_one case c word) (λ k. gives_one (Some k))
+
+  word_ends : (case : List ℕ) (c : Case) (word : Option (List ℕ)) → EndsAt files (WordTurn case c word)
+  word_ends case c None = gives_ends files None
+  word_ends case c (Some word) =
+      then_ends (NumberTurn case c word) (λ k. Gives (Some k)) files (number_one case c word)
+      (reads_ends (λ w k. module_named c w ≡ Some k) (λ w f. (module_named c w ≡ None) × (f ≡ lacks_line case w)) word files) (λ k. gives_ends files (Some k))
+
+  named_one : (name : List ℕ) → IsOne (NamedImageTurn files name)
+  named_one name =
+      then_one (ImageFileTurn files name) (λ x. Gives (record { file = name; text = x }))
+      (file_one (SaysModule Image) (FirstFault Image) image_sure (module_line name) files name) (λ x. gives_one (record { file = name; text = x }))
+
+  named_ends : (name : List ℕ) → EndsAt files (NamedImageTurn files name)
+  named_ends name =
+      then_ends (ImageFileTurn files name) (λ x. Gives (record { file = name; text = x })) files
+      (file_one (SaysModule Image) (FirstFault Image) image_sure (module_line name) files name)
+      (file_ends (SaysModule Image) (FirstFault Image) image_sure (module_line name) files name) (λ x. gives_ends files (record { file = name; text = x }))
+
+  image_one : (name : Option (List ℕ)) → IsOne (ImageTurn files name)
+  image_one None = gives_one None
+  image_one (Some name) = then_one (NamedImageTurn files name) (λ x. Gives (Some x)) (named_one name) (λ x. gives_one (Some x))
+
+  image_ends : (name : Option (List ℕ)) → EndsAt files (ImageTurn files name)
+  image_ends None = gives_ends files None
+  image_ends (Some name) = then_ends (NamedImageTurn files name) (λ x. Gives (Some x)) files (named_one name) (named_ends name) (λ x. gives_ends files (Some x))
+
+  module _ (asked : Asked) (c : Case) (number : Option ℕ) where
+    whole : Module → Interface → List Module → Option (List ℕ) → Option ImageFile → Sources
+    whole k i ms s x = sources c k i ms number s x
+
+    fifth_one : (k : Module) (i : Interface) (ms : List Module) (s : Option (List ℕ)) → IsOne (BehindSchedule files asked c number k i ms s)
     unfolding whole
-    last_one c k i ms = then_one (ScheduleTurn files schedule) (λ s. Gives (whole c k i ms s)) (schedule_one schedule) (λ s. gives_one (whole c k i ms s))
+    fifth_one k i ms s = then_one (ImageTurn files asked.image) (λ x. Gives (whole k i ms s x)) (image_one asked.image) (λ x. gives_one (whole k i ms s x))
 
-    last_ends : (c : Case) (k : Module) (i : Interface) (ms : List Module) → EndsAt files (BehindModules files schedule c k i ms)
+    fifth_ends : (k : Module) (i : Interface) (ms : List Module) (s : Option (List ℕ)) → EndsAt files (BehindSchedule files asked c number k i ms s)
     unfolding whole
-    last_ends c k i ms =
-        then_ends (ScheduleTurn files schedule) (λ s. Gives (whole c k i ms s)) files (schedule_one schedule) (schedule_ends schedule) (λ s. gives_ends files (whole c k i ms s))
+    fifth_ends k i ms s =
+        then_ends (ImageTurn files asked.image) (λ x. Gives (whole k i ms s x)) files (image_one asked.image) (image_ends asked.image) (λ x. gives_ends files (whole k i ms s x))
 
-    third_one : (c : Case) (k : Module) (i : Interface) → IsOne (BehindInterface files schedule c k i)
-    third_one c k i = then_one (ModulesTurn files c.modules) (BehindModules files schedule c k i) (modules_one c.modules) (last_one c k i)
+    fourth_one : (k : Module) (i : Interface) (ms : List Module) → IsOne (BehindModules files asked c number k i ms)
+    fourth_one k i ms = then_one (ScheduleTurn files asked.schedule) (BehindSchedule files asked c number k i ms) (schedule_one asked.schedule) (fifth_one k i ms)
 
-    third_ends : (c : Case) (k : Module) (i : Interface) → EndsAt files (BehindInterface files schedule c k i)
-    third_ends c k i =
-        then_ends (ModulesTurn files c.modules) (BehindModules files schedule c k i) files (modules_one c.modules) (modules_ends c.modules) (last_ends c k i)
+    fourth_ends : (k : Module) (i : Interface) (ms : List Module) → EndsAt files (BehindModules files asked c number k i ms)
+    fourth_ends k i ms =
+        then_ends (ScheduleTurn files asked.schedule) (BehindSchedule files asked c number k i ms) files (schedule_one asked.schedule) (schedule_ends asked.schedule) (fifth_ends k i ms)
 
-    second_one : (c : Case) (k : Module) → IsOne (BehindKernel files schedule c k)
-    second_one c k = then_one (InterfaceTurn files c.interface) (BehindInterface files schedule c k) (interface_one c.interface) (third_one c k)
+    third_one : (k : Module) (i : Interface) → IsOne (BehindInterface files asked c number k i)
+    third_one k i = then_one (ModulesTurn files c.modules) (BehindModules files asked c number k i) (modules_one c.modules) (fourth_one k i)
 
-    second_ends : (c : Case) (k : Module) → EndsAt files (BehindKernel files schedule c k)
-    second_ends c k =
-        then_ends (InterfaceTurn files c.interface) (BehindInterface files schedule c k) files (interface_one c.interface) (interface_ends c.interface) (third_ends c k)
+    third_ends : (k : Module) (i : Interface) → EndsAt files (BehindInterface files asked c number k i)
+    third_ends k i =
+        then_ends (ModulesTurn files c.modules) (BehindModules files asked c number k i) files (modules_one c.modules) (modules_ends c.modules) (fourth_ends k i)
 
-    first_one : (c : Case) → IsOne (BehindCase files schedule c)
-    first_one c = then_one (KernelTurn files c.kernel) (BehindKernel files schedule c) (kernel_one c.kernel) (second_one c)
+    second_one : (k : Module) → IsOne (BehindKernel files asked c number k)
+    second_one k = then_one (InterfaceTurn files c.interface) (BehindInterface files asked c number k) (interface_one c.interface) (third_one k)
 
-    first_ends : (c : Case) → EndsAt files (BehindCase files schedule c)
-    first_ends c =
-        then_ends (KernelTurn files c.kernel) (BehindKernel files schedule c) files (kernel_one c.kernel) (kernel_ends c.kernel) (second_ends c)
+    second_ends : (k : Module) → EndsAt files (BehindKernel files asked c number k)
+    second_ends k =
+        then_ends (InterfaceTurn files c.interface) (BehindInterface files asked c number k) files (interface_one c.interface) (interface_ends c.interface) (third_ends k)
 
-    pub sources_one : (name : List ℕ) → IsOne (SourcesTurn files name schedule)
-    sources_one name =
-        then_one (CaseTurn files name) (BehindCase files schedule) (file_one SaysCase FirstCaseFault case_sure (script_line kinds.Case name) files name) first_one
+    first_one : IsOne (BehindWord files asked c number)
+    first_one = then_one (KernelTurn files c.kernel) (BehindKernel files asked c number) (kernel_one c.kernel) second_one
 
-    pub sources_end : (name : List ℕ) → EndsAt files (SourcesTurn files name schedule)
-    sources_end name =
-        then_ends (CaseTurn files name) (BehindCase files schedule) files (file_one SaysCase FirstCaseFault case_sure (script_line kinds.Case name) files name)
-        (file_ends SaysCase FirstCaseFault case_sure (script_line kinds.Case name) files name) first_ends
+    first_ends : EndsAt files (BehindWord files asked c number)
+    first_ends = then_ends (KernelTurn files c.kernel) (BehindKernel files asked c number) files (kernel_one c.kernel) (kernel_ends c.kernel) second_ends
+
+  module _ (asked : Asked) (name : List ℕ) where
+    behind_one : (c : Case) → IsOne (BehindCase files name asked c)
+    behind_one c = then_one (WordTurn name c asked.«module») (BehindWord files asked c) (word_one name c asked.«module») (first_one asked c)
+
+    behind_ends : (c : Case) → EndsAt files (BehindCase files name asked c)
+    behind_ends c =
+        then_ends (WordTurn name c asked.«module») (BehindWord files asked c) files (word_one name c asked.«module») (word_ends name c asked.«module») (first_ends asked c)
+
+    pub sources_one : IsOne (SourcesTurn files name asked)
+    sources_one =
+        then_one (CaseTurn files name) (BehindCase files name asked) (file_one SaysCase FirstCaseFault case_sure (script_line kinds.Case name) files name) behind_one
+
+    pub sources_end : EndsAt files (SourcesTurn files name asked)
+    sources_end =
+        then_ends (CaseTurn files name) (BehindCase files name asked) files (file_one SaysCase FirstCaseFault case_sure (script_line kinds.Case name) files name)
+        (file_ends SaysCase FirstCaseFault case_sure (script_line kinds.Case name) files name) behind_ends

@@ -4,7 +4,8 @@ use Rattle.std.specs.Prelude.{All}
 use Rattle.std.specs.List.{IsDistinct}
 use Rattle.std.proofs.lemmas.List.Elements.{All-append}
 use Rattle.lx_ir.specs.declared.module.Module.{Module}
-use Rattle.lx_ir_calls.specs.declared.intrinsics.TextForm.TheVariants.{Program}
+use Rattle.lx_ir.specs.Lawful.{IsLawful}
+use Rattle.lx_ir_calls.specs.declared.intrinsics.TextForm.TheVariants.{Program, Image}
 use Rattle.lx_ir_read.specs.Reading.{SaysModule}
 use Rattle.lx_ir_lawful.specs.Laws.{ReadIsLawful, ProgramsArePlain}
 use Rattle.lx_annot.specs.declared.interface.Interface.{Interface}
@@ -19,6 +20,9 @@ pub module_sound : ReadIsLawful → ProgramsArePlain → (text : List ℕ) (m : 
 module_sound lawful plain text m within says =
     let short : length text + 1 < 2 ^ 32 = omega (arith, within) in
     record { lawful = lawful Program text m short says; plain = plain text m says }
+
+pub image_lawful : ReadIsLawful → (text : List ℕ) (x : Module) → length text ≤ most_bytes → SaysModule Image text x → IsLawful x
+image_lawful lawful text x within says = let short : length text + 1 < 2 ^ 32 = omega (arith, within) in lawful Image text x short says
 
 pub interface_lawful : ReadInterfaceIsLawful → (text : List ℕ) (i : Interface) → length text ≤ most_bytes → SaysInterface text i → IsLawfulInterface i
 interface_lawful lawful text i within says =

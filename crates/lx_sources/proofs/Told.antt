@@ -4,7 +4,8 @@ use Rattle.lx_script.specs.declared.fault.CaseFault.{CaseFault}
 use Rattle.lx_script.specs.declared.fault.CaseFault.TheVariants as scripts
 use Rattle.lx_script.specs.Grammar.{CaseFails, FirstCaseFault}
 use Rattle.lx_script.specs.Schedule.{ScheduleFails, FirstScheduleFault}
-use Rattle.lx_ir_calls.specs.declared.intrinsics.TextForm.TheVariants.{Program}
+use Rattle.lx_ir_calls.specs.declared.intrinsics.TextForm.TheVariants.{Program, Image}
+use Rattle.lx_ir_calls.specs.declared.intrinsics.TextForm.{TextForm}
 use Rattle.lx_ir_faults.specs.declared.fault.ReadFault.{ReadFault}
 use Rattle.lx_ir_faults.specs.declared.fault.ReadFault.TheVariants as modules
 use Rattle.lx_ir_read.specs.Reading.{ModuleFails, FirstFault}
@@ -17,7 +18,7 @@ use Rattle.lx_sources.specs.declared.line.FaultLine.{FaultLine}
 use Rattle.lx_sources.specs.declared.stop.InputStop.{InputStop}
 use Rattle.lx_sources.specs.declared.stop.InputStop.TheVariants as stops
 use Rattle.lx_sources.specs.Faults.{IsTold, script_line, module_line, interface_line}
-use Rattle.lx_sources.specs.Inputs.{ReadsCase, ReadsModule, ReadsInterface, ReadsSchedule}
+use Rattle.lx_sources.specs.Inputs.{ReadsCase, ReadsModule, ReadsImage, ReadsInterface, ReadsSchedule}
 
 -- a fault that has a line is not want of memory
 
@@ -39,13 +40,13 @@ schedule_first text kind file (scripts.Twice line what) f fails is = fails
 schedule_first text kind file (scripts.Range line what) f fails is = fails
 schedule_first text kind file (scripts.Limit line what) f fails is = fails
 
-module_first : (text file : List ℕ) (e : ReadFault) (f : FaultLine) → ModuleFails Program text e → module_line file e ≡ Some f → FirstFault Program text e
-module_first text file modules.Memory f fails is = absurd (cc)
-module_first text file (modules.Lexical line what) f fails is = fails
-module_first text file (modules.Statement line what) f fails is = fails
-module_first text file (modules.OutOfProfile line what) f fails is = fails
-module_first text file (modules.Twice line what) f fails is = fails
-module_first text file (modules.Unknown line what) f fails is = fails
+module_first : (form : TextForm) (text file : List ℕ) (e : ReadFault) (f : FaultLine) → ModuleFails form text e → module_line file e ≡ Some f → FirstFault form text e
+module_first form text file modules.Memory f fails is = absurd (cc)
+module_first form text file (modules.Lexical line what) f fails is = fails
+module_first form text file (modules.Statement line what) f fails is = fails
+module_first form text file (modules.OutOfProfile line what) f fails is = fails
+module_first form text file (modules.Twice line what) f fails is = fails
+module_first form text file (modules.Unknown line what) f fails is = fails
 
 interface_first : (text file : List ℕ) (e : InterfaceFault) (f : FaultLine) → InterfaceFails text e → interface_line file e ≡ Some f → FirstInterfaceFault text e
 interface_first text file interfaces.Memory f fails is = absurd (cc)
@@ -69,8 +70,13 @@ schedule_told file text e (stops.Unread name) fails told = absurd told
 
 pub module_told : (file text : List ℕ) (e : ReadFault) (s : InputStop) → ModuleFails Program text e → IsTold (module_line file e) s → ReadsModule file text (Err s)
 module_told file text e stops.Memory fails told = tt
-module_told file text e (stops.Fault f) fails told = (e, module_first text file e f fails told, told)
+module_told file text e (stops.Fault f) fails told = (e, module_first Program text file e f fails told, told)
 module_told file text e (stops.Unread name) fails told = absurd told
+
+pub image_told : (file text : List ℕ) (e : ReadFault) (s : InputStop) → ModuleFails Image text e → IsTold (module_line file e) s → ReadsImage file text (Err s)
+image_told file text e stops.Memory fails told = tt
+image_told file text e (stops.Fault f) fails told = (e, module_first Image text file e f fails told, told)
+image_told file text e (stops.Unread name) fails told = absurd told
 
 pub interface_told : (file text : List ℕ) (e : InterfaceFault) (s : InputStop) → InterfaceFails text e → IsTold (interface_line file e) s → ReadsInterface file text (Err s)
 interface_told file text e stops.Memory fails told = tt

@@ -1,5 +1,5 @@
 -- The files of a command, in their order.
-use Rattle.std.specs.Prelude.{ℕ, List, [], ◌∷◌, codes, Option, Some, None, Result}
+use Rattle.std.specs.Prelude.{◌≡◌, ℕ, List, [], ◌∷◌, codes, bytes_eq, position, Option, Some, None, Result}
 use Rattle.lx_outside.specs.declared.file_text.FileText.{FileText}
 use Rattle.lx_kernel.specs.Kernel.{kernel_text}
 use Rattle.lx_kernel.specs.Interface.{interface_text}
@@ -10,14 +10,17 @@ use Rattle.lx_script.specs.Case.{Case}
 use Rattle.lx_script.specs.Grammar.{SaysCase, FirstCaseFault}
 use Rattle.lx_script.specs.Schedule.{Reads as SaysSchedule, FirstScheduleFault}
 use Rattle.lx_ir.specs.declared.module.Module.{Module}
-use Rattle.lx_ir_calls.specs.declared.intrinsics.TextForm.TheVariants.{Program}
+use Rattle.lx_ir_calls.specs.declared.intrinsics.TextForm.TheVariants.{Program, Image}
 use Rattle.lx_ir_read.specs.Reading.{SaysModule, FirstFault}
 use Rattle.lx_annot.specs.declared.interface.Interface.{Interface}
 use Rattle.lx_annot_read.specs.Texts.{SaysInterface, FirstInterfaceFault}
 use Rattle.lx_sources.specs.declared.line.FaultKind.TheVariants as kinds
+use Rattle.lx_sources.specs.declared.line.FaultLine.{FaultLine}
 use Rattle.lx_sources.specs.declared.stop.InputStop.{InputStop}
+use Rattle.lx_sources.specs.declared.sources.ImageFile.{ImageFile}
 use Rattle.lx_sources.specs.declared.sources.Sources.{Sources}
-use Rattle.lx_sources.specs.Faults.{script_line, module_line, interface_line}
+use Rattle.lx_sources.specs.Asked.{Asked}
+use Rattle.lx_sources.specs.Faults.{fault_at, script_line, module_line, interface_line}
 use Rattle.lx_sources.specs.Turns.{Asks, Reads, Tells, Then, Gives}
 
 -- Texts of a file.
@@ -27,6 +30,10 @@ ReadsCase file text answer = Reads SaysCase (Tells FirstCaseFault (script_line k
 
 abbrev pub ReadsModule : List ℕ → List ℕ → Result Module InputStop → Type 0
 ReadsModule file text answer = Reads (SaysModule Program) (Tells (FirstFault Program) (module_line file)) text answer
+
+-- an image is read in a form of its own
+abbrev pub ReadsImage : List ℕ → List ℕ → Result Module InputStop → Type 0
+ReadsImage file text answer = Reads (SaysModule Image) (Tells (FirstFault Image) (module_line file)) text answer
 
 abbrev pub ReadsInterface : List ℕ → List ℕ → Result Interface InputStop → Type 0
 ReadsInterface file text answer = Reads SaysInterface (Tells FirstInterfaceFault (interface_line file)) text answer
@@ -38,6 +45,22 @@ ReadsSchedule file text answer = Reads SaysSchedule (Tells FirstScheduleFault (s
 
 abbrev pub CaseTurn : List FileText → List ℕ → Result Case InputStop → Type 0
 CaseTurn files name answer = Then (Asks files name) (ReadsCase name) answer
+
+-- the number of the case's module with this name
+abbrev pub module_named : Case → List ℕ → Option ℕ
+module_named c word = position (λ m. bytes_eq m.name word) c.modules
+
+-- the line about a module that the case lacks
+abbrev pub lacks_line : List ℕ → List ℕ → FaultLine
+lacks_line case word = fault_at case kinds.Case 3 0 word
+
+abbrev pub NumberTurn : List ℕ → Case → List ℕ → Result ℕ InputStop → Type 0
+NumberTurn case c word answer = Reads (λ w k. module_named c w ≡ Some k) (λ w f. (module_named c w ≡ None) × (f ≡ lacks_line case w)) word answer
+
+-- the module that is named beside the case, where one is
+abbrev pub WordTurn : List ℕ → Case → Option (List ℕ) → Result (Option ℕ) InputStop → Type 0
+WordTurn case c None answer = Gives None answer
+WordTurn case c (Some word) answer = Then (NumberTurn case c word) (λ k. Gives (Some k)) answer
 
 abbrev pub ModuleTurn : List FileText → List ℕ → Result Module InputStop → Type 0
 ModuleTurn files name answer = Then (Asks files name) (ReadsModule name) answer
@@ -82,21 +105,41 @@ abbrev pub ScheduleTurn : List FileText → Option (List ℕ) → Result (Option
 ScheduleTurn files None answer = Gives None answer
 ScheduleTurn files (Some name) answer = Then (ScheduleFileTurn files name) (λ entries. Gives (Some entries)) answer
 
--- The case comes first, then the kernel, the interface, the modules, and the schedule.
+abbrev pub ImageFileTurn : List FileText → List ℕ → Result Module InputStop → Type 0
+ImageFileTurn files name answer = Then (Asks files name) (ReadsImage name) answer
 
-abbrev pub BehindModules : List FileText → Option (List ℕ) → Case → Module → Interface → List Module → Result Sources InputStop → Type 0
-BehindModules files schedule c k i ms answer =
-    Then (ScheduleTurn files schedule) (λ s. Gives (record { case = c; kernel = k; interface = i; modules = ms; schedule = s })) answer
+-- an image, and the name of its file
+abbrev pub NamedImageTurn : List FileText → List ℕ → Result ImageFile InputStop → Type 0
+NamedImageTurn files name answer = Then (ImageFileTurn files name) (λ x. Gives (record { file = name; text = x })) answer
 
-abbrev pub BehindInterface : List FileText → Option (List ℕ) → Case → Module → Interface → Result Sources InputStop → Type 0
-BehindInterface files schedule c k i answer = Then (ModulesTurn files c.modules) (BehindModules files schedule c k i) answer
+-- the image, where one is asked for
+abbrev pub ImageTurn : List FileText → Option (List ℕ) → Result (Option ImageFile) InputStop → Type 0
+ImageTurn files None answer = Gives None answer
+ImageTurn files (Some name) answer = Then (NamedImageTurn files name) (λ x. Gives (Some x)) answer
 
-abbrev pub BehindKernel : List FileText → Option (List ℕ) → Case → Module → Result Sources InputStop → Type 0
-BehindKernel files schedule c k answer = Then (InterfaceTurn files c.interface) (BehindInterface files schedule c k) answer
+-- The case comes first, then the module that is named beside it, the kernel, the interface, the modules, the schedule, and the image.
 
-abbrev pub BehindCase : List FileText → Option (List ℕ) → Case → Result Sources InputStop → Type 0
-BehindCase files schedule c answer = Then (KernelTurn files c.kernel) (BehindKernel files schedule c) answer
+abbrev pub sources : Case → Module → Interface → List Module → Option ℕ → Option (List ℕ) → Option ImageFile → Sources
+sources c k i ms number s x = record { case = c; kernel = k; interface = i; modules = ms; besides = record { number = number; schedule = s; image = x } }
 
--- what the files of a command come to, where the case and the schedule have these names
-abbrev pub SourcesTurn : List FileText → List ℕ → Option (List ℕ) → Result Sources InputStop → Type 0
-SourcesTurn files name schedule answer = Then (CaseTurn files name) (BehindCase files schedule) answer
+abbrev pub BehindSchedule : List FileText → Asked → Case → Option ℕ → Module → Interface → List Module → Option (List ℕ) → Result Sources InputStop → Type 0
+BehindSchedule files asked c number k i ms s answer = Then (ImageTurn files asked.image) (λ x. Gives (sources c k i ms number s x)) answer
+
+abbrev pub BehindModules : List FileText → Asked → Case → Option ℕ → Module → Interface → List Module → Result Sources InputStop → Type 0
+BehindModules files asked c number k i ms answer = Then (ScheduleTurn files asked.schedule) (BehindSchedule files asked c number k i ms) answer
+
+abbrev pub BehindInterface : List FileText → Asked → Case → Option ℕ → Module → Interface → Result Sources InputStop → Type 0
+BehindInterface files asked c number k i answer = Then (ModulesTurn files c.modules) (BehindModules files asked c number k i) answer
+
+abbrev pub BehindKernel : List FileText → Asked → Case → Option ℕ → Module → Result Sources InputStop → Type 0
+BehindKernel files asked c number k answer = Then (InterfaceTurn files c.interface) (BehindInterface files asked c number k) answer
+
+abbrev pub BehindWord : List FileText → Asked → Case → Option ℕ → Result Sources InputStop → Type 0
+BehindWord files asked c number answer = Then (KernelTurn files c.kernel) (BehindKernel files asked c number) answer
+
+abbrev pub BehindCase : List FileText → List ℕ → Asked → Case → Result Sources InputStop → Type 0
+BehindCase files name asked c answer = Then (WordTurn name c asked.«module») (BehindWord files asked c) answer
+
+-- what the files of a command come to, where the case has this name, and this is asked for besides
+abbrev pub SourcesTurn : List FileText → List ℕ → Asked → Result Sources InputStop → Type 0
+SourcesTurn files name asked answer = Then (CaseTurn files name) (BehindCase files name asked) answer

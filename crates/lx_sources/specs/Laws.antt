@@ -1,9 +1,10 @@
 -- What the turns come to is settled.
-use Rattle.std.specs.Prelude.{◌≡◌, ℕ, List, Option, None, Result, Ok, Err}
+use Rattle.std.specs.Prelude.{◌≡◌, ℕ, List, None, Result, Ok, Err}
 use Rattle.lx_outside.specs.declared.file_text.FileText.{FileText}
 use Rattle.lx_outside.specs.Files.{file_at}
 use Rattle.lx_sources.specs.declared.stop.InputStop.{InputStop}
 use Rattle.lx_sources.specs.declared.stop.InputStop.TheVariants as stops
+use Rattle.lx_sources.specs.Asked.{Asked}
 use Rattle.lx_sources.specs.Inputs.{SourcesTurn}
 
 -- an answer that does not depend on memory and the shelf's faults: what was read, or a fault
@@ -28,7 +29,7 @@ pub record IsSure {A E : Type 0} (Says : List ℕ → A → Type 0) (First : Lis
   pub apart : (text : List ℕ) (a : A) (f : E) → Says text a → First text f → ⊥
 
 abbrev pub OneInput : Type 0
-OneInput = (files : List FileText) (case : List ℕ) (schedule : Option (List ℕ)) → IsOne (SourcesTurn files case schedule)
+OneInput = (files : List FileText) (case : List ℕ) (asked : Asked) → IsOne (SourcesTurn files case asked)
 
 abbrev pub MissingFilesEnd : Type 0
-MissingFilesEnd = (files : List FileText) (case : List ℕ) (schedule : Option (List ℕ)) → EndsAt files (SourcesTurn files case schedule)
+MissingFilesEnd = (files : List FileText) (case : List ℕ) (asked : Asked) → EndsAt files (SourcesTurn files case asked)

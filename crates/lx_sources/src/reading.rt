@@ -2,7 +2,8 @@
 
 ghost use Rattle.std.specs.Prelude.{◌≡◌, ◌≤◌, length, IfOk};
 ghost use Rattle.lx_sources.specs.Names.{NamesAreText};
-ghost use Rattle.lx_sources.specs.Inputs.{ReadsCase, ReadsInterface, ReadsModule, ReadsSchedule};
+ghost use Rattle.lx_ir.specs.Lawful.{IsLawful};
+ghost use Rattle.lx_sources.specs.Inputs.{ReadsCase, ReadsImage, ReadsInterface, ReadsModule, ReadsSchedule};
 ghost use Rattle.lx_sources.specs.Sound.{IsSoundModule};
 ghost use Rattle.lx_sources.specs.Turns.{most_bytes};
 ghost use Rattle.lx_annot_lawful.specs.Lawful.{IsLawfulInterface};
@@ -42,6 +43,20 @@ pub fn module_of_text(alloc: Global, file: &[u8], text: &[u8]) -> Result<Module,
     whole_laws();
     match read_module(alloc, TextForm::Program, text) {
         Ok(module) => Ok(module),
+        Err(fault) => Err(module_stop(alloc, file, fault)),
+    }
+}
+
+/// The image that the text of a file says.
+#[tactic(auto, using(crate::proofs::Told::image_told))]
+pub fn image_of_text(alloc: Global, file: &[u8], text: &[u8]) -> Result<Module, InputStop>
+    requires { length text.now ≤ most_bytes }
+    ensures reads { ReadsImage file.now text.now result }
+    ensures lawful { IfOk result IsLawful }
+{
+    whole_laws();
+    match read_module(alloc, TextForm::Image, text) {
+        Ok(image) => Ok(image),
         Err(fault) => Err(module_stop(alloc, file, fault)),
     }
 }

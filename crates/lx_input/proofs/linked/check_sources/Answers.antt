@@ -3,7 +3,7 @@ use Rattle.std.proofs.lemmas.Result.{err_from_is_err_and}
 use Rattle.lx_ir.specs.declared.module.Module.{Module}
 use Rattle.lx_script.specs.Case.{Case}
 use Rattle.lx_link.specs.Answers.{origin_name}
-use Rattle.lx_input.proofs.Parts.{kernel_stops, kernel_passed, modules_stop, modules_passed, slots_stop, slots_passed, linked_alike}
+use Rattle.lx_input.proofs.Parts.{kernel_stops, kernel_passed, modules_stop, modules_passed, slots_stop, slots_passed, link_stops, link_passed, linked_alike}
 use Rattle.lx_input.proofs.linked.check_sources.Goals as goal
 
 pub returns-in_err-kernel-clause-turn : goal.returns-in_err-kernel-clause-turn
@@ -41,14 +41,17 @@ returns-in_err-input-clause-turn c =
     (kernel_passed c.args.name.now c.args.sources (Err e) c.in_ok-kernel.ensures.turn
     (modules_passed c.args.name.now c.args.sources c.as_slice-names.result.now c.into_vec.result.items (Err e) listed c.into_vec.ensures c.in_ok-modules.ensures.turn
     (slots_passed c.args.name.now c.args.sources c.as_slice-names.result.now c.deref.result.now (Err e) listed (c.deref.ensures.value ∙ same) c.in_ok-annotated.ensures.turn
-    (linked_alike c.args.name.now c.args.sources c.in_ok-kernel.kernel c.in_ok-modules.modules.items (Err e) c.in_ok-kernel.ensures.same same c.in_err-input.ensures.turn))))
+    (link_stops c.args.name.now c.args.sources e
+    (linked_alike c.args.name.now c.args.sources c.in_ok-kernel.kernel c.in_ok-modules.modules.items (Err e) c.in_ok-kernel.ensures.same same c.in_err-input.ensures.turn)))))
 
 pub returns-clause-turn : goal.returns-clause-turn
 returns-clause-turn c =
-    let answer = Ok c.in_ok-input.input in
+    let answer = c.verify_image.result in
     let listed = c.as_slice-names.ensures ∙ ap (λ (x : Case). x.modules) c.case.view_is in
     let same = c.in_ok-modules.ensures.same ∙ c.into_vec.ensures in
     kernel_passed c.args.name.now c.args.sources answer c.in_ok-kernel.ensures.turn
     (modules_passed c.args.name.now c.args.sources c.as_slice-names.result.now c.into_vec.result.items answer listed c.into_vec.ensures c.in_ok-modules.ensures.turn
     (slots_passed c.args.name.now c.args.sources c.as_slice-names.result.now c.deref.result.now answer listed (c.deref.ensures.value ∙ same) c.in_ok-annotated.ensures.turn
-    (linked_alike c.args.name.now c.args.sources c.in_ok-kernel.kernel c.in_ok-modules.modules.items answer c.in_ok-kernel.ensures.same same c.in_ok-input.ensures.turn)))
+    (link_passed c.args.name.now c.args.sources c.in_ok-input.input answer
+    (linked_alike c.args.name.now c.args.sources c.in_ok-kernel.kernel c.in_ok-modules.modules.items (Ok c.in_ok-input.input) c.in_ok-kernel.ensures.same same c.in_ok-input.ensures.turn)
+    c.verify_image.ensures.turn)))

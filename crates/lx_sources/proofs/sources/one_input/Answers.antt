@@ -1,4 +1,4 @@
-use Rattle.lx_ir_calls.specs.declared.intrinsics.TextForm.TheVariants.{Program}
+use Rattle.lx_ir_calls.specs.declared.intrinsics.TextForm.TheVariants.{Program, Image}
 use Rattle.lx_words.specs.declared.token.TokenRule.TheVariants as rules
 use Rattle.lx_script.specs.Grammar.{SaysCase, FirstCaseFault}
 use Rattle.lx_script.specs.Schedule.{Reads as SaysSchedule, FirstScheduleFault}
@@ -12,8 +12,9 @@ returns c =
     let case : IsSure SaysCase FirstCaseFault = record { value = c.one_case.ensures.value; fault = c.one_case.ensures.fault; apart = c.one_case.ensures.apart } in
     let schedule : IsSure SaysSchedule FirstScheduleFault = record { value = c.one_schedule.ensures.value; fault = c.one_schedule.ensures.fault; apart = c.one_schedule.ensures.apart } in
     let read : IsSure (SaysModule Program) (FirstFault Program) = record { value = c.module_laws.ensures.«module» Program; fault = c.module_laws.ensures.fault Program; apart = c.module_laws.ensures.apart Program } in
+    let image : IsSure (SaysModule Image) (FirstFault Image) = record { value = c.module_laws.ensures.«module» Image; fault = c.module_laws.ensures.fault Image; apart = c.module_laws.ensures.apart Image } in
     let interface = interface_sure (λ text. c.one_way.ensures rules.Interface text) in
     record {
-      one = λ files name schedule_name. sources_one case read interface schedule files schedule_name name;
-      missing = λ files name schedule_name. sources_end case read interface schedule files schedule_name name;
+      one = λ files name asked. sources_one case read image interface schedule files asked name;
+      missing = λ files name asked. sources_end case read image interface schedule files asked name;
     }
