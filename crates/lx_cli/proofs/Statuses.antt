@@ -10,16 +10,15 @@ use Rattle.lx_input.specs.Files.InputStop.{InputStop}
 use Rattle.lx_input.specs.Files.InputStop.TheVariants as stops
 use Rattle.lx_input.specs.Files.Laws.{IsOne, EndsAt}
 use Rattle.lx_input.specs.declared.input.Input.{Input}
-use Rattle.lx_input.specs.Inputs.{InputTurn}
 use Rattle.lx_input.specs.Laws.{OneInput, MissingFilesEnd}
-use Rattle.lx_cli.specs.Answer.{IsAsked, IsBroken, IsReportOf, broken_at}
-use Rattle.lx_cli.specs.Command.{Command, CommandTurn, ComesTo, IsRun, command_of}
+use Rattle.lx_input.specs.Files.ImageFile.{ImageFile}
+use Rattle.lx_cli.specs.Answer.{IsAsked, IsBroken, IsReportOf, IsAccepted, IsRefusedBy, HasProgram, MadeBy, BrokenBy, RefusedBy, EndedBy, accepted_line, broken_at}
+use Rattle.lx_cli.specs.Command.{Command, Run, Replay, Instrument, Check, CommandTurn, ComesTo, IsRun, asked_of, case_of, command_of}
 use Rattle.lx_cli.specs.declared.answer.Answer.{Answer}
 use Rattle.lx_cli.specs.declared.answer.Answer.TheVariants as answer
 use Rattle.lx_cli.specs.Rows.{NoNewFault, status_of}
 use Rattle.lx_cli.specs.Told.{TellsInput}
 use Rattle.lx_cli.proofs.Replays.{whole_unbroken}
-use Rattle.lx_cli.proofs.Turns.{unscheduled}
 
 -- a status that a sink took whole, or 5
 five_or : (r s : ℕ) → (r ≢ 5 → r ≡ s) → (r ≡ 5) ⊎ (r ≡ s)
@@ -39,14 +38,9 @@ status_is r k s status is other = sym (status (λ five. other (sym is ∙ five))
 pub none_comes : (words : List (List ℕ)) (files : List FileText) (r : Result Input InputStop) → command_of words ≡ None → ComesTo words files r → ⊥
 none_comes words files r none is = subst (λ (o : Option Command). CommandTurn files o r) none is
 
--- a run has no schedule of its own
-run_has_none : (words : List (List ℕ)) (files : List FileText) (i : Input) → IsRun words → ComesTo words files (Ok i) → i.schedule ≡ None
-run_has_none words files i (c, command, none) is =
-    let came : CommandTurn files (Some c) (Ok i) = subst (λ (o : Option Command). CommandTurn files o (Ok i)) command is in
-    unscheduled files c.case i (subst (λ (s : Option (List ℕ)). InputTurn files c.case s (Ok i)) none came)
-
-pub run_is_whole : (words : List (List ℕ)) (files : List FileText) → IsRun words → (i : Input) × (entry : ℕ) × ComesTo words files (Ok i) × IsBroken i entry → ⊥
-run_is_whole words files run (i, entry, is, (asked, some, at)) = let none = run_has_none words files i run is in absurd cc
+-- a run is not broken
+pub run_is_whole : (words : List (List ℕ)) (files : List FileText) → IsRun words → (i : Input) × (entry : ℕ) × ComesTo words files (Ok i) × BrokenBy (command_of words) i entry → ⊥
+run_is_whole words files (case, command) (i, entry, is, at) = subst (λ (o : Option Command). BrokenBy o i entry) command at
 
 -- a report is of a whole schedule
 report_is_whole : (i : Input) (returned : Bool) (text : List ℕ) (entry : ℕ) → IsReportOf i returned text → IsBroken i entry → ⊥
@@ -56,90 +50,206 @@ report_is_whole i returned text entry r (asked, some, at) =
     let unbroken = whole_unbroken i.program asked (opening i.program i.script) whole in
     absurd cc
 
+-- what a command makes of its input keeps the other ends from it
+
+made_not_broken : (o : Option Command) (i : Input) (well : Bool) (text : List ℕ) (entry : ℕ) → MadeBy o i well text → BrokenBy o i entry → ⊥
+made_not_broken None i well text entry made broken = broken
+made_not_broken (Some (Run case)) i well text entry made broken = broken
+made_not_broken (Some (Replay case schedule)) i well text entry made broken = report_is_whole i well text entry made broken
+made_not_broken (Some (Instrument case part)) i well text entry made broken = broken
+made_not_broken (Some (Check case part image)) i well text entry made broken = broken
+
+refused_not_broken : (o : Option Command) (i : Input) (line : FaultLine) (entry : ℕ) → RefusedBy o i line → BrokenBy o i entry → ⊥
+refused_not_broken None i line entry refused broken = broken
+refused_not_broken (Some (Run case)) i line entry refused broken = broken
+refused_not_broken (Some (Replay case schedule)) i line entry refused broken = refused
+refused_not_broken (Some (Instrument case part)) i line entry refused broken = broken
+refused_not_broken (Some (Check case part image)) i line entry refused broken = broken
+
+accepted_not_refused : (i : Input) (line : FaultLine) → IsAccepted i → IsRefusedBy i line → ⊥
+accepted_not_refused i line (x, there, has, none) (y, f, same, lacks, some, is) =
+    let x_is : x ≡ y = cc (there, same) in
+    lacks (subst (λ (z : ImageFile). HasProgram i.program.interface z.text) x_is has)
+
+made_not_refused : (o : Option Command) (i : Input) (well : Bool) (text : List ℕ) (line : FaultLine) → MadeBy o i well text → RefusedBy o i line → ⊥
+made_not_refused None i well text line made refused = refused
+made_not_refused (Some (Run case)) i well text line made refused = refused
+made_not_refused (Some (Replay case schedule)) i well text line made refused = refused
+made_not_refused (Some (Instrument case part)) i well text line made refused = refused
+made_not_refused (Some (Check case part image)) i true text line made refused = accepted_not_refused i line made.0 refused
+made_not_refused (Some (Check case part image)) i false text line made refused = made
+
+-- how a command ends
+
+ended_well : (o : Option Command) (i : Input) (text : List ℕ) (result : ℕ) → MadeBy o i true text → result ≡ 0 → EndedBy o i result
+ended_well None i text result made is = made
+ended_well (Some (Run case)) i text result made is = inl is
+ended_well (Some (Replay case schedule)) i text result made is = inl is
+ended_well (Some (Instrument case part)) i text result made is = is
+ended_well (Some (Check case part image)) i text result made is = inl (is, made.0)
+
+ended_else : (o : Option Command) (i : Input) (text : List ℕ) (result : ℕ) → MadeBy o i false text → result ≡ 1 → EndedBy o i result
+ended_else None i text result made is = made
+ended_else (Some (Run case)) i text result made is = inr is
+ended_else (Some (Replay case schedule)) i text result made is = inr (inl is)
+ended_else (Some (Instrument case part)) i text result made is = absurd made
+ended_else (Some (Check case part image)) i text result made is = absurd made
+
+ended_broken : (o : Option Command) (i : Input) (entry : ℕ) (result : ℕ) → BrokenBy o i entry → result ≡ 7 → EndedBy o i result
+ended_broken None i entry result broken is = broken
+ended_broken (Some (Run case)) i entry result broken is = absurd broken
+ended_broken (Some (Replay case schedule)) i entry result broken is = inr (inr (is, entry, broken))
+ended_broken (Some (Instrument case part)) i entry result broken is = absurd broken
+ended_broken (Some (Check case part image)) i entry result broken is = absurd broken
+
+ended_refused : (o : Option Command) (i : Input) (line : FaultLine) (result : ℕ) → RefusedBy o i line → result ≡ 8 → EndedBy o i result
+ended_refused None i line result refused is = refused
+ended_refused (Some (Run case)) i line result refused is = absurd refused
+ended_refused (Some (Replay case schedule)) i line result refused is = absurd refused
+ended_refused (Some (Instrument case part)) i line result refused is = absurd refused
+ended_refused (Some (Check case part image)) i line result refused is = inr (is, line, refused)
+
 module _ (one_input : OneInput) (missing_end : MissingFilesEnd) (words : List (List ℕ)) (files : List FileText) where
   one : IsOne (ComesTo words files)
   one = by_command (command_of words) where
     by_command : (o : Option Command) → IsOne (λ r. CommandTurn files o r)
     by_command None = λ a b is_a is_b settled_a settled_b. absurd is_a
-    by_command (Some c) = one_input files c.case c.schedule
+    by_command (Some c) = one_input files (case_of c) (asked_of c)
 
   ends : EndsAt files (ComesTo words files)
   ends = by_command (command_of words) where
     by_command : (o : Option Command) → EndsAt files (λ r. CommandTurn files o r)
     by_command None = λ file a is missing is_a settled. is
-    by_command (Some c) = missing_end files c.case c.schedule
+    by_command (Some c) = missing_end files (case_of c) (asked_of c)
 
   -- the answer is told of what the files come to
-  module _ (a : Answer) (is : TellsInput (ComesTo words files) a) (result : ℕ) (status : result ≢ 5 → result ≡ status_of a) where
+  module _ (a : Answer) (is : TellsInput (command_of words) (ComesTo words files) a) (result : ℕ) (status : result ≢ 5 → result ≡ status_of a) where
+    abbrev Told : Answer → Type 0
+    Told b = TellsInput (command_of words) (ComesTo words files) b
+
+    -- no fault stands where the files come to an input
+    no_fault_in : {X : Type 0} (i : Input) (f : FaultLine) → ComesTo words files (Ok i) → ComesTo words files (Err (stops.Fault f)) → X
+    no_fault_in i f is_i is_f = let no = one (Ok i) (Err (stops.Fault f)) is_i is_f tt tt in absurd cc
+
+    -- and the files come to one input
+    same_input : (i j : Input) → ComesTo words files (Ok i) → ComesTo words files (Ok j) → i ≡ j
+    same_input i j is_i is_j = let same : ◌≡◌ {A = Result Input InputStop} (Ok i) (Ok j) = one (Ok i) (Ok j) is_i is_j tt tt in cc
+
     pub fault_comes : (f : FaultLine) → ComesTo words files (Err (stops.Fault f)) → (result ≡ 3) ⊎ (result ≡ 4) ⊎ (result ≡ 5) ⊎ (result ≡ 6)
     fault_comes f comes = elim (five_or result (status_of a) status) [
       | inl five ↦ inr (inr (inl five))
       | inr same ↦ on a is same
     ] where
-      on : (b : Answer) → TellsInput (ComesTo words files) b → result ≡ status_of b → (result ≡ 3) ⊎ (result ≡ 4) ⊎ (result ≡ 5) ⊎ (result ≡ 6)
+      on : (b : Answer) → Told b → result ≡ status_of b → (result ≡ 3) ⊎ (result ≡ 4) ⊎ (result ≡ 5) ⊎ (result ≡ 6)
       on (answer.Fault g) is same = inl same
       on (answer.Unread file) is same = inr (inl same)
-      on (answer.Broken entry) is same = let no = one (Ok is.0) (Err (stops.Fault f)) is.1 comes tt tt in absurd cc
-      on (answer.Report text returned) is same = let no = one (Ok is.0) (Err (stops.Fault f)) is.1 comes tt tt in absurd cc
+      on (answer.Broken entry) is same = no_fault_in is.0 f is.1 comes
+      on (answer.Report text returned) is same = no_fault_in is.0 f is.1 comes
+      on (answer.Image text) is same = no_fault_in is.0 f is.1 comes
+      on answer.Accepted is same = no_fault_in is.0 f is.1 comes
+      on (answer.Refused g) is same = no_fault_in is.0 f is.1 comes
 
     pub missing_comes : (file : List ℕ) → ComesTo words files (Err (stops.Unread file)) → file_at files file ≡ None → (result ≡ 4) ⊎ (result ≡ 5) ⊎ (result ≡ 6)
     missing_comes file comes gone = elim (five_or result (status_of a) status) [
       | inl five ↦ inr (inl five)
       | inr same ↦ on a is same
     ] where
-      on : (b : Answer) → TellsInput (ComesTo words files) b → result ≡ status_of b → (result ≡ 4) ⊎ (result ≡ 5) ⊎ (result ≡ 6)
+      on : (b : Answer) → Told b → result ≡ status_of b → (result ≡ 4) ⊎ (result ≡ 5) ⊎ (result ≡ 6)
       on (answer.Fault g) is same = absurd (ends file (Err (stops.Fault g)) comes gone is tt)
       on (answer.Unread file) is same = inl same
       on (answer.Broken entry) is same = absurd (ends file (Ok is.0) comes gone is.1 tt)
       on (answer.Report text returned) is same = absurd (ends file (Ok is.0) comes gone is.1 tt)
+      on (answer.Image text) is same = absurd (ends file (Ok is.0) comes gone is.1 tt)
+      on answer.Accepted is same = absurd (ends file (Ok is.0) comes gone is.1 tt)
+      on (answer.Refused g) is same = absurd (ends file (Ok is.0) comes gone is.1 tt)
 
-    pub broken_comes : (i : Input) (entry : ℕ) → ComesTo words files (Ok i) → IsBroken i entry → (result ≡ 7) ⊎ (result ≡ 4) ⊎ (result ≡ 5) ⊎ (result ≡ 6)
+    pub broken_comes : (i : Input) (entry : ℕ) → ComesTo words files (Ok i) → BrokenBy (command_of words) i entry → (result ≡ 7) ⊎ (result ≡ 4) ⊎ (result ≡ 5) ⊎ (result ≡ 6)
     broken_comes i entry comes at = elim (five_or result (status_of a) status) [
       | inl five ↦ inr (inr (inl five))
       | inr same ↦ on a is same
     ] where
-      on : (b : Answer) → TellsInput (ComesTo words files) b → result ≡ status_of b → (result ≡ 7) ⊎ (result ≡ 4) ⊎ (result ≡ 5) ⊎ (result ≡ 6)
-      on (answer.Fault g) is same = let no = one (Ok i) (Err (stops.Fault g)) comes is tt tt in absurd cc
+      there : (j : Input) → ComesTo words files (Ok j) → BrokenBy (command_of words) j entry
+      there j is_j = subst (λ (k : Input). BrokenBy (command_of words) k entry) (same_input i j comes is_j) at
+
+      on : (b : Answer) → Told b → result ≡ status_of b → (result ≡ 7) ⊎ (result ≡ 4) ⊎ (result ≡ 5) ⊎ (result ≡ 6)
+      on (answer.Fault g) is same = no_fault_in i g comes is
       on (answer.Unread file) is same = inr (inl same)
       on (answer.Broken other) is same = inl same
-      on (answer.Report text returned) is same =
-          let is_i : Ok i ≡ Ok is.0 = one (Ok i) (Ok is.0) comes is.1 tt tt in
-          let j_is : i ≡ is.0 = cc in
-          absurd (report_is_whole is.0 returned text entry is.2 (subst (λ (j : Input). IsBroken j entry) j_is at))
+      on (answer.Report text well) is same = absurd (made_not_broken (command_of words) is.0 well text entry is.2 (there is.0 is.1))
+      on (answer.Image text) is same = absurd (made_not_broken (command_of words) is.0 true text entry is.2 (there is.0 is.1))
+      on answer.Accepted is same = absurd (made_not_broken (command_of words) is.0 true accepted_line entry is.2 (there is.0 is.1))
+      on (answer.Refused g) is same = absurd (refused_not_broken (command_of words) is.0 g entry is.2 (there is.0 is.1))
+
+    pub refused_comes : (i : Input) (line : FaultLine) → ComesTo words files (Ok i) → RefusedBy (command_of words) i line → (result ≡ 8) ⊎ (result ≡ 4) ⊎ (result ≡ 5) ⊎ (result ≡ 6)
+    refused_comes i line comes at = elim (five_or result (status_of a) status) [
+      | inl five ↦ inr (inr (inl five))
+      | inr same ↦ on a is same
+    ] where
+      there : (j : Input) → ComesTo words files (Ok j) → RefusedBy (command_of words) j line
+      there j is_j = subst (λ (k : Input). RefusedBy (command_of words) k line) (same_input i j comes is_j) at
+
+      on : (b : Answer) → Told b → result ≡ status_of b → (result ≡ 8) ⊎ (result ≡ 4) ⊎ (result ≡ 5) ⊎ (result ≡ 6)
+      on (answer.Fault g) is same = no_fault_in i g comes is
+      on (answer.Unread file) is same = inr (inl same)
+      on (answer.Broken entry) is same = absurd (refused_not_broken (command_of words) is.0 line entry (there is.0 is.1) is.2)
+      on (answer.Report text well) is same = absurd (made_not_refused (command_of words) is.0 well text line is.2 (there is.0 is.1))
+      on (answer.Image text) is same = absurd (made_not_refused (command_of words) is.0 true text line is.2 (there is.0 is.1))
+      on answer.Accepted is same = absurd (made_not_refused (command_of words) is.0 true accepted_line line is.2 (there is.0 is.1))
+      on (answer.Refused g) is same = inl same
 
     pub all_comes : (before now : List (List ℕ)) (i : Input) → ((file : List ℕ) → a ≡ answer.Unread file → now ≡ before ++ file ∷ [])
-        → ComesTo words files (Ok i) → NoNewFault before now words files → result ≢ 5
-        → (result ≡ 0) ⊎ (result ≡ 1) ⊎ (result ≡ 6) ⊎ ((result ≡ 7) × (entry : ℕ) × IsBroken i entry)
+        → ComesTo words files (Ok i) → NoNewFault before now words files → result ≢ 5 → EndedBy (command_of words) i result ⊎ (result ≡ 6)
     all_comes before now i grew comes no_fault not_5 = on a is grew (status not_5) where
-      on : (b : Answer) → TellsInput (ComesTo words files) b → ((file : List ℕ) → b ≡ answer.Unread file → now ≡ before ++ file ∷ []) → result ≡ status_of b
-          → (result ≡ 0) ⊎ (result ≡ 1) ⊎ (result ≡ 6) ⊎ ((result ≡ 7) × (entry : ℕ) × IsBroken i entry)
-      on (answer.Fault g) is grew same = let no = one (Ok i) (Err (stops.Fault g)) comes is tt tt in absurd cc
+      here : (j : Input) → ComesTo words files (Ok j) → EndedBy (command_of words) j result → EndedBy (command_of words) i result ⊎ (result ≡ 6)
+      here j is_j ended = inl (subst (λ (k : Input). EndedBy (command_of words) k result) (same_input j i is_j comes) ended)
+
+      on : (b : Answer) → Told b → ((file : List ℕ) → b ≡ answer.Unread file → now ≡ before ++ file ∷ []) → result ≡ status_of b → EndedBy (command_of words) i result ⊎ (result ≡ 6)
+      on (answer.Fault g) is grew same = no_fault_in i g comes is
       on (answer.Unread file) is grew same = absurd (no_fault (file ∷ []) file (grew file refl) (0, omega arith, refl) is)
-      on (answer.Broken entry) is grew same =
-          let is_j : Ok is.0 ≡ Ok i = one (Ok is.0) (Ok i) is.1 comes tt tt in
-          let j_is : is.0 ≡ i = cc in
-          inr (inr (inr (same, entry, subst (λ (j : Input). IsBroken j entry) j_is is.2)))
-      on (answer.Report text true) is grew same = inl same
-      on (answer.Report text false) is grew same = inr (inl same)
+      on (answer.Broken entry) is grew same = here is.0 is.1 (ended_broken (command_of words) is.0 entry result is.2 same)
+      on (answer.Report text true) is grew same = here is.0 is.1 (ended_well (command_of words) is.0 text result is.2 same)
+      on (answer.Report text false) is grew same = here is.0 is.1 (ended_else (command_of words) is.0 text result is.2 same)
+      on (answer.Image text) is grew same = here is.0 is.1 (ended_well (command_of words) is.0 text result is.2 same)
+      on answer.Accepted is grew same = here is.0 is.1 (ended_well (command_of words) is.0 accepted_line result is.2 same)
+      on (answer.Refused g) is grew same = here is.0 is.1 (ended_refused (command_of words) is.0 g result is.2 same)
 
 -- what each status tells
 module _ (words : List (List ℕ)) (files : List FileText) where
-  pub fault_told : (a : Answer) → TellsInput (ComesTo words files) a → status_of a ≡ 3 → (f : FaultLine) × ComesTo words files (Err (stops.Fault f))
+  abbrev Tells : Answer → Type 0
+  Tells a = TellsInput (command_of words) (ComesTo words files) a
+
+  pub fault_told : (a : Answer) → Tells a → status_of a ≡ 3 → (f : FaultLine) × ComesTo words files (Err (stops.Fault f))
   fault_told (answer.Fault f) is status = (f, is)
   fault_told (answer.Unread file) is status = absurd cc
   fault_told (answer.Broken entry) is status = absurd cc
   fault_told (answer.Report text true) is status = absurd cc
   fault_told (answer.Report text false) is status = absurd cc
+  fault_told (answer.Image text) is status = absurd cc
+  fault_told answer.Accepted is status = absurd cc
+  fault_told (answer.Refused f) is status = absurd cc
 
-  pub broken_told : (a : Answer) → TellsInput (ComesTo words files) a → status_of a ≡ 7 → (i : Input) × (entry : ℕ) × ComesTo words files (Ok i) × IsBroken i entry
+  pub broken_told : (a : Answer) → Tells a → status_of a ≡ 7 → (i : Input) × (entry : ℕ) × ComesTo words files (Ok i) × BrokenBy (command_of words) i entry
   broken_told (answer.Fault f) is status = absurd cc
   broken_told (answer.Unread file) is status = absurd cc
   broken_told (answer.Broken entry) is status = (is.0, entry, is.1, is.2)
   broken_told (answer.Report text true) is status = absurd cc
   broken_told (answer.Report text false) is status = absurd cc
+  broken_told (answer.Image text) is status = absurd cc
+  broken_told answer.Accepted is status = absurd cc
+  broken_told (answer.Refused f) is status = absurd cc
 
-  pub unread_told : (a : Answer) (file : List ℕ) → a ≡ answer.Unread file → TellsInput (ComesTo words files) a → ComesTo words files (Err (stops.Unread file))
-  unread_told a file is told = subst (TellsInput (ComesTo words files)) is told
+  pub refused_told : (a : Answer) → Tells a → status_of a ≡ 8 → (i : Input) × (line : FaultLine) × ComesTo words files (Ok i) × RefusedBy (command_of words) i line
+  refused_told (answer.Fault f) is status = absurd cc
+  refused_told (answer.Unread file) is status = absurd cc
+  refused_told (answer.Broken entry) is status = absurd cc
+  refused_told (answer.Report text true) is status = absurd cc
+  refused_told (answer.Report text false) is status = absurd cc
+  refused_told (answer.Image text) is status = absurd cc
+  refused_told answer.Accepted is status = absurd cc
+  refused_told (answer.Refused f) is status = (is.0, f, is.1, is.2)
+
+  pub unread_told : (a : Answer) (file : List ℕ) → a ≡ answer.Unread file → Tells a → ComesTo words files (Err (stops.Unread file))
+  unread_told a file is told = subst Tells is told
 
 -- the file that was not read
 pub unread_of : (a : Answer) → status_of a ≡ 4 → (file : List ℕ) × (a ≡ answer.Unread file)
@@ -148,3 +258,6 @@ unread_of (answer.Unread file) status = (file, refl)
 unread_of (answer.Broken entry) status = absurd cc
 unread_of (answer.Report text true) status = absurd cc
 unread_of (answer.Report text false) status = absurd cc
+unread_of (answer.Image text) status = absurd cc
+unread_of answer.Accepted status = absurd cc
+unread_of (answer.Refused f) status = absurd cc

@@ -1,27 +1,70 @@
 -- What an answer tells of the files' input.
-use Rattle.std.proofs.Common.{◌≡◌, sym, subst, ℕ, Bool, List, [], ◌∷◌, ◌++◌, Result, IfOk, Ok, Err}
+use Rattle.std.proofs.Common.{◌≡◌, refl, sym, subst, inl, inr, ℕ, Bool, false, is_some, List, [], ◌∷◌, ◌++◌, Option, Some, None, Result, IfOk, Ok, Err}
 use Rattle.lx_input.specs.Files.InputStop.{InputStop}
 use Rattle.lx_input.specs.Files.InputStop.TheVariants as stops
 use Rattle.lx_input.specs.Files.Turns.{HasNoted}
+use Rattle.lx_outside.specs.declared.file_text.FileText.{FileText}
+use Rattle.lx_input.specs.Files.Asked.{Asked, AreThere}
+use Rattle.lx_input.specs.Inputs.{InputTurn}
 use Rattle.lx_input.specs.declared.input.Input.{Input}
+use Rattle.lx_cli.specs.Command.{Command, Run, Replay, Instrument, Check, asked_of}
 use Rattle.lx_cli.specs.declared.answer.Answer.{Answer}
 use Rattle.lx_cli.specs.declared.answer.Answer.TheVariants as answer
-use Rattle.lx_cli.specs.Told.{TellsInput, TellsRun}
+use Rattle.lx_cli.specs.Told.{TellsInput, TellsOf, TellsRun}
 
--- the answer to an input that was read
-pub told_input : (turn : Result Input InputStop → Type 0) (i : Input) (a : Answer) → turn (Ok i) → TellsRun i.program i.script i.schedule a → TellsInput turn a
-told_input turn i (answer.Fault f) comes is = absurd is
-told_input turn i (answer.Unread file) comes is = absurd is
-told_input turn i (answer.Broken entry) comes is = (i, comes, is)
-told_input turn i (answer.Report text returned) comes is = (i, comes, record { report = is.0; asked = is.1 })
+-- the answer to an input that was read: a run has no schedule that could be broken
+
+scheduled : (o : Option (List ℕ)) (s : List ℕ) → is_some o ≡ false → o ≡ Some s → ⊥
+scheduled None s none is = absurd cc
+scheduled (Some x) s none is = absurd cc
+
+told_run : (case : List ℕ) (turn : Result Input InputStop → Type 0) (i : Input) (a : Answer) → is_some i.besides.schedule ≡ false → turn (Ok i) → TellsRun i.program i.script i.besides.schedule a → TellsInput (Some (Run case)) turn a
+told_run case turn i (answer.Fault f) none comes is = absurd is
+told_run case turn i (answer.Unread file) none comes is = absurd is
+told_run case turn i (answer.Broken entry) none comes is = absurd (scheduled i.besides.schedule is.0 none is.1)
+told_run case turn i (answer.Report text returned) none comes is = (i, comes, record { report = is.0; asked = is.1 })
+told_run case turn i (answer.Image text) none comes is = absurd is
+told_run case turn i answer.Accepted none comes is = absurd is
+told_run case turn i (answer.Refused f) none comes is = absurd is
+
+told_replay : (case schedule : List ℕ) (turn : Result Input InputStop → Type 0) (i : Input) (a : Answer) → turn (Ok i) → TellsRun i.program i.script i.besides.schedule a → TellsInput (Some (Replay case schedule)) turn a
+told_replay case schedule turn i (answer.Fault f) comes is = absurd is
+told_replay case schedule turn i (answer.Unread file) comes is = absurd is
+told_replay case schedule turn i (answer.Broken entry) comes is = (i, comes, is)
+told_replay case schedule turn i (answer.Report text returned) comes is = (i, comes, record { report = is.0; asked = is.1 })
+told_replay case schedule turn i (answer.Image text) comes is = absurd is
+told_replay case schedule turn i answer.Accepted comes is = absurd is
+told_replay case schedule turn i (answer.Refused f) comes is = absurd is
+
+pub told_input : (c : Command) (turn : Result Input InputStop → Type 0) (i : Input) (a : Answer) → AreThere (asked_of c) i.besides → turn (Ok i) → TellsOf c i a → TellsInput (Some c) turn a
+told_input (Run case) turn i a there comes is = told_run case turn i a there.schedule comes is
+told_input (Replay case schedule) turn i a there comes is = told_replay case schedule turn i a comes is
+told_input (Instrument case part) turn i a there comes (text, same, is) = subst (TellsInput (Some (Instrument case part)) turn) (sym same) (i, comes, is)
+told_input (Check case part image) turn i a there comes (inl (same, is)) = subst (TellsInput (Some (Check case part image)) turn) (sym same) (i, comes, (is, refl))
+told_input (Check case part image) turn i a there comes (inr (line, same, is)) = subst (TellsInput (Some (Check case part image)) turn) (sym same) (i, comes, is)
+
+-- an answer to an input names no file that was not read
+pub names_none : (c : Command) (i : Input) (file : List ℕ) → TellsOf c i (answer.Unread file) → ⊥
+names_none (Run case) i file is = is
+names_none (Replay case schedule) i file is = is
+names_none (Instrument case part) i file (text, same, is) = absurd cc
+names_none (Check case part image) i file (inl (same, is)) = absurd cc
+names_none (Check case part image) i file (inr (line, same, is)) = absurd cc
 
 -- and to one that ended
-pub told_stop : (turn : Result Input InputStop → Type 0) (stop : InputStop) (a : Answer) → turn (Err stop)
-    → TellsInput (λ (came : Result Input InputStop). came ≡ Err stop) a → TellsInput turn a
-told_stop turn stop (answer.Fault f) comes is = subst turn (sym is) comes
-told_stop turn stop (answer.Unread file) comes is = subst turn (sym is) comes
-told_stop turn stop (answer.Broken entry) comes is = let no = is.1 in absurd cc
-told_stop turn stop (answer.Report text returned) comes is = let no = is.1 in absurd cc
+pub told_stop : (c : Option Command) (turn : Result Input InputStop → Type 0) (stop : InputStop) (a : Answer) → turn (Err stop)
+    → TellsInput None (λ (came : Result Input InputStop). came ≡ Err stop) a → TellsInput c turn a
+told_stop c turn stop (answer.Fault f) comes is = subst turn (sym is) comes
+told_stop c turn stop (answer.Unread file) comes is = subst turn (sym is) comes
+told_stop c turn stop (answer.Broken entry) comes is = let no = is.1 in absurd cc
+told_stop c turn stop (answer.Report text returned) comes is = let no = is.1 in absurd cc
+told_stop c turn stop (answer.Image text) comes is = let no = is.1 in absurd cc
+told_stop c turn stop answer.Accepted comes is = let no = is.1 in absurd cc
+told_stop c turn stop (answer.Refused f) comes is = let no = is.1 in absurd cc
+
+-- the names of a command are those of its words
+pub moved_turn : (files : List FileText) (case other : List ℕ) (a b : Asked) (r : Result Input InputStop) → case ≡ other → a ≡ b → InputTurn files case a r → InputTurn files other b r
+moved_turn files case other a b r e f turn = subst (λ (q : Asked). InputTurn files other q r) f (subst (λ (q : List ℕ). InputTurn files q a r) e turn)
 
 -- what holds of the value of a result
 pub if_ok_at : {A E : Type 0} (P : A → Type 0) (r : Result A E) (a : A) → IfOk r P → r ≡ Ok a → P a
@@ -36,12 +79,18 @@ NamesNewest before now (answer.Fault f) = Unit {0}
 NamesNewest before now (answer.Unread file) = now ≡ before ++ file ∷ []
 NamesNewest before now (answer.Broken entry) = Unit {0}
 NamesNewest before now (answer.Report text returned) = Unit {0}
+NamesNewest before now (answer.Image text) = Unit {0}
+NamesNewest before now answer.Accepted = Unit {0}
+NamesNewest before now (answer.Refused f) = Unit {0}
 
 pub noted_stop : (before now : List (List ℕ)) (stop : InputStop) (a : Answer) (file : List ℕ) → HasNoted {A = Input} before now (Err stop)
-    → TellsInput (λ (came : Result Input InputStop). came ≡ Err stop) a → a ≡ answer.Unread file → now ≡ before ++ file ∷ []
+    → TellsInput None (λ (came : Result Input InputStop). came ≡ Err stop) a → a ≡ answer.Unread file → now ≡ before ++ file ∷ []
 noted_stop before now stop (answer.Fault f) file noted is same = absurd cc
 noted_stop before now stop (answer.Unread other) file noted is same =
     let named : HasNoted {A = Input} before now (Err (stops.Unread other)) = subst (λ (came : Result Input InputStop). HasNoted before now came) (sym is) noted in
     subst (λ (b : Answer). NamesNewest before now b) same named
 noted_stop before now stop (answer.Broken entry) file noted is same = absurd cc
 noted_stop before now stop (answer.Report text returned) file noted is same = absurd cc
+noted_stop before now stop (answer.Image text) file noted is same = absurd cc
+noted_stop before now stop answer.Accepted file noted is same = absurd cc
+noted_stop before now stop (answer.Refused f) file noted is same = absurd cc

@@ -1,8 +1,16 @@
 -- What the program writes for each status.
-use Rattle.std.specs.Prelude.{◌≡◌, ℕ, suc, Bool, true, false, List, [], ◌∷◌, ◌++◌, codes, Option, Some, None, option_map, if◌then◌else◌}
+use Rattle.std.specs.Prelude.{◌≡◌, ◌⊎◌, ℕ, suc, Bool, true, false, List, [], ◌∷◌, ◌++◌, codes, slice_get, Option, Some, None, option_map, if◌then◌else◌}
 use Rattle.std.specs.List.{list_all}
 use Rattle.lx_words.specs.Text.{decimal_text}
+use Rattle.lx_ir.specs.declared.module.Module.{Module}
+use Rattle.lx_ir.specs.Text.{module_text}
+use Rattle.lx_annot.specs.declared.interface.Interface.{Interface}
+use Rattle.lx_image_texts.specs.ImageFaults.{ImageFault, first_image_fault}
+use Rattle.lx_image_texts.specs.Instrumented.{GuardsBut, leaves_spared}
+use Rattle.lx_image_texts.specs.Laws.{IsProgramOf}
+use Rattle.lx_image_marks.specs.Told.{kind_number}
 use Rattle.lx_model.specs.declared.program.Program.{Program}
+use Rattle.lx_model.specs.declared.program.ProgramModule.{ProgramModule}
 use Rattle.lx_model.specs.declared.program.ScriptCall.{ScriptCall}
 use Rattle.lx_model.specs.declared.account.CallOutcome.{CallOutcome}
 use Rattle.lx_model.specs.declared.request.Outcome.{Outcome}
@@ -11,7 +19,12 @@ use Rattle.lx_model.specs.World.{World, opening, run, event, can_act, is_done, i
 use Rattle.lx_model.specs.Account.{account, schedule_of}
 use Rattle.lx_report.specs.Report.{report_text, schedule_line}
 use Rattle.lx_report.specs.Laws.{IsSchedule}
+use Rattle.lx_sources.specs.declared.line.FaultKind.TheVariants as kinds
+use Rattle.lx_input.specs.Files.FaultLine.{FaultLine}
+use Rattle.lx_sources.specs.Faults.{fault_at}
+use Rattle.lx_input.specs.Files.ImageFile.{ImageFile}
 use Rattle.lx_input.specs.declared.input.Input.{Input}
+use Rattle.lx_cli.specs.Command.{Command, Run, Replay, Instrument, Check}
 use Rattle.lx_plain_runs.specs.Authorised.{AreAuthorised}
 use Rattle.lx_plain_runs.specs.PlainRuns.{IsPlainRun}
 
@@ -54,7 +67,7 @@ IsAsked (Some asked) schedule = schedule ≡ asked
 -- the report of an input: under a schedule of the program's choice, or under the one that is replayed
 pub record IsReportOf (i : Input) (returned : Bool) (text : List ℕ) : Type 0 where
   pub report : IsReport i.program i.script returned text
-  pub asked : IsAsked i.schedule report.schedule
+  pub asked : IsAsked i.besides.schedule report.schedule
 
 -- the first entry of a schedule, counted from 0, that names a thread without work, or the number of entries where work remains behind the last
 abbrev pub broken_at : Program → List ℕ → World → Option ℕ
@@ -63,7 +76,86 @@ broken_at p (t ∷ ts) w = if can_act w t then option_map suc (broken_at p ts (e
 
 -- the schedule that is replayed is broken at this entry
 abbrev pub IsBroken : Input → ℕ → Type 0
-IsBroken i entry = (asked : List ℕ) × (i.schedule ≡ Some asked) × (broken_at i.program asked (opening i.program i.script) ≡ Some entry)
+IsBroken i entry = (asked : List ℕ) × (i.besides.schedule ≡ Some asked) × (broken_at i.program asked (opening i.program i.script) ≡ Some entry)
+
+abbrev pub accepted_line : List ℕ
+accepted_line = codes "accepted\n"
+
+-- The text is the image of the module with this number: its wrappers, and its guards and checks but those that may be left out.
+abbrev pub IsImageOf : Interface → Module → List ℕ → Type 0
+IsImageOf i m text = (x : Module) × GuardsBut (leaves_spared m) i m x × (text ≡ module_text x)
+
+abbrev pub IsImageText : Input → List ℕ → Type 0
+IsImageText i text =
+    (k : ℕ) × (m : ProgramModule) × (i.besides.number ≡ Some k) × (slice_get i.program.modules k ≡ Some m) × IsImageOf i.program.interface m.«module» text
+
+-- some program has the image
+abbrev pub HasProgram : Interface → Module → Type 0
+HasProgram i x = (m : Module) × IsProgramOf i m x
+
+-- it is so of the image that is checked, in which no fault stands
+abbrev pub IsAccepted : Input → Type 0
+IsAccepted i =
+    (x : ImageFile) × (i.besides.image ≡ Some x) × HasProgram i.program.interface x.text × (first_image_fault i.program.interface x.text ≡ None)
+
+-- `@FUNCTION PLACE`
+unfoldable pub place_what : List ℕ → ℕ → List ℕ
+place_what function place = codes "@" ++ function ++ codes " " ++ decimal_text place
+
+-- the line about a fault of an image
+abbrev pub image_line : List ℕ → ImageFault → FaultLine
+image_line file f = fault_at file kinds.Image (kind_number f.kind) f.line (place_what f.function f.place)
+
+-- no program has the image, and the line is about its first fault
+abbrev pub IsRefusedBy : Input → FaultLine → Type 0
+IsRefusedBy i line =
+    (x : ImageFile) × (f : ImageFault) × (i.besides.image ≡ Some x) × (HasProgram i.program.interface x.text → ⊥)
+    × (first_image_fault i.program.interface x.text ≡ Some f) × (line ≡ image_line x.file f)
+
+-- What each command makes of its input: with status 0 (true) or 1 (false),
+
+abbrev pub Makes : Command → Input → Bool → List ℕ → Type 0
+Makes (Run case) i well text = IsReportOf i well text
+Makes (Replay case schedule) i well text = IsReportOf i well text
+Makes (Instrument case part) i true text = IsImageText i text
+Makes (Instrument case part) i false text = ⊥
+Makes (Check case part image) i true text = IsAccepted i × (text ≡ accepted_line)
+Makes (Check case part image) i false text = ⊥
+
+-- with status 7,
+abbrev pub Breaks : Command → Input → ℕ → Type 0
+Breaks (Replay case schedule) i entry = IsBroken i entry
+Breaks _ i entry = ⊥
+
+-- and with status 8
+abbrev pub Refuses : Command → Input → FaultLine → Type 0
+Refuses (Check case part image) i line = IsRefusedBy i line
+Refuses _ i line = ⊥
+
+-- the statuses with which it can end, where nothing keeps it from its end
+abbrev pub EndsWith : Command → Input → ℕ → Type 0
+EndsWith (Run case) i status = (status ≡ 0) ⊎ (status ≡ 1)
+EndsWith (Replay case schedule) i status = (status ≡ 0) ⊎ (status ≡ 1) ⊎ ((status ≡ 7) × (entry : ℕ) × IsBroken i entry)
+EndsWith (Instrument case part) i status = status ≡ 0
+EndsWith (Check case part image) i status = ((status ≡ 0) × IsAccepted i) ⊎ ((status ≡ 8) × (line : FaultLine) × IsRefusedBy i line)
+
+-- the same of words, which may be no command
+
+abbrev pub MadeBy : Option Command → Input → Bool → List ℕ → Type 0
+MadeBy None i well text = ⊥
+MadeBy (Some c) i well text = Makes c i well text
+
+abbrev pub BrokenBy : Option Command → Input → ℕ → Type 0
+BrokenBy None i entry = ⊥
+BrokenBy (Some c) i entry = Breaks c i entry
+
+abbrev pub RefusedBy : Option Command → Input → FaultLine → Type 0
+RefusedBy None i line = ⊥
+RefusedBy (Some c) i line = Refuses c i line
+
+abbrev pub EndedBy : Option Command → Input → ℕ → Type 0
+EndedBy None i status = ⊥
+EndedBy (Some c) i status = EndsWith c i status
 
 -- the lines of the other statuses
 

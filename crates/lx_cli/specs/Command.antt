@@ -1,36 +1,71 @@
 -- The words, and what their files come to.
-use Rattle.std.specs.Prelude.{◌≡◌, ℕ, Bool, not, ◌&&◌, List, [], ◌∷◌, codes, map, take, string_bytes, String, Option, Some, None, Result, if◌then◌else◌}
+use Rattle.std.specs.Prelude.{◌≡◌, ℕ, Bool, not, ◌&&◌, List, [], ◌∷◌, codes, map, take, string_bytes, String, Option, Some, None, option_map, Result, if◌then◌else◌}
 use Rattle.std.specs.Str.{bytes_eq}
 use Rattle.std.specs.declared.alloc.Global.{Global}
 use Rattle.lx_outside.specs.declared.file_text.FileText.{FileText}
+use Rattle.lx_input.specs.Files.Asked.{Asked, nothing}
 use Rattle.lx_input.specs.Files.InputStop.{InputStop}
 use Rattle.lx_input.specs.declared.input.Input.{Input}
 use Rattle.lx_input.specs.Inputs.{InputTurn}
+use Rattle.lx_cli.specs.declared.command.Command.{Command as Words}
+use Rattle.lx_cli.specs.declared.command.Command.TheVariants as words
 
 -- the words as texts
 abbrev pub texts : List (String Global) → List (List ℕ)
 texts words = map string_bytes words
 
--- a command: the name of its case, and of its schedule where it replays one
-pub record Command : Type 0 where
-  pub case : List ℕ
-  pub schedule : Option (List ℕ)
+-- a command: it names its case, and a schedule and an image by their files, and a module by its name in the case
+pub data Command : Type 0 where
+  Run : (case : List ℕ) → Command
+  Replay : (case : List ℕ) → (schedule : List ℕ) → Command
+  Instrument : (case : List ℕ) → (part : List ℕ) → Command
+  Check : (case : List ℕ) → (part : List ℕ) → (image : List ℕ) → Command
+
+-- what the words of a command say
+abbrev pub said : Words → Command
+said (words.Run case) = Run case.now
+said (words.Replay case schedule) = Replay case.now schedule.now
+said (words.Instrument case part) = Instrument case.now part.now
+said (words.Check case part image) = Check case.now part.now image.now
 
 -- a word that is no option
 abbrev pub is_name : List ℕ → Bool
 is_name word = not (bytes_eq (take 1 word) (codes "-"))
 
--- `run CASE` and `replay CASE SCHEDULE`, where no word begins with `-`
+-- the command, where the words are one
+abbrev pub if_words : Bool → Command → Option Command
+if_words b c = if b then Some c else None
+
+abbrev pub two_names : List ℕ → List ℕ → List ℕ → Option Command
+two_names word case second =
+    if bytes_eq word (codes "replay") then Some (Replay case second) else if_words (bytes_eq word (codes "instrument")) (Instrument case second)
+
+-- `run CASE`, `replay CASE SCHEDULE`, `instrument CASE MODULE` and `check CASE MODULE IMAGE`, where no word begins with `-`
 abbrev pub command_of : List (List ℕ) → Option Command
-command_of (word ∷ case ∷ []) = if bytes_eq word (codes "run") && is_name case then Some (record { case = case; schedule = None }) else None
-command_of (word ∷ case ∷ schedule ∷ []) =
-    if bytes_eq word (codes "replay") && (is_name case && is_name schedule) then Some (record { case = case; schedule = Some schedule }) else None
+command_of (word ∷ case ∷ []) = if_words (bytes_eq word (codes "run") && is_name case) (Run case)
+command_of (word ∷ case ∷ second ∷ []) = if is_name case && is_name second then two_names word case second else None
+command_of (word ∷ case ∷ part ∷ image ∷ []) =
+    if_words (bytes_eq word (codes "check") && (is_name case && (is_name part && is_name image))) (Check case part image)
 command_of _ = None
+
+-- the name of its case, and what it asks for besides
+
+abbrev pub case_of : Command → List ℕ
+case_of (Run case) = case
+case_of (Replay case schedule) = case
+case_of (Instrument case part) = case
+case_of (Check case part image) = case
+
+abbrev pub asked_of : Command → Asked
+asked_of (Run case) = nothing
+asked_of (Replay case schedule) = record nothing { schedule = Some schedule }
+asked_of (Instrument case part) = record nothing { «module» = Some part }
+asked_of (Check case part image) = record nothing { «module» = Some part; image = Some image }
 
 -- what the files of a command come to
 abbrev pub CommandTurn : List FileText → Option Command → Result Input InputStop → Type 0
 CommandTurn files None answer = ⊥
-CommandTurn files (Some c) answer = InputTurn files c.case c.schedule answer
+CommandTurn files (Some c) answer = InputTurn files (case_of c) (asked_of c) answer
 
 -- what the words and the files come to: a program with its script, a first fault, or a file that is asked for and may not be read
 abbrev pub ComesTo : List (List ℕ) → List FileText → Result Input InputStop → Type 0
@@ -38,4 +73,4 @@ ComesTo words files answer = CommandTurn files (command_of words) answer
 
 -- the words run a case under a schedule of the program's choice
 abbrev pub IsRun : List (List ℕ) → Type 0
-IsRun words = (c : Command) × (command_of words ≡ Some c) × (c.schedule ≡ None)
+IsRun words = (case : List ℕ) × (command_of words ≡ Some (Run case))

@@ -6,14 +6,14 @@ use Rattle.lx_input.specs.Files.FaultLine.{FaultLine}
 use Rattle.lx_input.specs.Files.InputStop.TheVariants as stops
 use Rattle.lx_input.specs.Files.Lines.{fault_text}
 use Rattle.lx_input.specs.declared.input.Input.{Input}
-use Rattle.lx_cli.specs.Answer.{IsReportOf, IsBroken, usage_line, unread_line, broken_line}
+use Rattle.lx_cli.specs.Answer.{MadeBy, BrokenBy, RefusedBy, accepted_line, usage_line, unread_line, broken_line}
 use Rattle.lx_cli.specs.Command.{command_of, ComesTo}
 use Rattle.lx_cli.specs.declared.answer.Answer.{Answer}
 use Rattle.lx_cli.specs.declared.answer.Answer.TheVariants as answer
 
--- the text is a report of the input, where every call returned or not
-abbrev pub Reported : List (List ℕ) → List FileText → Bool → List ℕ → Type 0
-Reported words files returned text = (i : Input) × ComesTo words files (Ok i) × IsReportOf i returned text
+-- the text is what the command makes of its input: a report where every call returned or not, an image, or that one is accepted
+abbrev pub Done : List (List ℕ) → List FileText → Bool → List ℕ → Type 0
+Done words files well text = (i : Input) × ComesTo words files (Ok i) × MadeBy (command_of words) i well text
 
 -- the words are no command
 abbrev pub NoCommandText : List (List ℕ) → List ℕ → Type 0
@@ -30,19 +30,24 @@ UnreadText words files before now text =
 
 -- the schedule that is replayed is not whole
 abbrev pub BrokenText : List (List ℕ) → List FileText → List ℕ → Type 0
-BrokenText words files text = (i : Input) × (entry : ℕ) × ComesTo words files (Ok i) × IsBroken i entry × (text ≡ broken_line entry)
+BrokenText words files text = (i : Input) × (entry : ℕ) × ComesTo words files (Ok i) × BrokenBy (command_of words) i entry × (text ≡ broken_line entry)
+
+-- no program has the image that is checked
+abbrev pub RefusedText : List (List ℕ) → List FileText → List ℕ → Type 0
+RefusedText words files text = (i : Input) × (line : FaultLine) × ComesTo words files (Ok i) × RefusedBy (command_of words) i line × (text ≡ fault_text line)
 
 -- the whole text of a status, where the shelf's faults were `before` and are `now`. The statuses 5 and 6 have none
 abbrev pub RowText : List (List ℕ) → List FileText → List (List ℕ) → List (List ℕ) → ℕ → List ℕ → Type 0
-RowText words files before now zero text = Reported words files true text
-RowText words files before now (suc zero) text = Reported words files false text
+RowText words files before now zero text = Done words files true text
+RowText words files before now (suc zero) text = Done words files false text
 RowText words files before now (suc (suc zero)) text = NoCommandText words text
 RowText words files before now (suc (suc (suc zero))) text = FaultText words files text
 RowText words files before now (suc (suc (suc (suc zero)))) text = UnreadText words files before now text
 RowText words files before now (suc (suc (suc (suc (suc zero))))) text = ⊥
 RowText words files before now (suc (suc (suc (suc (suc (suc zero)))))) text = ⊥
 RowText words files before now (suc (suc (suc (suc (suc (suc (suc zero))))))) text = BrokenText words files text
-RowText words files before now (suc (suc (suc (suc (suc (suc (suc (suc n)))))))) text = ⊥
+RowText words files before now (suc (suc (suc (suc (suc (suc (suc (suc zero)))))))) text = RefusedText words files text
+RowText words files before now (suc (suc (suc (suc (suc (suc (suc (suc (suc n))))))))) text = ⊥
 
 -- the sink gained the whole text of the status
 pub record Wrote (words : List (List ℕ)) (files : List FileText) (before now : List (List ℕ)) (told : List ℕ) (new : Option (List ℕ)) (status : ℕ) : Type 0 where
@@ -57,14 +62,15 @@ pub record FellShort (words : List (List ℕ)) (files : List FileText) (before n
   pub row : RowText words files before now status text
   pub part : (n : ℕ) × (n < length text) × (new ≡ Some (told ++ take n text))
 
--- The words are a command and its files were read, and the sink gained the report of the monitor's run of the program as
--- it is written, under the schedule that the report itself prints. The status says whether every call returned
+-- The words are a command and its files were read, and the sink gained what the command makes of them. Where it runs or replays a
+-- case, this is the report of the monitor's run of the program as it is written, under the schedule that the report itself prints, and
+-- the status says whether every call returned
 pub record Headline (words : List (List ℕ)) (files : List FileText) (told : List ℕ) (new : Option (List ℕ)) (status : ℕ) : Type 0 where
   pub input : Input
   pub read : ComesTo words files (Ok input)
   pub text : List ℕ
   pub returned : Bool
-  pub report : IsReportOf input returned text
+  pub report : MadeBy (command_of words) input returned text
   pub is_status : status ≡ (if returned then 0 else 1)
   pub gained : new ≡ Some (told ++ text)
 
@@ -80,6 +86,9 @@ answer_text (answer.Fault f) = fault_text f
 answer_text (answer.Unread file) = unread_line file
 answer_text (answer.Broken entry) = broken_line entry
 answer_text (answer.Report text returned) = text
+answer_text (answer.Image text) = text
+answer_text answer.Accepted = accepted_line
+answer_text (answer.Refused f) = fault_text f
 
 abbrev pub status_of : Answer → ℕ
 status_of (answer.Fault f) = 3
@@ -87,3 +96,6 @@ status_of (answer.Unread file) = 4
 status_of (answer.Broken entry) = 7
 status_of (answer.Report text true) = 0
 status_of (answer.Report text false) = 1
+status_of (answer.Image text) = 0
+status_of answer.Accepted = 0
+status_of (answer.Refused f) = 8

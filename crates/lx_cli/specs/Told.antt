@@ -1,12 +1,17 @@
 -- What an answer tells.
-use Rattle.std.specs.Prelude.{◌≡◌, ℕ, List, Option, Some, Result, Ok, Err}
+use Rattle.std.specs.Prelude.{◌≡◌, ◌⊎◌, ℕ, true, List, Option, Some, None, Result, Ok, Err}
+use Rattle.lx_annot.specs.declared.interface.Interface.{Interface}
+use Rattle.lx_image_texts.specs.ImageFaults.{ImageFault, first_image_fault}
 use Rattle.lx_model.specs.declared.program.Program.{Program}
 use Rattle.lx_model.specs.declared.program.ScriptCall.{ScriptCall}
 use Rattle.lx_model.specs.World.{opening}
+use Rattle.lx_input.specs.Files.FaultLine.{FaultLine}
+use Rattle.lx_input.specs.Files.ImageFile.{ImageFile}
 use Rattle.lx_input.specs.Files.InputStop.{InputStop}
 use Rattle.lx_input.specs.Files.InputStop.TheVariants as stops
 use Rattle.lx_input.specs.declared.input.Input.{Input}
-use Rattle.lx_cli.specs.Answer.{IsReport, IsReportOf, IsAsked, IsBroken, broken_at}
+use Rattle.lx_cli.specs.Answer.{IsReport, IsAsked, IsImageText, IsAccepted, IsRefusedBy, HasProgram, image_line, MadeBy, BrokenBy, RefusedBy, accepted_line, broken_at}
+use Rattle.lx_cli.specs.Command.{Command, Run, Replay, Instrument, Check}
 use Rattle.lx_cli.specs.declared.answer.Answer.{Answer}
 use Rattle.lx_cli.specs.declared.answer.Answer.TheVariants as answer
 
@@ -16,10 +21,29 @@ TellsRun p script asked (answer.Fault f) = ⊥
 TellsRun p script asked (answer.Unread file) = ⊥
 TellsRun p script asked (answer.Broken entry) = (s : List ℕ) × (asked ≡ Some s) × (broken_at p s (opening p script) ≡ Some entry)
 TellsRun p script asked (answer.Report text returned) = (r : IsReport p script returned text) × IsAsked asked r.schedule
+TellsRun p script asked (answer.Image text) = ⊥
+TellsRun p script asked answer.Accepted = ⊥
+TellsRun p script asked (answer.Refused f) = ⊥
 
 -- of what the files of a command come to
-abbrev pub TellsInput : (Result Input InputStop → Type 0) → Answer → Type 0
-TellsInput turn (answer.Fault f) = turn (Err (stops.Fault f))
-TellsInput turn (answer.Unread file) = turn (Err (stops.Unread file))
-TellsInput turn (answer.Broken entry) = (i : Input) × turn (Ok i) × IsBroken i entry
-TellsInput turn (answer.Report text returned) = (i : Input) × turn (Ok i) × IsReportOf i returned text
+abbrev pub TellsInput : Option Command → (Result Input InputStop → Type 0) → Answer → Type 0
+TellsInput c turn (answer.Fault f) = turn (Err (stops.Fault f))
+TellsInput c turn (answer.Unread file) = turn (Err (stops.Unread file))
+TellsInput c turn (answer.Broken entry) = (i : Input) × turn (Ok i) × BrokenBy c i entry
+TellsInput c turn (answer.Report text returned) = (i : Input) × turn (Ok i) × MadeBy c i returned text
+TellsInput c turn (answer.Image text) = (i : Input) × turn (Ok i) × MadeBy c i true text
+TellsInput c turn answer.Accepted = (i : Input) × turn (Ok i) × MadeBy c i true accepted_line
+TellsInput c turn (answer.Refused f) = (i : Input) × turn (Ok i) × RefusedBy c i f
+
+-- of the image in a file
+abbrev pub Judges : Interface → ImageFile → Answer → Type 0
+Judges i x answer.Accepted = HasProgram i x.text × (first_image_fault i x.text ≡ None)
+Judges i x (answer.Refused line) = (f : ImageFault) × (HasProgram i x.text → ⊥) × (first_image_fault i x.text ≡ Some f) × (line ≡ image_line x.file f)
+Judges i x a = ⊥
+
+-- of an input that was read, by the command
+abbrev pub TellsOf : Command → Input → Answer → Type 0
+TellsOf (Run case) i a = TellsRun i.program i.script i.besides.schedule a
+TellsOf (Replay case schedule) i a = TellsRun i.program i.script i.besides.schedule a
+TellsOf (Instrument case part) i a = (text : List ℕ) × (a ≡ answer.Image text) × IsImageText i text
+TellsOf (Check case part image) i a = ((a ≡ answer.Accepted) × IsAccepted i) ⊎ ((line : FaultLine) × (a ≡ answer.Refused line) × IsRefusedBy i line)

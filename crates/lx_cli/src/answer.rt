@@ -1,6 +1,6 @@
 //! What the program answers to a command, before it is written.
 ghost use Rattle.std.specs.Prelude.{◌≡◌, ◌++◌, IfOk};
-ghost use Rattle.lx_cli.specs.Answer.{broken_line, unread_line};
+ghost use Rattle.lx_cli.specs.Answer.{accepted_line, broken_line, unread_line};
 ghost use Rattle.lx_cli.specs.Rows.{answer_text, status_of};
 
 use lx_input::{FaultLine, fault_text};
@@ -19,6 +19,12 @@ pub enum Answer {
     Broken(u64),
     /// The report, and whether every call returned.
     Report(Name, bool),
+    /// The text of the module's image.
+    Image(Name),
+    /// Some program has the image.
+    Accepted,
+    /// No program has the image: its first fault.
+    Refused(FaultLine),
 }
 
 /// The exit status.
@@ -26,11 +32,12 @@ pub(crate) fn status_of(answer: &Answer) -> u8
     ensures { result ≡ status_of answer.now }
 {
     match answer {
-        Answer::Report(_, true) => 0,
+        Answer::Report(_, true) | Answer::Image(_) | Answer::Accepted => 0,
         Answer::Report(_, false) => 1,
         Answer::Fault(_) => 3,
         Answer::Unread(_) => 4,
         Answer::Broken(_) => 7,
+        Answer::Refused(_) => 8,
     }
 }
 
@@ -57,14 +64,23 @@ fn broken_line(alloc: Global, entry: u64) -> Result<Name, Memory>
     Ok(Name::from_vec(line))
 }
 
+/// The line about an image that some program has.
+fn accepted_line(alloc: Global) -> Result<Name, Memory>
+    ensures { IfOk result (λ line. line ≡ accepted_line) }
+{
+    let line = Name::from_bytes(alloc, b"accepted\n")?;
+    Ok(line)
+}
+
 /// The text that is written.
 pub(crate) fn answer_text(alloc: Global, answer: Answer) -> Result<Name, Memory>
     ensures { IfOk result (λ text. text ≡ answer_text answer) }
 {
     match answer {
-        Answer::Fault(fault) => fault_text(alloc, &fault),
+        Answer::Fault(fault) | Answer::Refused(fault) => fault_text(alloc, &fault),
         Answer::Unread(file) => unread_line(alloc, file.as_slice()),
         Answer::Broken(entry) => broken_line(alloc, entry),
-        Answer::Report(text, _) => Ok(text),
+        Answer::Report(text, _) | Answer::Image(text) => Ok(text),
+        Answer::Accepted => accepted_line(alloc),
     }
 }

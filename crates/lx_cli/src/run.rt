@@ -14,7 +14,7 @@ ghost use Rattle.lx_cli.specs.Told.{TellsRun};
 use crate::answer::Answer;
 use lx_cap_tables::CapTables;
 use lx_caps::CapStore;
-use lx_input::Input;
+use lx_input::{Besides, Input};
 use lx_model::account::{CallOutcome, ImageCount};
 use lx_model::request::Outcome;
 use lx_opening::open_world;
@@ -173,14 +173,20 @@ fn run_over<C: CapStore + Drop + Send, R: Threads + Wait + Sync, G: Gate + Sync>
 ) -> Result<Answer, Memory>
     requires ready { IsReady input }
     requires new { C.stands caps [] }
-    ensures { IfOk result (TellsRun input.program input.script input.schedule) }
+    ensures { IfOk result (TellsRun input.program input.script input.besides.schedule) }
 {
     let Input {
         program,
         script,
         annotated,
-        schedule,
+        besides,
     } = input;
+    let Besides {
+        number: _,
+        schedule,
+        image,
+    } = besides;
+    drop(image);
     let annotated = annotated.as_slice();
     let images = image_counts(host.alloc, &program, annotated)?;
     let world = open_world(host.alloc, program, script.into_vec(), annotated, caps)?;
@@ -193,7 +199,7 @@ pub(crate) fn run_input<R: Threads + Wait + Sync, G: Gate + Sync>(
     input: Input,
 ) -> Result<Answer, Memory>
     requires { IsReady input }
-    ensures { IfOk result (TellsRun input.program input.script input.schedule) }
+    ensures { IfOk result (TellsRun input.program input.script input.besides.schedule) }
 {
     match CapTables::new(host.alloc) {
         Ok(caps) => run_over(host, input, caps),

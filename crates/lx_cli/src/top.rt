@@ -6,16 +6,19 @@ ghost use Rattle.lx_outside.specs.Files.{file_at};
 ghost use Rattle.lx_input.specs.Files.FaultLine.{FaultLine};
 ghost use Rattle.lx_input.specs.Files.InputStop.TheVariants as stops;
 ghost use Rattle.lx_input.specs.declared.input.Input.{Input};
+ghost use Rattle.lx_input.specs.Files.Asked.{AreThere};
 ghost use Rattle.lx_input.specs.Inputs.{InputTurn};
-ghost use Rattle.lx_cli.specs.Answer.{IsBroken};
-ghost use Rattle.lx_cli.specs.Command.{ComesTo, IsRun, command_of, texts};
+ghost use Rattle.lx_input.specs.Laws.{IsReady};
+ghost use Rattle.lx_cli.specs.Answer.{BrokenBy, EndedBy, RefusedBy};
+ghost use Rattle.lx_cli.specs.Command.{ComesTo, IsRun, asked_of, case_of, command_of, said, texts};
 ghost use Rattle.lx_cli.specs.Rows.{Wrote, FellShort, Headline, NoNewFault};
-ghost use Rattle.lx_cli.specs.Told.{TellsInput};
+ghost use Rattle.lx_cli.specs.Told.{TellsInput, TellsOf};
 
 use crate::answer::{Answer, answer_text, status_of};
 use crate::command::{Command, command_of};
+use crate::images::{check_input, instrument_input};
 use crate::run::{Host, run_input};
-use lx_input::{InputStop, one_input, read_input};
+use lx_input::{Input, InputStop, one_input, read_input};
 use lx_outside::{Gate, Shelf, Sink, put_all};
 use lx_words::Memory;
 use std::alloc::Global;
@@ -49,7 +52,7 @@ fn put<K: Sink>(sink: &mut K, text: &[u8], status: u8) -> u8
 
 /// The answer where the input ends before it is run.
 fn stopped(stop: InputStop) -> Result<Answer, Memory>
-    ensures { IfOk result (λ a. TellsInput (λ came. came ≡ Err stop) a) }
+    ensures { IfOk result (λ a. TellsInput None (λ came. came ≡ Err stop) a) }
 {
     match stop {
         InputStop::Fault(fault) => Ok(Answer::Fault(fault)),
@@ -58,17 +61,35 @@ fn stopped(stop: InputStop) -> Result<Answer, Memory>
     }
 }
 
-/// The answer to a command: what the first fault of its files is, which file was not read, or what its run was.
+/// The answer to a command whose files were read.
+fn answer_input<R: Threads + Wait + Sync, G: Gate + Sync>(
+    host: &Host<'_, R, G>,
+    command: Command<'_>,
+    input: Input,
+) -> Result<Answer, Memory>
+    requires ready { IsReady input }
+    requires there { AreThere (asked_of (said command)) input.besides }
+    ensures { IfOk result (λ a. TellsOf (said command.entry) input a) }
+{
+    match command {
+        Command::Run { .. } | Command::Replay { .. } => run_input(host, input),
+        Command::Instrument { .. } => instrument_input(host.alloc, &input),
+        Command::Check { .. } => check_input(host.alloc, &input),
+    }
+}
+
+/// The answer to a command: what the first fault of its files is, which file was not read, or what it makes of its input.
 fn answer_to<R: Threads + Wait + Sync, S: Shelf, G: Gate + Sync>(
     host: &Host<'_, R, G>,
     shelf: &mut S,
-    command: &Command<'_>,
+    command: Command<'_>,
 ) -> Result<Answer, Memory>
-    ensures answer { IfOk result (λ a. (files : List FileText) → S.files shelf.old ≡ Some files → TellsInput (InputTurn files command.now.case command.now.schedule) a) }
+    ensures answer { IfOk result (λ a. (files : List FileText) → S.files shelf.old ≡ Some files
+        → TellsInput (Some (said command.entry)) (InputTurn files (case_of (said command.entry)) (asked_of (said command.entry))) a) }
     ensures unread { (file : List ℕ) → result ≡ Ok (Answer.Unread file) → S.faults shelf.new ≡ S.faults shelf.old ++ file ∷ [] }
 {
-    match read_input(host.alloc, shelf, command.case, command.schedule) {
-        Ok(input) => run_input(host, input),
+    match read_input(host.alloc, shelf, command.case(), command.asked()) {
+        Ok(input) => answer_input(host, command, input),
         Err(stop) => stopped(stop),
     }
 }
@@ -110,24 +131,30 @@ pub fn lxfi<R: Threads + Wait + Sync, S: Shelf, K: Sink, G: Gate + Sync>(
 
     // A schedule that is replayed and is not whole; a run makes its own, which is.
     ensures broken { (files : List FileText) (i : Input) (entry : ℕ) → S.files shelf.old ≡ Some files → ComesTo (texts words.now) files (Ok i)
-        → IsBroken i entry → (result ≡ 7) ⊎ (result ≡ 4) ⊎ (result ≡ 5) ⊎ (result ≡ 6) }
+        → BrokenBy (command_of (texts words.now)) i entry → (result ≡ 7) ⊎ (result ≡ 4) ⊎ (result ≡ 5) ⊎ (result ≡ 6) }
     ensures broken_only { result ≡ 7 → (files : List FileText) → S.files shelf.old ≡ Some files
-        → (i : Input) × (entry : ℕ) × ComesTo (texts words.now) files (Ok i) × IsBroken i entry }
+        → (i : Input) × (entry : ℕ) × ComesTo (texts words.now) files (Ok i) × BrokenBy (command_of (texts words.now)) i entry }
     ensures run_whole { IsRun (texts words.now) → (files : List FileText) → S.files shelf.old ≡ Some files → result ≢ 7 }
 
+    // An image that no program has.
+    ensures refused { (files : List FileText) (i : Input) (line : FaultLine) → S.files shelf.old ≡ Some files → ComesTo (texts words.now) files (Ok i)
+        → RefusedBy (command_of (texts words.now)) i line → (result ≡ 8) ⊎ (result ≡ 4) ⊎ (result ≡ 5) ⊎ (result ≡ 6) }
+    ensures refused_only { result ≡ 8 → (files : List FileText) → S.files shelf.old ≡ Some files
+        → (i : Input) × (line : FaultLine) × ComesTo (texts words.now) files (Ok i) × RefusedBy (command_of (texts words.now)) i line }
+
     // A command and its input without a fault or a missing file, no new fault of the shelf at a file of the input, and
-    // no new fault of the sink: the report, a schedule that is not whole, or want of memory.
+    // no new fault of the sink: what the command makes of it, or want of memory.
     ensures complete { (files : List FileText) (i : Input) → S.files shelf.old ≡ Some files → ComesTo (texts words.now) files (Ok i)
         → NoNewFault (S.faults shelf.old) (S.faults shelf.new) (texts words.now) files
         → (HasRisen (K.faults sink.old) (K.faults sink.new) → ⊥)
-        → (result ≡ 0) ⊎ (result ≡ 1) ⊎ (result ≡ 6) ⊎ ((result ≡ 7) × (entry : ℕ) × IsBroken i entry) }
+        → EndedBy (command_of (texts words.now)) i result ⊎ (result ≡ 6) }
 {
     one_input();
     let Some(command) = command_of(words) else {
         return put(sink, USAGE.as_bytes(), 2);
     };
     let host = Host { rt, alloc, gate };
-    let Ok(answer) = answer_to(&host, shelf, &command) else {
+    let Ok(answer) = answer_to(&host, shelf, command) else {
         return WANT_OF_MEMORY;
     };
     let status = status_of(&answer);

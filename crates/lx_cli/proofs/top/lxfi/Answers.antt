@@ -1,9 +1,9 @@
-use Rattle.std.proofs.Common.{◌≡◌, ◌∙◌, sym, [], None, Ok, Err}
+use Rattle.std.proofs.Common.{◌≡◌, ◌∙◌, ◌⊎◌, inl, inr, ℕ, sym, arith, [], None, Ok, Err}
 use Rattle.lx_input.specs.Files.InputStop.TheVariants as stops
 use Rattle.lx_cli.specs.Command.{texts}
 use Rattle.lx_cli.specs.Rows.{status_of}
-use Rattle.lx_cli.proofs.Written.{by_words, usage_wrote, usage_short, answer_wrote, answer_short}
-use Rattle.lx_cli.proofs.Statuses.{none_comes, fault_comes, missing_comes, broken_comes, all_comes, fault_told, broken_told, unread_of, run_is_whole, status_is, unread_told}
+use Rattle.lx_cli.proofs.Written.{by_words, usage_wrote, usage_short, answer_wrote, answer_short, answer_headline}
+use Rattle.lx_cli.proofs.Statuses.{none_comes, fault_comes, missing_comes, broken_comes, all_comes, refused_comes, fault_told, broken_told, refused_told, unread_of, run_is_whole, status_is, unread_told}
 use Rattle.lx_cli.proofs.top.lxfi.Goals as goal
 
 -- no command
@@ -28,11 +28,26 @@ returns-in_default-clause-missing g c = λ files file files_told is gone.
 pub returns-in_default-clause-broken : goal.returns-in_default-clause-broken
 returns-in_default-clause-broken g c = λ files i entry files_told is at. absurd (none_comes (texts c.args.words.now) files (Ok i) (sym c.in_default.ensures) is)
 
+pub returns-in_default-clause-refused : goal.returns-in_default-clause-refused
+returns-in_default-clause-refused g c = λ files i line files_told is at. absurd (none_comes (texts c.args.words.now) files (Ok i) (sym c.in_default.ensures) is)
+
 pub returns-in_default-clause-complete : goal.returns-in_default-clause-complete
 returns-in_default-clause-complete g c = λ files i files_told is no_fault no_rise.
     absurd (none_comes (texts c.args.words.now) files (Ok i) (sym c.in_default.ensures) is)
 
 -- a command
+
+not_five : (r : ℕ) → (r ≡ 0) ⊎ (r ≡ 1) → r ≡ 5 → ⊥
+not_five r (inl is) five = omega (arith, is, five)
+not_five r (inr is) five = omega (arith, is, five)
+
+pub returns-clause-headline : goal.returns-clause-headline
+returns-clause-headline g c = λ which files told files_told sink_told.
+    answer_headline (texts c.args.words.now) files (g.S.Shelf.faults c.args.shelf.now) told (g.K.Sink.bytes c.put-2.new.sink) (g.S.Shelf.faults c.answer_to.new.shelf)
+    c.in-Ok.answer (by_words (texts c.args.words.now) files _ c.in-Ok.answer (sym c.in-Some.ensures) (c.in-Ok.ensures.answer files files_told))
+    (λ file is. c.in-Ok.ensures.unread file (cc))
+    c.put-2.result c.as_slice.result.now which (c.put-2.ensures.status (not_five c.put-2.result which) ∙ c.status_of-status.ensures) (c.as_slice.ensures ∙ c.in-Ok-answer_text.ensures)
+    (c.put-2.ensures.all (not_five c.put-2.result which) told sink_told)
 
 pub returns-clause-wrote : goal.returns-clause-wrote
 returns-clause-wrote g c = λ not_5 not_6 files told files_told sink_told.
@@ -96,6 +111,18 @@ returns-clause-run_whole g c = λ is_run files files_told is_7.
     run_is_whole (texts c.args.words.now) files is_run (broken_told (texts c.args.words.now) files c.in-Ok.answer
     (by_words (texts c.args.words.now) files _ c.in-Ok.answer (sym c.in-Some.ensures) (c.in-Ok.ensures.answer files files_told))
     (status_is c.put-2.result 7 (status_of c.in-Ok.answer) (λ not_5. c.put-2.ensures.status not_5 ∙ c.status_of-status.ensures) is_7 (λ e. cc)))
+
+pub returns-clause-refused : goal.returns-clause-refused
+returns-clause-refused g c = λ files i line files_told is at.
+    refused_comes c.one_input.ensures.one c.one_input.ensures.missing (texts c.args.words.now) files c.in-Ok.answer
+    (by_words (texts c.args.words.now) files _ c.in-Ok.answer (sym c.in-Some.ensures) (c.in-Ok.ensures.answer files files_told))
+    c.put-2.result (λ not_5. c.put-2.ensures.status not_5 ∙ c.status_of-status.ensures) i line is at
+
+pub returns-clause-refused_only : goal.returns-clause-refused_only
+returns-clause-refused_only g c = λ is_8 files files_told.
+    refused_told (texts c.args.words.now) files c.in-Ok.answer
+    (by_words (texts c.args.words.now) files _ c.in-Ok.answer (sym c.in-Some.ensures) (c.in-Ok.ensures.answer files files_told))
+    (status_is c.put-2.result 8 (status_of c.in-Ok.answer) (λ not_5. c.put-2.ensures.status not_5 ∙ c.status_of-status.ensures) is_8 (λ e. cc))
 
 pub returns-clause-complete : goal.returns-clause-complete
 returns-clause-complete g c = λ files i files_told is no_fault no_rise.
