@@ -1,6 +1,6 @@
 //! Inputs with faults that the checks find, and one without.
 
-use crate::shelves::shelf_of;
+use crate::shelves::{asked, shelf_of};
 use lx_input::{Input, InputStop, fault_text, read_input};
 use lx_outside::MemShelf;
 use lx_words::{Name, put_decimal};
@@ -150,7 +150,7 @@ fn shelf_with(alloc: Global, case: &str, files: &[(&str, &str)]) -> Result<MemSh
 
 /// What the files of a shelf come to.
 fn told(alloc: Global, shelf: &mut MemShelf) -> Result<Name, InputStop> {
-    match read_input(alloc, shelf, "one.case", None) {
+    match read_input(alloc, shelf, "one.case", asked(None)) {
         Ok(input) => {
             drop(input);
             Ok(Name::new(alloc))
@@ -271,7 +271,7 @@ fn is_wanted(input: &Input, wanted: Wanted) -> bool {
             input.program.modules.len() == 1
                 && input.script.len() == 1
                 && input.annotated.len() == 1
-                && input.schedule.is_some()
+                && input.besides.schedule.is_some()
         }
         Wanted::Natives => {
             input.program.functions.len() == 6 && input.program.globals.is_empty()
@@ -289,7 +289,7 @@ fn is_linked(
     wanted: Wanted,
 ) -> Result<bool, Fail> {
     let mut shelf = shelf_with(alloc, case, files)?;
-    let found = read_input(alloc, &mut shelf, "one.case", schedule);
+    let found = read_input(alloc, &mut shelf, "one.case", asked(schedule));
     drop(shelf);
     let is = match &found {
         Ok(input) => is_wanted(input, wanted),

@@ -6,6 +6,8 @@ mod c_files;
 #[cfg(test)]
 mod files;
 #[cfg(test)]
+mod images;
+#[cfg(test)]
 mod inputs;
 #[cfg(test)]
 mod limits;

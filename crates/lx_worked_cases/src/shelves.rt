@@ -1,5 +1,6 @@
 //! Shelves of these tests.
 
+use lx_input::Asked;
 use lx_outside::MemShelf;
 use std::alloc::Global;
 use std::test::Fail;
@@ -11,4 +12,13 @@ pub fn shelf_of(alloc: Global, files: &[(&str, &str)]) -> Result<MemShelf, Fail>
         shelf.put_file(alloc, name, text.as_bytes())?;
     }
     Ok(shelf)
+}
+
+/// Asks for a schedule, if for anything.
+pub fn asked(schedule: Option<&str>) -> Asked<'_> {
+    Asked {
+        module: None,
+        schedule,
+        image: None,
+    }
 }

@@ -1,6 +1,6 @@
 //! Hostile shelves, with what each comes to.
 
-use crate::shelves::shelf_of;
+use crate::shelves::{asked, shelf_of};
 use lx_input::{InputStop, fault_text, read_sources};
 use lx_outside::MemShelf;
 use lx_words::Name;
@@ -100,7 +100,7 @@ fn unread(alloc: Global, file: &[u8]) -> Result<Name, InputStop> {
 /// What the files of a shelf come to.
 fn told(alloc: Global, shelf: &mut MemShelf, with_schedule: bool) -> Result<Name, InputStop> {
     let schedule = if with_schedule { Some("two.txt") } else { None };
-    match read_sources(alloc, shelf, "one.case", schedule) {
+    match read_sources(alloc, shelf, "one.case", asked(schedule)) {
         Ok(sources) => {
             drop(sources);
             Ok(Name::new(alloc))

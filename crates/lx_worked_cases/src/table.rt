@@ -7,16 +7,19 @@ use std::sync::Wait;
 use std::test::Fail;
 use std::thread::Threads;
 
-/// What the parts so far have come to: the files, what went wrong, why the next case is there, what it may not write, and whether
-/// it is replayed under a schedule.
+/// What the parts so far have come to: the files, what went wrong, why the next case is there, what it may not write, and the words
+/// of its command.
 #[derive(Drop)]
 struct Table<'a> {
     shelf: &'a mut MemShelf,
     wrong: &'a mut String,
     why: &'static str,
     without: &'static str,
-    replays: bool,
+    words: &'static str,
 }
+
+/// The words of a case that is run.
+const RUN: &str = "run row.case";
 
 /// The first lines of each case that `calls` begins.
 const HEAD: &str =
@@ -31,13 +34,9 @@ fn written<R: Threads + Wait + Sync>(
     alloc: Global,
     table: &mut Table<'_>,
 ) -> Result<String, Fail> {
-    let words: &[&str] = if table.replays {
-        &["replay", "row.case", "row.schedule"]
-    } else {
-        &["run", "row.case"]
-    };
+    let words: Vec<&str> = table.words.split(' ').collect(alloc)?;
     let mut sink = sink_of(alloc)?;
-    let status = run_words(rt, alloc, words, table.shelf, &mut sink)?;
+    let status = run_words(rt, alloc, words.as_slice(), table.shelf, &mut sink)?;
     let text = String::from_utf8_lossy(alloc, sink.bytes.as_slice())?;
     let whole = format!(in alloc; "status {status}\n{text}")?;
     Ok(whole)
@@ -71,7 +70,7 @@ fn compare<R: Threads + Wait + Sync>(
         table.wrong.push('\n')?;
         table.wrong.push_str(text.as_str())?;
     }
-    table.replays = false;
+    table.words = RUN;
     table.without = "";
     Ok(())
 }
@@ -83,7 +82,15 @@ fn put_calls(alloc: Global, shelf: &mut MemShelf, calls: &str) -> Result<(), Fai
     Ok(())
 }
 
-/// Puts a file, a case, its schedule or what it may not write; all else is why the next case is there.
+/// Notes the words of a command; all else is why the next case is there.
+fn put_words(table: &mut Table<'_>, head: &'static str) {
+    match head.strip_prefix("words ") {
+        Some(words) => table.words = words,
+        None => table.why = head,
+    }
+}
+
+/// Puts a file, a case, its schedule, its words or what it may not write; all else is why the next case is there.
 fn put_part(
     alloc: Global,
     table: &mut Table<'_>,
@@ -97,19 +104,19 @@ fn put_part(
             table
                 .shelf
                 .put_file(alloc, "row.schedule", body.as_bytes())?;
-            table.replays = true;
+            table.words = "replay row.case row.schedule";
         }
         "without" => table.without = body,
         _ => match head.strip_prefix("file ") {
             Some(name) => table.shelf.put_file(alloc, name, body.as_bytes())?,
-            None => table.why = head,
+            None => put_words(table, head),
         },
     }
     Ok(())
 }
 
-/// Does what a part says: `file NAME`, `case`, `calls`, `schedule` or `without` puts its body, `lines` or `whole` runs the
-/// case, and all else is why the next case is there.
+/// Does what a part says: `file NAME`, `case`, `calls`, `schedule` or `without` puts its body, `words WORD ..` is the command,
+/// `lines` or `whole` runs the case, and all else is why the next case is there.
 fn take_part<R: Threads + Wait + Sync>(
     rt: &R,
     alloc: Global,
@@ -179,7 +186,7 @@ pub fn run_cases<R: Threads + Wait + Sync>(
         wrong,
         why: "",
         without: "",
-        replays: false,
+        words: RUN,
     };
     let taken = take_parts(rt, alloc, &mut table, cases);
     drop(shelf);

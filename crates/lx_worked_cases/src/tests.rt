@@ -2,6 +2,7 @@
 
 use crate::c_files::c_files;
 use crate::files::ONE_CASE;
+use crate::images::images;
 use crate::limits::limits;
 use crate::loan_users::{atoms, borrowed, borrowers, lent_slots, texts, threads};
 use crate::loans::{ends, nested, packets};
@@ -43,11 +44,12 @@ fn cases(number: u32) -> &'static str {
         15 => threads(),
         16 => atoms(),
         17 => lent_slots(),
+        18 => images(),
         _ => texts(),
     }
 }
 
-const TABLES: u32 = 19;
+const TABLES: u32 = 20;
 
 #[test]
 fn cases_write_what_is_wanted(rt: HostRuntime) -> Result<(), Fail> {
