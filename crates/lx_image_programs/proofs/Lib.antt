@@ -19,3 +19,4 @@ pub mod LawfulWrappers
 pub mod Wrappers
 pub mod WholeImages
 pub mod Room
+pub mod Watching

@@ -15,9 +15,10 @@ use Rattle.lx_slot_types.specs.Slots.{annotated_of, conflict_of}
 use Rattle.lx_image_texts.specs.WrapperText.{wrappers_of}
 use Rattle.lx_image_texts.specs.Guards.{Guards}
 use Rattle.lx_image_texts.specs.ImageFaults.{first_image_fault}
-use Rattle.lx_image_texts.specs.Instrumented.{leaves_none, leaves_spared, GuardsBut}
+use Rattle.lx_image_texts.specs.Instrumented.{Leaves, leaves_none, leaves_spared, GuardsBut}
 use Rattle.lx_image_texts.specs.Programs.{program_of}
 use Rattle.lx_image_texts.specs.Laws.{IsProgramOf}
+use Rattle.lx_image_programs.specs.Watched.{AllWatched, IsSameText}
 
 -- a function of the module is lawful, and none of the five faults stands in it
 pub record IsWell (m : Module) (f : Function) : Type 0 where
@@ -36,6 +37,10 @@ pub record HasRoom (i : Interface) (m : Module) : Type 0 where
   pub callable : list_all (can_be_called m) (annotated_of i m) ≡ true
 
 pub record ImageProgramLaws : Type 0 where
+  -- in a text without a fault no store, block write or call by a register stands without its guard or check, but spared stores
+  pub watched : (i : Interface) (x : Module) → first_image_fault i x ≡ None → AllWatched x
+  -- a module has one image with all guards, and one without just those of spared stores, whatever their lines
+  pub one : (leaves : Leaves) (i : Interface) (m x y : Module) → GuardsBut leaves i m x → GuardsBut leaves i m y → IsSameText x y
   -- the program of a lawful, verified image is lawful and verified, if its text names nothing but its own
   pub programs : (i : Interface) (m x : Module) → IsVerified x → IsProgramOf i m x → IsVerified m
   -- so where a lawful, verified text has no fault as an image, the program that erasing gives is lawful and verified
