@@ -20,3 +20,4 @@ pub mod Wrappers
 pub mod WholeImages
 pub mod Room
 pub mod Watching
+pub mod First

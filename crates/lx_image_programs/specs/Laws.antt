@@ -6,7 +6,7 @@ use Rattle.lx_ir.specs.declared.module.Function.{Function}
 use Rattle.lx_ir.specs.declared.module.Module.{Module}
 use Rattle.lx_ir.specs.Lawful.{IsPlain, is_block_write, is_lawful_function}
 use Rattle.lx_ir.specs.Operands.{register_count}
-use Rattle.lx_ir.specs.Faults.{FunctionFault, FirstFault}
+use Rattle.lx_ir.specs.Faults.{FunctionFault, FirstFault, first_some}
 use Rattle.lx_ir.specs.Text.{symbol_name}
 use Rattle.lx_ir.specs.Verified.{IsVerified}
 use Rattle.lx_annot.specs.declared.interface.Interface.{Interface}
@@ -14,11 +14,11 @@ use Rattle.lx_propagate.specs.declared.Marked.{Marked}
 use Rattle.lx_slot_types.specs.Slots.{annotated_of, conflict_of}
 use Rattle.lx_image_texts.specs.WrapperText.{wrappers_of}
 use Rattle.lx_image_texts.specs.Guards.{Guards}
-use Rattle.lx_image_texts.specs.ImageFaults.{first_image_fault}
+use Rattle.lx_image_texts.specs.ImageFaults.{ImageFault, fault_in_function, first_image_fault}
 use Rattle.lx_image_texts.specs.Instrumented.{Leaves, leaves_none, leaves_spared, GuardsBut}
 use Rattle.lx_image_texts.specs.Programs.{program_of}
 use Rattle.lx_image_texts.specs.Laws.{IsProgramOf}
-use Rattle.lx_image_programs.specs.Watched.{AllWatched, IsSameText}
+use Rattle.lx_image_programs.specs.Watched.{AllWatched, IsFirst, IsSameText}
 
 -- a function of the module is lawful, and none of the five faults stands in it
 pub record IsWell (m : Module) (f : Function) : Type 0 where
@@ -39,6 +39,8 @@ pub record HasRoom (i : Interface) (m : Module) : Type 0 where
 pub record ImageProgramLaws : Type 0 where
   -- in a text without a fault no store, block write or call by a register stands without its guard or check, but spared stores
   pub watched : (i : Interface) (x : Module) → first_image_fault i x ≡ None → AllWatched x
+  -- the fault of an instruction is the first
+  pub first : (x : Module) (e : ImageFault) → first_some (fault_in_function x) x.functions ≡ Some e → IsFirst x e
   -- a module has one image with all guards, and one without just those of spared stores, whatever their lines
   pub one : (leaves : Leaves) (i : Interface) (m x y : Module) → GuardsBut leaves i m x → GuardsBut leaves i m y → IsSameText x y
   -- the program of a lawful, verified image is lawful and verified, if its text names nothing but its own

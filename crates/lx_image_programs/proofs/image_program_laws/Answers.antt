@@ -4,7 +4,8 @@ use Rattle.lx_image_programs.proofs.Images.{functions}
 use Rattle.lx_image_programs.proofs.WholeImages.{faultless, images, full, spared}
 use Rattle.lx_image_programs.proofs.Room.{room}
 use Rattle.lx_image_programs.proofs.Watching.{watched, one_image}
+use Rattle.lx_image_programs.proofs.First.{is_first}
 use Rattle.lx_image_programs.proofs.image_program_laws.Goals as goal
 
 pub returns : goal.returns
-returns c = record { watched = watched; one = one_image; programs = programs; erased = erased; functions = functions; faultless = faultless; images = images; room = room; full = full; spared = spared }
+returns c = record { watched = watched; first = is_first; one = one_image; programs = programs; erased = erased; functions = functions; faultless = faultless; images = images; room = room; full = full; spared = spared }
