@@ -103,9 +103,10 @@ pub fn lxfi<R: Threads + Wait + Sync, S: Shelf, K: Sink, G: Gate + Sync>(
     sink: &mut K,
     gate: &G,
 ) -> u8
-    // With status 0 or 1 the sink gained the report of the monitor's run of the program as it is written, under the
-    // schedule that the report prints. What each act of that run needed was held, what was not held was refused, and
-    // every event that was not refused is the step of the program without the monitor.
+    // With status 0 or 1 the sink gained what the command makes of its input. Of a case that is run or replayed this is the
+    // report of the monitor's run of the program as it is written, under the schedule that the report prints. What each act
+    // of that run needed was held, what was not held was refused, and every event that was not refused is the step of the
+    // program without the monitor.
     ensures headline { (result ≡ 0) ⊎ (result ≡ 1) → (files : List FileText) (told : List ℕ)
         → S.files shelf.old ≡ Some files → K.bytes sink.old ≡ Some told → Headline (texts words.now) files told (K.bytes sink.new) result }
 

@@ -6,6 +6,12 @@ mod c_files;
 #[cfg(test)]
 mod files;
 #[cfg(test)]
+mod image_calls;
+#[cfg(test)]
+mod image_spared;
+#[cfg(test)]
+mod image_wrappers;
+#[cfg(test)]
 mod images;
 #[cfg(test)]
 mod inputs;

@@ -2,6 +2,9 @@
 
 use crate::c_files::c_files;
 use crate::files::ONE_CASE;
+use crate::image_calls::image_calls;
+use crate::image_spared::image_spared;
+use crate::image_wrappers::image_wrappers;
 use crate::images::images;
 use crate::limits::limits;
 use crate::loan_users::{atoms, borrowed, borrowers, lent_slots, texts, threads};
@@ -45,11 +48,14 @@ fn cases(number: u32) -> &'static str {
         16 => atoms(),
         17 => lent_slots(),
         18 => images(),
+        19 => image_wrappers(),
+        20 => image_calls(),
+        21 => image_spared(),
         _ => texts(),
     }
 }
 
-const TABLES: u32 = 20;
+const TABLES: u32 = 23;
 
 #[test]
 fn cases_write_what_is_wanted(rt: HostRuntime) -> Result<(), Fail> {
