@@ -12,3 +12,4 @@ pub mod Parts
 pub mod Rows
 pub mod Value
 pub mod Scope
+pub mod Lawful

@@ -1,4 +1,4 @@
-//! Annotations: what a call checks, copies and transfers.
+//! Annotations: what a call checks, copies and transfers; and which interfaces are lawful.
 #![tactic(auto)]
 
 ghost use Rattle.lx_annot.specs.Rows.{WorkedAnnotations};

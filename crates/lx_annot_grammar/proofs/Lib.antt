@@ -5,3 +5,14 @@ pub mod Sequences
 pub mod SignatureLaws
 pub mod StatementLaws
 pub mod TextLaws
+pub mod Counts
+pub mod FirstVersion
+pub mod Grown
+pub mod Lawful
+pub mod Named
+pub mod Words
+pub mod Terms
+pub mod Clauses
+pub mod Statements
+pub mod Texts
+pub mod SameText

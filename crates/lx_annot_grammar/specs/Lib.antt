@@ -1,3 +1,7 @@
 pub mod Parts
 pub mod Statements
 pub mod Laws
+pub mod LawfulLaws
+pub mod Renaming
+pub mod Anew
+pub mod CanonicalLaws

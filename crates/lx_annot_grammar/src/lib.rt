@@ -1,9 +1,13 @@
-//! The grammar of interface texts, and that reading and it agree.
+//! Laws of interface texts.
 //!
-//! A text that is an interface is read as it, and what is read of a text is an interface that it is; a text is one at most.
+//! Reading and the grammar agree: a text that is an interface is read as it, and what is read of a text is an interface that it is; a
+//! text is one at most. What is read is lawful, and what is read of a text of version 1 lends nothing. Canonical texts do not depend on
+//! the names of parameters, slots, exports and fields, nor on the spaces, comments and lines of the interface's text.
 #![tactic(auto)]
 
 ghost use Rattle.lx_annot_grammar.specs.Laws.{AnnotationsAreFound, AnnotationsAreRead, InterfacesAreFound, InterfacesAreRead, ItemsAreFound, ItemsAreRead, NotBoth, OneFault, OneInterface, SignaturesAreFound, SignaturesAreRead, StatementsAreFound, StatementsAreRead};
+ghost use Rattle.lx_annot_grammar.specs.LawfulLaws.{FirstVersionLendsNothing, ReadIsLawful};
+ghost use Rattle.lx_annot_grammar.specs.CanonicalLaws.{NamesSayNothing, OnlyListsAreNamed, ParametersSayNothing, RenamedIsRead, SpacesSayNothing};
 
 use lx_words::one_way;
 
@@ -32,4 +36,32 @@ pub fn interface_laws()
     ensures apart { NotBoth }
 {
     one_way();
+}
+
+/// Every interface that is read is lawful.
+pub fn lawful_laws()
+    ensures { ReadIsLawful }
+{
+    interface_laws();
+}
+
+/// No interface of a text of version 1 lends anything.
+pub fn first_version_laws()
+    ensures { FirstVersionLendsNothing }
+{}
+
+/// Of an interface, canonical texts have the names of reference types and iterators alone.
+pub fn canonical_laws()
+    ensures lists { OnlyListsAreNamed }
+    ensures parameters { ParametersSayNothing }
+{}
+
+/// What is read of a text with other names, spaces and comments has the same canonical texts.
+pub fn reading_laws()
+    ensures read { RenamedIsRead }
+    ensures names { NamesSayNothing }
+    ensures spaces { SpacesSayNothing }
+{
+    one_way();
+    interface_laws();
 }

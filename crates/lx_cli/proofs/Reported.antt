@@ -14,8 +14,8 @@ use Rattle.lx_cli.specs.Told.{TellsRun}
 use Rattle.lx_cli.specs.declared.answer.Answer.{Answer}
 use Rattle.lx_cli.specs.declared.answer.Answer.TheVariants as answer
 use Rattle.lx_cli.proofs.Journal.{schedule_ran}
-use Rattle.lx_plain_runs.specs.Authorised.{AreAuthorised}
-use Rattle.lx_plain_runs.specs.PlainRuns.{IsPlainRun}
+use Rattle.lx_run_laws.specs.Authorised.{AreAuthorised}
+use Rattle.lx_run_laws.specs.PlainRuns.{IsPlainRun}
 
 -- what stands behind the first line
 abbrev behind_line : Program → Account → List ℕ

@@ -19,14 +19,14 @@ use Rattle.lx_model.specs.World.{World, opening, run, event, can_act, is_done, i
 use Rattle.lx_model.specs.Account.{account, schedule_of}
 use Rattle.lx_report.specs.Report.{report_text, schedule_line}
 use Rattle.lx_report.specs.Laws.{IsSchedule}
-use Rattle.lx_sources.specs.declared.line.FaultKind.TheVariants as kinds
+use Rattle.lx_files.specs.declared.line.FaultKind.TheVariants as kinds
 use Rattle.lx_input.specs.Files.FaultLine.{FaultLine}
-use Rattle.lx_sources.specs.Faults.{fault_at}
+use Rattle.lx_files.specs.Faults.{fault_at}
 use Rattle.lx_input.specs.Files.ImageFile.{ImageFile}
 use Rattle.lx_input.specs.declared.input.Input.{Input}
 use Rattle.lx_cli.specs.Command.{Command, Run, Replay, Instrument, Check}
-use Rattle.lx_plain_runs.specs.Authorised.{AreAuthorised}
-use Rattle.lx_plain_runs.specs.PlainRuns.{IsPlainRun}
+use Rattle.lx_run_laws.specs.Authorised.{AreAuthorised}
+use Rattle.lx_run_laws.specs.PlainRuns.{IsPlainRun}
 
 abbrev pub is_returned : Outcome → Bool
 is_returned (Returned v) = true

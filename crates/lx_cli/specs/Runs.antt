@@ -1,6 +1,6 @@
 -- Runs of a world.
 use Rattle.std.specs.Prelude.{List, length, map}
-use Rattle.lx_propagate.specs.Gets.{below}
+use Rattle.lx_slot_types.specs.Gets.{below}
 use Rattle.lx_model.specs.declared.account.ImageCount.{ImageCount}
 use Rattle.lx_model.specs.Account.{image_count}
 use Rattle.lx_model.specs.declared.program.Program.{Program}

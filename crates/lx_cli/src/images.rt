@@ -2,7 +2,7 @@
 ghost use Rattle.std.specs.Prelude.{◌≡◌, ◌⊎◌, ◌++◌, List, ℕ, IfOk, codes, is_some, true};
 ghost use Rattle.lx_ir.specs.Lawful.{IsLawful};
 ghost use Rattle.lx_ir.specs.Verified.{IsVerified};
-ghost use Rattle.lx_slot_types.specs.Slots.{annotated_of};
+ghost use Rattle.lx_propagate.specs.Slots.{annotated_of};
 ghost use Rattle.lx_image_marks.specs.Told.{told};
 ghost use Rattle.lx_input.specs.Files.FaultLine.{FaultLine};
 ghost use Rattle.lx_input.specs.Laws.{IsReady};
@@ -18,7 +18,7 @@ use lx_input::{FaultKind, FaultLine, ImageFile, Input};
 use lx_instrument::instrument;
 use lx_ir::module::Module;
 use lx_ir::print;
-use lx_propagate::Annotated;
+use lx_slot_types::Annotated;
 use lx_words::{Memory, Name, put_decimal};
 use std::alloc::Global;
 

@@ -6,8 +6,8 @@ use Rattle.lx_ir.specs.declared.module.Function.{Function}
 use Rattle.lx_ir.specs.declared.module.Module.{Module}
 use Rattle.lx_ir.specs.Lawful.{IsLawful}
 use Rattle.lx_ir.specs.Verified.{IsVerified}
-use Rattle.lx_slot_types.specs.Within.{HasLawfulTypes}
-use Rattle.lx_slot_types.proofs.Within.{lawful_types}
+use Rattle.lx_propagate.specs.Within.{HasLawfulTypes}
+use Rattle.lx_propagate.proofs.Within.{lawful_types}
 use Rattle.lx_image_texts.specs.ImageFaults.{is_wrapper, without_body, without_wrappers}
 use Rattle.lx_image_check.specs.Copies.{body_unless}
 use Rattle.lx_image_check.proofs.Passes.{rest_at}

@@ -11,8 +11,8 @@ use Rattle.lx_ir.specs.declared.module.Block.{Block}
 use Rattle.lx_ir.specs.declared.module.Function.{Function}
 use Rattle.lx_ir.specs.declared.module.Module.{Module}
 use Rattle.lx_annot.specs.declared.interface.Interface.{Interface}
-use Rattle.lx_propagate.specs.declared.Marked.{Marked}
-use Rattle.lx_slot_types.specs.Slots.{annotated_of}
+use Rattle.lx_slot_types.specs.declared.Marked.{Marked}
+use Rattle.lx_propagate.specs.Slots.{annotated_of}
 use Rattle.lx_image_texts.specs.Marks.{is_wrapped}
 use Rattle.lx_image_texts.specs.ImageFaults.{difference, head_fault, not_own, wrapper_fault}
 use Rattle.lx_image_texts.specs.WrapperText.{In, in_wrapper, in_wrappers, out_if, out_wrappers, slot_annotation, wrapper_of, wrappers_of}

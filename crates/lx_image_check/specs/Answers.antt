@@ -7,7 +7,7 @@ use Rattle.lx_ir.specs.Faults.{first_some}
 use Rattle.lx_ir.specs.Lookup.{is_defined}
 use Rattle.lx_ir.specs.Verified.{IsVerified}
 use Rattle.lx_annot.specs.declared.interface.Interface.{Interface}
-use Rattle.lx_slot_types.specs.Slots.{conflict_of}
+use Rattle.lx_propagate.specs.Slots.{conflict_of}
 use Rattle.lx_image_texts.specs.ImageFaults.{ImageFault, conflict_fault, first_image_fault, missing_fault, misplaced, not_own}
 use Rattle.lx_image_texts.specs.WrapperText.{wrappers_of}
 use Rattle.lx_image_texts.specs.Programs.{program_of}

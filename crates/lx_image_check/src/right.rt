@@ -2,11 +2,11 @@
 ghost use Rattle.std.specs.Prelude.{◌≡◌, ◌++◌, ◌∷◌, [], cond, filter, IfOk, OnOk};
 ghost use Rattle.lx_image_texts.specs.ImageFaults.{not_own};
 ghost use Rattle.lx_image_texts.specs.WrapperText.{wrappers_of};
-ghost use Rattle.lx_slot_types.specs.Within.{HasLawfulTypes};
+ghost use Rattle.lx_propagate.specs.Within.{HasLawfulTypes};
 
 use lx_annot::interface::Interface;
 use lx_ir::module::{Function, Module};
-use lx_slot_types::annotated;
+use lx_propagate::annotated;
 use lx_words::Memory;
 use lx_wrap::wrappers;
 use std::alloc::Global;

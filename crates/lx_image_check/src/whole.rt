@@ -3,9 +3,9 @@ ghost use Rattle.std.specs.Prelude.{◌≡◌, true, Option, option_map, ⊤};
 ghost use Rattle.std.specs.List.{list_all};
 ghost use Rattle.lx_ir.specs.Lawful.{IsLawful};
 ghost use Rattle.lx_ir.specs.Faults.{first_some};
-ghost use Rattle.lx_slot_types.specs.Answers.{IsAnswerOr};
-ghost use Rattle.lx_slot_types.specs.Slots.{Conflict, conflict_of};
-ghost use Rattle.lx_slot_types.specs.Within.{HasLawfulTypes};
+ghost use Rattle.lx_propagate.specs.Answers.{IsAnswerOr};
+ghost use Rattle.lx_propagate.specs.Slots.{Conflict, conflict_of};
+ghost use Rattle.lx_propagate.specs.Within.{HasLawfulTypes};
 ghost use Rattle.lx_image_texts.specs.ImageFaults.{conflict_fault, fault_in_function, first_image_fault, whole_fault, without_wrappers};
 ghost use Rattle.lx_image_marks.specs.Told.{Gives, IsAnswer};
 ghost use Rattle.lx_image_check.specs.Compared.{has_one_block};
@@ -19,7 +19,7 @@ use crate::wrappers::check_wrappers;
 use lx_annot::interface::Interface;
 use lx_image_marks::{FaultKind, ImageText, Refusal, check_instructions, refuse};
 use lx_ir::module::{Function, Module};
-use lx_slot_types::{PropagateFault, check_conflicts};
+use lx_propagate::{PropagateFault, check_conflicts};
 use std::alloc::Global;
 
 /// A conflict as a fault of the text.

@@ -15,8 +15,8 @@ use Rattle.lx_ir.specs.Text.{symbol_name}
 use Rattle.lx_ir.specs.Verified.{IsVerified}
 use Rattle.lx_annot.specs.declared.interface.Interface.{Interface}
 use Rattle.lx_annot.specs.declared.action.Annotation.{Annotation}
-use Rattle.lx_propagate.specs.declared.Marked.{Marked}
-use Rattle.lx_slot_types.specs.Slots.{annotated_of}
+use Rattle.lx_slot_types.specs.declared.Marked.{Marked}
+use Rattle.lx_propagate.specs.Slots.{annotated_of}
 use Rattle.lx_image_texts.specs.WrapperText.{Side, In, slot_annotation, pre_lines, result_register, wrapper_of, wrapper_code, out_wrappers, in_wrapper, in_wrappers, wrappers_of}
 use Rattle.lx_image_texts.specs.Guards.{FunctionText, function_text, Guards}
 use Rattle.lx_image_texts.proofs.Values.{first_of, second_of, both_of}

@@ -12,7 +12,7 @@ use Rattle.lx_ir.specs.Lawful.{IsPlain, is_name, is_distinct, is_lawful_function
 use Rattle.lx_ir.specs.Faults.{first_some, global_fault, FirstFault}
 use Rattle.lx_ir.specs.Verified.{IsVerified}
 use Rattle.lx_annot.specs.declared.interface.Interface.{Interface}
-use Rattle.lx_slot_types.specs.Slots.{conflict_of}
+use Rattle.lx_propagate.specs.Slots.{conflict_of}
 use Rattle.lx_image_texts.specs.WrapperText.{wrappers_of}
 use Rattle.lx_image_texts.specs.Guards.{function_text, Guards}
 use Rattle.lx_image_texts.specs.Instrumented.{leaves_none, leaves_spared, GuardsBut}

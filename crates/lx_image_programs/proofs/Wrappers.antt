@@ -13,8 +13,8 @@ use Rattle.lx_ir.specs.Operands.{register_count}
 use Rattle.lx_ir.specs.Text.{symbol_name}
 use Rattle.lx_annot.specs.declared.action.Annotation.{Annotation}
 use Rattle.lx_annot.specs.declared.interface.Interface.{Interface}
-use Rattle.lx_propagate.specs.declared.Marked.{Marked}
-use Rattle.lx_slot_types.specs.Slots.{annotated_of}
+use Rattle.lx_slot_types.specs.declared.Marked.{Marked}
+use Rattle.lx_propagate.specs.Slots.{annotated_of}
 use Rattle.lx_image_texts.specs.Marks.{is_alias, is_wrapped}
 use Rattle.lx_image_texts.specs.WrapperText.{Side, In, Out, import_annotation, slot_annotation, wrapper_of, out_if, out_wrappers, in_wrapper, in_wrappers, wrappers_of}
 use Rattle.lx_image_texts.specs.Guards.{function_text, Guards}

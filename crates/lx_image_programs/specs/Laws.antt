@@ -10,8 +10,8 @@ use Rattle.lx_ir.specs.Faults.{FunctionFault, FirstFault, first_some}
 use Rattle.lx_ir.specs.Text.{symbol_name}
 use Rattle.lx_ir.specs.Verified.{IsVerified}
 use Rattle.lx_annot.specs.declared.interface.Interface.{Interface}
-use Rattle.lx_propagate.specs.declared.Marked.{Marked}
-use Rattle.lx_slot_types.specs.Slots.{annotated_of, conflict_of}
+use Rattle.lx_slot_types.specs.declared.Marked.{Marked}
+use Rattle.lx_propagate.specs.Slots.{annotated_of, conflict_of}
 use Rattle.lx_image_texts.specs.WrapperText.{wrappers_of}
 use Rattle.lx_image_texts.specs.Guards.{Guards}
 use Rattle.lx_image_texts.specs.ImageFaults.{ImageFault, fault_in_function, first_image_fault}

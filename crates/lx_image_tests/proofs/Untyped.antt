@@ -5,9 +5,9 @@ use Rattle.lx_ir.specs.declared.module.Function.{Function}
 use Rattle.lx_ir.specs.declared.module.Module.{Module}
 use Rattle.lx_ir.specs.Lookup.{is_defined}
 use Rattle.lx_annot.specs.declared.interface.Interface.{Interface}
-use Rattle.lx_propagate.specs.Gets.{below, gets, slot_of}
-use Rattle.lx_propagate.specs.declared.Marked.{Marked}
-use Rattle.lx_slot_types.specs.Slots.{annotated_from, annotated_of, marked, mark_at}
+use Rattle.lx_slot_types.specs.Gets.{below, gets, slot_of}
+use Rattle.lx_slot_types.specs.declared.Marked.{Marked}
+use Rattle.lx_propagate.specs.Slots.{annotated_from, annotated_of, marked, mark_at}
 
 unmarked : (n : ℕ) (b : Bool) (o : Option ℕ) → o ≡ None → (if b then option_map (marked n) o else None) ≡ None
 unmarked n true o e = ap (option_map (marked n)) e

@@ -9,7 +9,7 @@ use lx_ir::module::Module;
 use lx_ir::print;
 use lx_ir_lawful::whole_laws;
 use lx_ir_read::{TextForm, read_module};
-use lx_propagate::Annotated;
+use lx_slot_types::Annotated;
 use lx_words::{Items, Memory, put_decimal};
 use std::alloc::Global;
 use std::test::Fail;

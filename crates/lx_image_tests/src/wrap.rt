@@ -6,7 +6,7 @@ use lx_annot::interface::{Export, Interface};
 use lx_ir::module::{Function, Module, Parameter};
 use lx_ir::print;
 use lx_ir::types::Scalar;
-use lx_propagate::Annotated;
+use lx_slot_types::Annotated;
 use lx_words::{Items, Memory, Name, Width};
 use lx_wrap::{Side, wrapper, wrappers};
 use std::alloc::Global;

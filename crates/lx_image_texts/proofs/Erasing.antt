@@ -18,8 +18,8 @@ use Rattle.lx_ir.specs.Lookup.{is_defined, blocks_of, blocks_of_option, instrs_o
 use Rattle.lx_ir.specs.Lawful.{IsPlain, is_own_name, is_lawful_function, is_lawful_body, is_lawful_block, is_lawful_import, is_name, numbers_registers}
 use Rattle.lx_ir.specs.Operands.{is_image_line}
 use Rattle.lx_annot.specs.declared.interface.Interface.{Interface}
-use Rattle.lx_propagate.specs.declared.Marked.{Marked}
-use Rattle.lx_slot_types.specs.Slots.{annotated_of}
+use Rattle.lx_slot_types.specs.declared.Marked.{Marked}
+use Rattle.lx_propagate.specs.Slots.{annotated_of}
 use Rattle.lx_image_texts.specs.Marks.{is_wrapped, image_callee, image_op, mark_of, without_marks}
 use Rattle.lx_image_texts.specs.Guards.{ops_of, BlockText, block_text, FunctionText, function_text, IsMarked, AreMarked, HasMarks, AreGuarded, Guards}
 use Rattle.lx_image_texts.specs.WrapperText.{out_if, out_wrappers, in_wrapper, in_wrappers, wrappers_of}

@@ -7,7 +7,7 @@ use Rattle.lx_ir.specs.declared.module.Module.{Module}
 use Rattle.lx_ir.specs.declared.instr.Op.{Op}
 use Rattle.lx_ir.specs.Lawful.{IsPlain}
 use Rattle.lx_annot.specs.declared.interface.Interface.{Interface}
-use Rattle.lx_slot_types.specs.Slots.{conflict_of}
+use Rattle.lx_propagate.specs.Slots.{conflict_of}
 use Rattle.lx_image_texts.specs.Marks.{mark_of, image_op}
 use Rattle.lx_image_texts.specs.Spared.{is_spared}
 use Rattle.lx_image_texts.specs.Guards.{ops_of, BlockText, block_text, FunctionText, function_text, StandsAt, IsMarked, AreMarked, HasMarks, IsGuarded, AreGuarded, Guards}

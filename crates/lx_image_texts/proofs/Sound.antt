@@ -27,7 +27,7 @@ use Rattle.lx_ir.specs.Lawful.{IsLawful, IsPlain, is_own_name, is_distinct, is_l
 use Rattle.lx_ir.specs.Operands.{operands_of, is_image_line}
 use Rattle.lx_ir.specs.Faults.{first_some}
 use Rattle.lx_annot.specs.declared.interface.Interface.{Interface}
-use Rattle.lx_slot_types.specs.Slots.{conflict_of}
+use Rattle.lx_propagate.specs.Slots.{conflict_of}
 use Rattle.lx_image_texts.specs.Marks.{callee_for, is_mark, without_marks}
 use Rattle.lx_image_texts.specs.Guards.{ops_of, IsMarked, AreMarked, HasMarks, AreGuarded, function_text, BlockText, block_text, Guards}
 use Rattle.lx_image_texts.specs.WrapperText.{unlined}

@@ -28,7 +28,7 @@ use Rattle.lx_ir.specs.Operands.{operands_of}
 use Rattle.lx_ir.specs.Faults.{first_some, same_symbol, same_value, same_result}
 use Rattle.lx_ir.specs.Text.{symbol_name}
 use Rattle.lx_annot.specs.declared.interface.Interface.{Interface}
-use Rattle.lx_slot_types.specs.Slots.{Conflict, conflict_of}
+use Rattle.lx_propagate.specs.Slots.{Conflict, conflict_of}
 use Rattle.lx_image_texts.specs.Marks.{mark_of, is_alias, is_wrapped}
 use Rattle.lx_image_texts.specs.Spared.{is_spared}
 use Rattle.lx_image_texts.specs.WrapperText.{Out, wrapper_name, wrappers_of}

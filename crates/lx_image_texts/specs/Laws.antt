@@ -6,7 +6,7 @@ use Rattle.lx_ir.specs.declared.instr.Op.{Op}
 use Rattle.lx_ir.specs.Lawful.{IsLawful, IsPlain}
 use Rattle.lx_ir.specs.Faults.{FirstFault}
 use Rattle.lx_annot.specs.declared.interface.Interface.{Interface}
-use Rattle.lx_slot_types.specs.Slots.{annotated_of, conflict_of}
+use Rattle.lx_propagate.specs.Slots.{annotated_of, conflict_of}
 use Rattle.lx_image_texts.specs.ImageFaults.{WrapperDiffers, ImageFault, without_wrappers, first_image_fault}
 use Rattle.lx_image_texts.specs.Named.{IsNamed}
 use Rattle.lx_image_texts.specs.Programs.{program_of, IsClosed}

@@ -17,8 +17,8 @@ use Rattle.lx_ir.specs.declared.instr.Op.TheVariants as op
 use Rattle.lx_annot.specs.Action.{Action}
 use Rattle.lx_annot.specs.declared.action.Annotation.{Annotation}
 use Rattle.lx_annot.specs.declared.interface.Interface.{Interface}
-use Rattle.lx_propagate.specs.declared.Marked.{Marked}
-use Rattle.lx_slot_types.specs.Slots.{annotated_of}
+use Rattle.lx_slot_types.specs.declared.Marked.{Marked}
+use Rattle.lx_propagate.specs.Slots.{annotated_of}
 use Rattle.lx_image_texts.specs.Marks.{is_wrapped}
 
 -- a wrapper stands before calls out of a module, or before calls into one

@@ -5,8 +5,8 @@ use Rattle.std.proofs.lemmas.List.{drop_more, drop_all, length-map, length-take}
 use Rattle.lx_ir.specs.declared.module.Module.{Module}
 use Rattle.lx_script.specs.declared.case.CaseModule.{CaseModule}
 use Rattle.lx_link.specs.Answers.{module_file}
-use Rattle.lx_sources.specs.declared.stop.InputStop.{InputStop}
-use Rattle.lx_sources.specs.Turns.{Goes}
+use Rattle.lx_files.specs.declared.stop.InputStop.{InputStop}
+use Rattle.lx_files.specs.Turns.{Goes}
 use Rattle.lx_input.specs.Checks.{Passed, EachModule}
 
 abbrev pub Turn : Type 1

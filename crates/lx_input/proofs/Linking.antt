@@ -3,8 +3,8 @@ use Rattle.std.proofs.Common.{◌≡◌, ◌∙◌, sym, ap, subst, refl, ℕ, s
 use Rattle.std.proofs.lemmas.List.{length-map}
 use Rattle.lx_ir.specs.declared.module.Module.{Module}
 use Rattle.lx_annot.specs.declared.interface.Interface.{Interface}
-use Rattle.lx_propagate.specs.declared.Marked.{Marked}
-use Rattle.lx_slot_types.specs.Slots.{annotated_of}
+use Rattle.lx_slot_types.specs.declared.Marked.{Marked}
+use Rattle.lx_propagate.specs.Slots.{annotated_of}
 use Rattle.lx_script.specs.declared.case.CaseModule.{CaseModule}
 use Rattle.lx_script.specs.declared.case.CaseCall.{CaseCall}
 use Rattle.lx_script.specs.Case.{Case}
@@ -21,14 +21,14 @@ use Rattle.lx_link_texts.specs.Faults.{Fault, all_annotated}
 use Rattle.lx_link.specs.declared.fault.LinkFault.{LinkFault}
 use Rattle.lx_link.specs.declared.fault.LinkFault.TheVariants as answers
 use Rattle.lx_link.specs.Answers.{IsFault, answered, fault_named, file_of, link_fault, linked_of, named_modules, sources_of, what_of}
-use Rattle.lx_sources.specs.declared.line.FaultLine.{FaultLine}
-use Rattle.lx_sources.specs.declared.stop.InputStop.{InputStop}
-use Rattle.lx_sources.specs.declared.stop.InputStop.TheVariants as stops
-use Rattle.lx_sources.specs.declared.line.FaultKind.TheVariants as kinds
-use Rattle.lx_sources.specs.declared.sources.Besides.{Besides}
-use Rattle.lx_sources.specs.declared.sources.Sources.{Sources}
-use Rattle.lx_sources.specs.Sound.{IsOneOf}
-use Rattle.lx_sources.specs.Faults.{IsTold, fault_at}
+use Rattle.lx_files.specs.declared.line.FaultLine.{FaultLine}
+use Rattle.lx_files.specs.declared.stop.InputStop.{InputStop}
+use Rattle.lx_files.specs.declared.stop.InputStop.TheVariants as stops
+use Rattle.lx_files.specs.declared.line.FaultKind.TheVariants as kinds
+use Rattle.lx_files.specs.declared.sources.Besides.{Besides}
+use Rattle.lx_files.specs.declared.sources.Sources.{Sources}
+use Rattle.lx_files.specs.Sound.{IsOneOf}
+use Rattle.lx_files.specs.Faults.{IsTold, fault_at}
 use Rattle.lx_input.specs.declared.input.Input.{Input}
 use Rattle.lx_input.specs.Lines.{link_answer, link_line, link_number, linked_file, named_or}
 use Rattle.lx_input.specs.Inputs.{LinkTurn, texts_of}

@@ -5,20 +5,20 @@ use Rattle.lx_ir.specs.declared.module.Module.{Module}
 use Rattle.lx_ir.specs.Faults.{Fault, FirstFault}
 use Rattle.lx_ir_verify.specs.Laws.{OneFirstFault}
 use Rattle.lx_annot.specs.declared.interface.Interface.{Interface}
-use Rattle.lx_slot_types.specs.Slots.{Conflict, conflict_of}
+use Rattle.lx_propagate.specs.Slots.{Conflict, conflict_of}
 use Rattle.lx_script.specs.declared.case.CaseModule.{CaseModule}
 use Rattle.lx_link_texts.specs.Faults.{Fault as LinkFault}
 use Rattle.lx_link.specs.Answers.{link_fault, origin_name}
-use Rattle.lx_sources.specs.declared.line.FaultLine.{FaultLine}
-use Rattle.lx_sources.specs.declared.stop.InputStop.{InputStop}
-use Rattle.lx_sources.specs.declared.stop.InputStop.TheVariants as stops
-use Rattle.lx_sources.specs.declared.sources.ImageFile.{ImageFile}
-use Rattle.lx_sources.specs.declared.sources.Sources.{Sources}
-use Rattle.lx_sources.specs.Asked.{Asked}
-use Rattle.lx_sources.specs.Turns.{Gives}
-use Rattle.lx_sources.specs.Inputs.{SourcesTurn}
-use Rattle.lx_sources.specs.Laws.{IsOne, IsSettled, EndsAt, OneInput as OneSources, MissingFilesEnd as MissingSourcesEnd}
-use Rattle.lx_sources.proofs.Settled.{then_one, then_ends, gives_one}
+use Rattle.lx_files.specs.declared.line.FaultLine.{FaultLine}
+use Rattle.lx_files.specs.declared.stop.InputStop.{InputStop}
+use Rattle.lx_files.specs.declared.stop.InputStop.TheVariants as stops
+use Rattle.lx_files.specs.declared.sources.ImageFile.{ImageFile}
+use Rattle.lx_files.specs.declared.sources.Sources.{Sources}
+use Rattle.lx_files.specs.Asked.{Asked}
+use Rattle.lx_files.specs.Turns.{Gives}
+use Rattle.lx_files.specs.Inputs.{SourcesTurn}
+use Rattle.lx_files.specs.Laws.{IsOne, IsSettled, EndsAt, OneInput as OneSources, MissingFilesEnd as MissingSourcesEnd}
+use Rattle.lx_files.proofs.Settled.{then_one, then_ends, gives_one}
 use Rattle.lx_input.specs.declared.input.Input.{Input}
 use Rattle.lx_input.specs.Lines.{verify_line, conflict_line, link_line}
 use Rattle.lx_input.specs.Checks.{Passed, VerifyTurn, PropagateTurn, EachModule}

@@ -7,15 +7,15 @@ use Rattle.lx_ir_verify.specs.declared.fault.VerifyFault.{VerifyFault}
 use Rattle.lx_ir_verify.specs.declared.fault.VerifyFault.TheVariants as verifies
 use Rattle.lx_ir_verify.specs.Shown.{IsOneOf}
 use Rattle.lx_annot.specs.declared.interface.Interface.{Interface}
-use Rattle.lx_propagate.specs.declared.Marked.{Marked}
-use Rattle.lx_slot_types.specs.Slots.{Conflict, conflict_of}
-use Rattle.lx_slot_types.specs.declared.fault.PropagateFault.{PropagateFault}
-use Rattle.lx_slot_types.specs.declared.fault.PropagateFault.TheVariants as propagates
-use Rattle.lx_slot_types.specs.Answers.{IsAnswer}
-use Rattle.lx_sources.specs.declared.line.FaultLine.{FaultLine}
-use Rattle.lx_sources.specs.declared.stop.InputStop.{InputStop}
-use Rattle.lx_sources.specs.declared.stop.InputStop.TheVariants as stops
-use Rattle.lx_sources.specs.Faults.{IsTold}
+use Rattle.lx_slot_types.specs.declared.Marked.{Marked}
+use Rattle.lx_propagate.specs.Slots.{Conflict, conflict_of}
+use Rattle.lx_propagate.specs.declared.fault.PropagateFault.{PropagateFault}
+use Rattle.lx_propagate.specs.declared.fault.PropagateFault.TheVariants as propagates
+use Rattle.lx_propagate.specs.Answers.{IsAnswer}
+use Rattle.lx_files.specs.declared.line.FaultLine.{FaultLine}
+use Rattle.lx_files.specs.declared.stop.InputStop.{InputStop}
+use Rattle.lx_files.specs.declared.stop.InputStop.TheVariants as stops
+use Rattle.lx_files.specs.Faults.{IsTold}
 use Rattle.lx_input.specs.Lines.{verify_line, verify_answer, conflict_line, propagate_answer}
 use Rattle.lx_input.specs.Checks.{VerifyTurn, PropagateTurn}
 

@@ -3,11 +3,11 @@ use Rattle.std.specs.Prelude.{◌≡◌, ℕ, List, [], ◌∷◌, Option, Some,
 use Rattle.lx_ir.specs.declared.module.Module.{Module}
 use Rattle.lx_ir.specs.Faults.{Fault, FirstFault}
 use Rattle.lx_annot.specs.declared.interface.Interface.{Interface}
-use Rattle.lx_slot_types.specs.Slots.{Conflict, conflict_of}
+use Rattle.lx_propagate.specs.Slots.{Conflict, conflict_of}
 use Rattle.lx_script.specs.declared.case.CaseModule.{CaseModule}
-use Rattle.lx_sources.specs.declared.stop.InputStop.{InputStop}
-use Rattle.lx_sources.specs.declared.stop.InputStop.TheVariants as stops
-use Rattle.lx_sources.specs.Turns.{Then, Gives}
+use Rattle.lx_files.specs.declared.stop.InputStop.{InputStop}
+use Rattle.lx_files.specs.declared.stop.InputStop.TheVariants as stops
+use Rattle.lx_files.specs.Turns.{Then, Gives}
 use Rattle.lx_input.specs.Lines.{verify_line, conflict_line}
 
 -- a check that is passed tells nothing more

@@ -7,13 +7,13 @@ use Rattle.lx_link_texts.specs.Faults.{Fault, all_annotated}
 use Rattle.lx_link_texts.specs.Placing.{program_of}
 use Rattle.lx_link.specs.Answers.{link_fault, named_modules, origin_name, sources_of}
 use Rattle.lx_link.specs.Calls.{calls_of}
-use Rattle.lx_sources.specs.declared.sources.ImageFile.{ImageFile}
-use Rattle.lx_sources.specs.declared.sources.Sources.{Sources}
-use Rattle.lx_sources.specs.declared.stop.InputStop.{InputStop}
-use Rattle.lx_sources.specs.declared.stop.InputStop.TheVariants as stops
-use Rattle.lx_sources.specs.Asked.{Asked}
-use Rattle.lx_sources.specs.Turns.{Then, Gives}
-use Rattle.lx_sources.specs.Inputs.{SourcesTurn}
+use Rattle.lx_files.specs.declared.sources.ImageFile.{ImageFile}
+use Rattle.lx_files.specs.declared.sources.Sources.{Sources}
+use Rattle.lx_files.specs.declared.stop.InputStop.{InputStop}
+use Rattle.lx_files.specs.declared.stop.InputStop.TheVariants as stops
+use Rattle.lx_files.specs.Asked.{Asked}
+use Rattle.lx_files.specs.Turns.{Then, Gives}
+use Rattle.lx_files.specs.Inputs.{SourcesTurn}
 use Rattle.lx_input.specs.declared.input.Input.{Input}
 use Rattle.lx_input.specs.Lines.{link_line}
 use Rattle.lx_input.specs.Checks.{Passed, VerifyTurn, PropagateTurn, EachModule}

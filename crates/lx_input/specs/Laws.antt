@@ -5,9 +5,9 @@ use Rattle.lx_outside.specs.declared.file_text.FileText.{FileText}
 use Rattle.lx_link_texts.specs.WellFormed.{IsWellFormed, FitsCalls, texts_of}
 use Rattle.lx_link_texts.specs.Faults.{all_annotated}
 use Rattle.lx_model.specs.declared.program.Program.{Program}
-use Rattle.lx_sources.specs.declared.sources.ImageFile.{ImageFile}
-use Rattle.lx_sources.specs.Asked.{Asked}
-use Rattle.lx_sources.specs.Laws.{IsOne, EndsAt}
+use Rattle.lx_files.specs.declared.sources.ImageFile.{ImageFile}
+use Rattle.lx_files.specs.Asked.{Asked}
+use Rattle.lx_files.specs.Laws.{IsOne, EndsAt}
 use Rattle.lx_input.specs.declared.input.Input.{Input}
 use Rattle.lx_input.specs.Inputs.{InputTurn}
 

@@ -3,9 +3,9 @@ use Rattle.std.specs.Prelude.{ℕ, List, [], ◌∷◌, ◌++◌, codes, Option,
 use Rattle.lx_ir.specs.Faults.{Fault, TypeDiffers, NoSuchLabel, NotAssigned, PhiEdges, NoTerminator}
 use Rattle.lx_ir_verify.specs.declared.fault.VerifyFault.{VerifyFault}
 use Rattle.lx_ir_verify.specs.declared.fault.VerifyFault.TheVariants as verifies
-use Rattle.lx_slot_types.specs.Slots.{Conflict}
-use Rattle.lx_slot_types.specs.declared.fault.PropagateFault.{PropagateFault}
-use Rattle.lx_slot_types.specs.declared.fault.PropagateFault.TheVariants as propagates
+use Rattle.lx_propagate.specs.Slots.{Conflict}
+use Rattle.lx_propagate.specs.declared.fault.PropagateFault.{PropagateFault}
+use Rattle.lx_propagate.specs.declared.fault.PropagateFault.TheVariants as propagates
 use Rattle.lx_link_texts.specs.declared.fault.FaultKind.{FaultKind}
 use Rattle.lx_link_texts.specs.declared.fault.FaultKind.TheVariants as links
 use Rattle.lx_link_texts.specs.declared.fault.Source.{Source}
@@ -14,9 +14,9 @@ use Rattle.lx_link.specs.declared.fault.LinkFault.{LinkFault as LinkAnswer}
 use Rattle.lx_link.specs.declared.fault.LinkFault.TheVariants as answers
 use Rattle.lx_link.specs.Answers.{file_of, what_of}
 use Rattle.lx_script.specs.Case.{Case}
-use Rattle.lx_sources.specs.declared.line.FaultKind.TheVariants as kinds
-use Rattle.lx_sources.specs.declared.line.FaultLine.{FaultLine}
-use Rattle.lx_sources.specs.Faults.{fault_at}
+use Rattle.lx_files.specs.declared.line.FaultKind.TheVariants as kinds
+use Rattle.lx_files.specs.declared.line.FaultLine.{FaultLine}
+use Rattle.lx_files.specs.Faults.{fault_at}
 
 -- the line about a fault that the verifier finds
 abbrev pub verify_line : List ℕ → Fault → FaultLine

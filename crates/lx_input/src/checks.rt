@@ -3,18 +3,18 @@
 ghost use Rattle.std.specs.Prelude.{◌≡◌, ◌++◌, ◌∷◌, [], All, IfOk, OnOk, length, map, slice_get};
 ghost use Rattle.lx_ir.specs.Lawful.{IsLawful};
 ghost use Rattle.lx_link.specs.Answers.{module_file};
-ghost use Rattle.lx_slot_types.specs.Slots.{annotated_of};
-ghost use Rattle.lx_sources.specs.Sound.{IsSoundModule};
+ghost use Rattle.lx_propagate.specs.Slots.{annotated_of};
+ghost use Rattle.lx_files.specs.Sound.{IsSoundModule};
 ghost use Rattle.lx_input.specs.Checks.{EachModule, PropagateTurn, VerifyTurn, passed};
 
 use crate::stop::{propagate_stop, verify_stop};
 use lx_annot::interface::Interface;
+use lx_files::InputStop;
 use lx_ir::module::Module;
 use lx_ir_verify::{Verified, verify};
-use lx_propagate::Annotated;
+use lx_propagate::propagate;
 use lx_script::CaseModule;
-use lx_slot_types::propagate;
-use lx_sources::InputStop;
+use lx_slot_types::Annotated;
 use lx_words::Items;
 use std::alloc::Global;
 

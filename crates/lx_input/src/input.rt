@@ -2,16 +2,16 @@
 
 ghost use Rattle.std.specs.Prelude.{◌≡◌, IfOk, List, Some};
 ghost use Rattle.lx_outside.specs.declared.file_text.FileText.{FileText};
-ghost use Rattle.lx_sources.specs.Asked.{AreThere, asked_by};
-ghost use Rattle.lx_sources.specs.Turns.{HasNoted};
+ghost use Rattle.lx_files.specs.Asked.{AreThere, asked_by};
+ghost use Rattle.lx_files.specs.Turns.{HasNoted};
 ghost use Rattle.lx_input.specs.Inputs.{InputTurn};
 ghost use Rattle.lx_input.specs.Laws.{IsReady, MissingFilesEnd, OneInput};
 
 use crate::linked::check_sources;
+use lx_files::{Asked, Besides, InputStop, read_sources};
 use lx_model::program::{Calls, Program};
 use lx_outside::Shelf;
-use lx_propagate::Annotated;
-use lx_sources::{Asked, Besides, InputStop, read_sources};
+use lx_slot_types::Annotated;
 use lx_words::Items;
 use std::alloc::Global;
 
@@ -55,6 +55,6 @@ pub fn one_input()
     ensures one { OneInput }
     ensures missing { MissingFilesEnd }
 {
-    lx_sources::one_input();
+    lx_files::one_input();
     lx_ir_verify::verifier_laws();
 }

@@ -12,6 +12,6 @@ mod linked;
 mod stop;
 
 pub use input::{Input, one_input, read_input};
-pub use lx_sources::{
+pub use lx_files::{
     Asked, Besides, FaultKind, FaultLine, ImageFile, InputStop, fault_text, read_sources,
 };

@@ -2,9 +2,9 @@
 
 ghost use Rattle.std.specs.Prelude.{◌≡◌, ◌≤◌, All, IfOk, length, map};
 ghost use Rattle.lx_ir.specs.Lawful.{IsPlain};
-ghost use Rattle.lx_annot_lawful.specs.Lawful.{IsLawfulInterface};
-ghost use Rattle.lx_slot_types.specs.Slots.{annotated_of};
-ghost use Rattle.lx_sources.specs.Sound.{AreSound, IsOneOf, IsSoundImage};
+ghost use Rattle.lx_annot.specs.Lawful.{IsLawfulInterface};
+ghost use Rattle.lx_propagate.specs.Slots.{annotated_of};
+ghost use Rattle.lx_files.specs.Sound.{AreSound, IsOneOf, IsSoundImage};
 ghost use Rattle.lx_link.specs.Answers.{origin_name};
 ghost use Rattle.lx_input.specs.Checks.{passed};
 ghost use Rattle.lx_input.specs.Inputs.{BehindLink, CheckTurn, ImageCheck, LinkTurn};
@@ -14,11 +14,11 @@ use crate::checks::{annotate_modules, verify_module, verify_modules};
 use crate::input::Input;
 use crate::stop::link_stop;
 use lx_annot::interface::Interface;
+use lx_files::{Besides, ImageFile, InputStop, Sources};
 use lx_ir_verify::Verified;
 use lx_link::link;
-use lx_propagate::Annotated;
 use lx_script::{Case, Origin};
-use lx_sources::{Besides, ImageFile, InputStop, Sources};
+use lx_slot_types::Annotated;
 use lx_words::Items;
 use std::alloc::Global;
 

@@ -1,14 +1,14 @@
 //! Faults that the checks find, as ends of the input.
 
 ghost use Rattle.std.specs.Prelude.{◌≡◌, ◌++◌, IfOk, Some, codes};
-ghost use Rattle.lx_sources.specs.Faults.{IsTold, fault_at};
-ghost use Rattle.lx_sources.specs.declared.line.FaultKind.TheVariants as kinds;
+ghost use Rattle.lx_files.specs.Faults.{IsTold, fault_at};
+ghost use Rattle.lx_files.specs.declared.line.FaultKind.TheVariants as kinds;
 ghost use Rattle.lx_input.specs.Lines.{link_answer, named_or, propagate_answer, verify_answer};
 
+use lx_files::{FaultKind, InputStop, fault_at};
 use lx_ir_verify::VerifyFault;
 use lx_link::LinkFault;
-use lx_slot_types::PropagateFault;
-use lx_sources::{FaultKind, InputStop, fault_at};
+use lx_propagate::PropagateFault;
 use lx_words::{Memory, Name};
 use std::alloc::Global;
 

@@ -2,7 +2,7 @@
 ghost use Rattle.std.specs.Prelude.{◌≡◌, ◌++◌, ◌∷◌, [], map, IsTrue, IfOk, OnOk};
 ghost use Rattle.std.specs.List.{list_all};
 ghost use Rattle.lx_ir.specs.Lawful.{IsLawful, is_lawful_function};
-ghost use Rattle.lx_slot_types.specs.Slots.{annotated_of};
+ghost use Rattle.lx_propagate.specs.Slots.{annotated_of};
 ghost use Rattle.lx_image_texts.specs.WrapperText.{wrappers_of};
 ghost use Rattle.lx_image_texts.specs.Instrumented.{GuardsBut, leaves_none, leaves_spared};
 ghost use Rattle.lx_image_texts.specs.Spared.{is_spared};
@@ -14,7 +14,7 @@ use crate::numbers::called_numbers;
 use lx_annot::interface::Interface;
 use lx_ir::module::{Function, Module};
 use lx_ir_copies::copies;
-use lx_propagate::Annotated;
+use lx_slot_types::Annotated;
 use lx_spared::Rooms;
 use lx_words::{Items, Memory};
 use lx_wrap::push_wrappers;

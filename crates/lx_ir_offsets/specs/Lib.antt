@@ -1,3 +1,4 @@
 pub mod Offsets
 pub mod Laws
 pub mod Shapes
+pub mod DistanceLaws

@@ -2,6 +2,7 @@
 #![tactic(auto)]
 
 ghost use Rattle.lx_ir_offsets.specs.Laws.{FitsAreLayouts};
+ghost use Rattle.lx_ir_offsets.specs.DistanceLaws.{LayoutsAreKept, LawfulTypesFit, FieldsAreOffsets, DistancesAreOffsets, DistancesAreFound};
 
 mod layout;
 mod offset;
@@ -15,3 +16,15 @@ pub use shape::{Shape, is_outside, left_behind, named_shapes};
 pub fn layout_laws()
     ensures { FitsAreLayouts }
 {}
+
+/// The layouts that are kept of types within the limits are those of their definition, a field begins where it says, and
+/// indices can be followed and go as far as it says, modulo 2^64.
+pub fn distance_laws()
+    ensures kept { LayoutsAreKept }
+    ensures fit { LawfulTypesFit }
+    ensures fields { FieldsAreOffsets }
+    ensures distances { DistancesAreOffsets }
+    ensures found { DistancesAreFound }
+{
+    layout_laws();
+}

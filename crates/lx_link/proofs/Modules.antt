@@ -10,7 +10,7 @@ use Rattle.lx_model.specs.declared.program.ProgramModule.{ProgramModule}
 use Rattle.lx_script.specs.declared.case.CaseModule.{CaseModule}
 use Rattle.lx_script.specs.Case.{Case, IsWithinLimits}
 use Rattle.lx_annot.specs.declared.interface.Interface.{Interface}
-use Rattle.lx_annot_lawful.specs.Lawful.{IsLawfulInterface}
+use Rattle.lx_annot.specs.Lawful.{IsLawfulInterface}
 use Rattle.lx_link_texts.specs.declared.sources.Sources.{Sources}
 use Rattle.lx_link_texts.specs.Placing.{HasLimits}
 use Rattle.lx_link_texts.specs.Laws.{IsSound, VerifiedHaveLimits}

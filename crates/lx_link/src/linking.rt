@@ -2,7 +2,7 @@
 ghost use Rattle.std.specs.Prelude.{◌≡◌, ◌<◌, ◌≤◌, ◌^◌, ◌++◌, ◌∷◌, ◌⊎◌, [], All, IfOk, None, OnErr, OnOk, Some, length};
 ghost use Rattle.lx_ir.specs.Lawful.{IsPlain};
 ghost use Rattle.lx_ir.specs.Verified.{IsVerified};
-ghost use Rattle.lx_annot_lawful.specs.Lawful.{IsLawfulInterface};
+ghost use Rattle.lx_annot.specs.Lawful.{IsLawfulInterface};
 ghost use Rattle.lx_link_texts.specs.Faults.{Gives, all_annotated, limit_fault, most_functions};
 ghost use Rattle.lx_link_texts.specs.Placing.{HasLimits, program_of};
 ghost use Rattle.lx_link.specs.Answers.{AreVerified, IsFaultOr, IsWanted, Stops, StopsOr, link_fault, linked_of, named, named_modules, source_fault, sources_of};
@@ -19,8 +19,8 @@ use lx_link_texts::fault::Found;
 use lx_link_texts::sources::Sources;
 use lx_link_texts::{check_limits, check_texts};
 use lx_model::program::{Program, ProgramModule};
-use lx_propagate::Annotated;
 use lx_script::{Case, CaseModule};
+use lx_slot_types::Annotated;
 use lx_words::{Items, Memory, Name};
 use std::alloc::Global;
 

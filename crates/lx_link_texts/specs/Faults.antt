@@ -9,8 +9,8 @@ use Rattle.lx_ir.specs.Lookup.{is_defined, instrs_of, is_indirect_call}
 use Rattle.lx_annot.specs.declared.interface.Slot.{Slot}
 use Rattle.lx_annot.specs.declared.interface.Export.{Export}
 use Rattle.lx_annot.specs.declared.interface.Interface.{Interface}
-use Rattle.lx_propagate.specs.declared.Marked.{Marked}
-use Rattle.lx_slot_types.specs.Slots.{annotated_of}
+use Rattle.lx_slot_types.specs.declared.Marked.{Marked}
+use Rattle.lx_propagate.specs.Slots.{annotated_of}
 use Rattle.lx_model.specs.declared.program.ProgramModule.{ProgramModule}
 use Rattle.lx_model.specs.Program.{native_names}
 use Rattle.lx_link_texts.specs.declared.fault.FaultKind.{FaultKind}

@@ -4,7 +4,7 @@ use Rattle.lx_ir.specs.Lawful.{IsPlain}
 use Rattle.lx_ir.specs.Verified.{IsVerified}
 use Rattle.lx_model.specs.declared.program.ProgramModule.{ProgramModule}
 use Rattle.lx_link_texts.specs.declared.sources.Sources.{Sources}
-use Rattle.lx_annot_lawful.specs.Lawful.{IsLawfulInterface}
+use Rattle.lx_annot.specs.Lawful.{IsLawfulInterface}
 use Rattle.lx_link_texts.specs.Faults.{text_fault, limit_fault}
 use Rattle.lx_link_texts.specs.Placing.{program_of, HasLimits}
 use Rattle.lx_link_texts.specs.WellFormed.{IsWellFormed}

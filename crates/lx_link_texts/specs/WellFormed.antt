@@ -9,8 +9,8 @@ use Rattle.lx_ir.specs.Verified.{IsVerified}
 use Rattle.lx_annot.specs.declared.interface.Slot.{Slot}
 use Rattle.lx_annot.specs.declared.interface.Export.{Export}
 use Rattle.lx_annot.specs.declared.interface.Interface.{Interface}
-use Rattle.lx_propagate.specs.declared.Marked.{Marked}
-use Rattle.lx_slot_types.specs.Slots.{annotated_of}
+use Rattle.lx_slot_types.specs.declared.Marked.{Marked}
+use Rattle.lx_propagate.specs.Slots.{annotated_of}
 use Rattle.lx_model.specs.declared.program.Program.{Program}
 use Rattle.lx_model.specs.declared.program.ProgramModule.{ProgramModule}
 use Rattle.lx_model.specs.declared.program.ScriptCall.{ScriptCall}
@@ -18,7 +18,7 @@ use Rattle.lx_model.specs.Fits.{FitsFunction}
 use Rattle.lx_link_texts.specs.declared.sources.Sources.{Sources}
 use Rattle.lx_link_texts.specs.Signatures.{has_export_signature, has_slot_signature, has_slot_call_signature, has_native_signature, have_same_signature}
 use Rattle.lx_link_texts.specs.Placing.{functions_of, globals_of, globals_end, last_end}
-use Rattle.lx_annot_lawful.specs.Lawful.{IsLawfulInterface}
+use Rattle.lx_annot.specs.Lawful.{IsLawfulInterface}
 use Rattle.lx_link_texts.specs.Faults.{calls_indirectly, defined, kernel_native, slot_called, is_alias, is_kernel_name, is_exported, most_functions}
 
 -- the function is there, and has the signature of the export

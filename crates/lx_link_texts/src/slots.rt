@@ -2,7 +2,7 @@
 ghost use Rattle.std.specs.Prelude.{◌≡◌, ◌<◌, ◌^◌, Some, length};
 ghost use Rattle.lx_ir.specs.Faults.{first_some};
 ghost use Rattle.lx_link_texts.specs.declared.fault.Source.TheVariants as sources;
-ghost use Rattle.lx_slot_types.specs.Slots.{annotated_of};
+ghost use Rattle.lx_propagate.specs.Slots.{annotated_of};
 ghost use Rattle.lx_link_texts.specs.Faults.{Gives, all_annotated, first_module, slot_fault, slot_fault_by, slots_fault};
 
 use crate::fault::{FaultKind, Found, Source};
@@ -10,7 +10,7 @@ use crate::signatures::has_slot_signature;
 use crate::sources::Sources;
 use lx_annot::interface::{Interface, Slot};
 use lx_ir::module::{Function, Module};
-use lx_propagate::{Annotated, Marked};
+use lx_slot_types::{Annotated, Marked};
 
 /// Looks at a function and its slot type.
 fn check_signature<'a>(source: Source, slot: &Slot, function: &'a Function) -> Result<(), Found<'a>>

@@ -5,7 +5,7 @@ ghost use Rattle.lx_link_texts.specs.Faults.{Gives, all_annotated, text_fault};
 use crate::fault::Found;
 use crate::sources::Sources;
 use crate::{imports, kernel, slots};
-use lx_propagate::Annotated;
+use lx_slot_types::Annotated;
 
 /// Finds the first fault of the texts: an indirect call of the kernel, an export that the kernel does not define with
 /// its signature, an import of the kernel, an import of a module, an annotated function with another signature than its

@@ -14,7 +14,7 @@ use Rattle.lx_model.specs.Opening.{opening_history, with_globals}
 use Rattle.lx_model.specs.Program.{annotation_of}
 use Rattle.lx_model.specs.declared.program.Program.{Program}
 use Rattle.lx_model.specs.declared.program.ProgramModule.{ProgramModule}
-use Rattle.lx_propagate.specs.Gets.{below}
+use Rattle.lx_slot_types.specs.Gets.{below}
 use Rattle.lx_report.specs.Lawful.{HasLawfulModules}
 use Rattle.lx_serve.specs.Sources.{IsLinked, Knows}
 use Rattle.lx_monitor_tests.specs.Programs.{module_with, one_function, silent, one_silent, slotted, naming}

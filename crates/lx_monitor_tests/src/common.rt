@@ -6,7 +6,7 @@ ghost use Rattle.lx_model.specs.Opening.{opening_history, opening_state, with_gl
 ghost use Rattle.lx_monitor_tests.specs.Programs.{function_with, interface_with, module_with, one_function, slot_with};
 ghost use Rattle.lx_serve.specs.Sources.{IsLinked, Knows};
 ghost use Rattle.lx_serve.specs.Stands.{StandsForState};
-ghost use Rattle.lx_writers.specs.Stands.{StandsRecorded};
+ghost use Rattle.lx_writer_sets.specs.RecordedStands.{StandsRecorded};
 
 use lx_annot::action::Annotation;
 use lx_annot::expr::Ty;
@@ -18,7 +18,7 @@ use lx_memory::Space;
 use lx_model::program::{Program, ProgramFunction, ProgramModule, ScriptCall};
 use lx_serve::SharedPart;
 use lx_words::{Items, Memory, Name, Names};
-use lx_writers::Recorded;
+use lx_writer_sets::Recorded;
 use std::alloc::Global;
 use std::sync::Arc;
 use std::test::Fail;

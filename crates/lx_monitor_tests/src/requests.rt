@@ -10,7 +10,7 @@ use lx_model::program::{Program, ProgramFunction};
 use lx_model::request::{Outcome, Refusal, Reply, Request, Trap, Way, What};
 use lx_serve::SharedPart;
 use lx_words::{Items, Memory, Width, Word, Words};
-use lx_writers::Recorded;
+use lx_writer_sets::Recorded;
 use std::alloc::Global;
 use std::process::Abort;
 use std::test::Fail;

@@ -21,7 +21,7 @@ use Rattle.lx_model.specs.Opening.{global_of}
 use Rattle.lx_link_texts.specs.Placing.{globals_of, globals_end, global_size, places_from, module_places, modules_end, kernel_end, end_behind, end_of, start_behind, place, last_end}
 use Rattle.lx_link_texts.specs.WellFormed.{IsWellFormed, IsModuleOf, texts_of}
 use Rattle.lx_link_texts.proofs.Places.{behind, farther, farther_modules}
-use Rattle.lx_tables.proofs.Texts.{Each, each_join, each_at, all_at, some_same, module_at, goes_on, first_there}
+use Rattle.lx_annotation_tables.proofs.Texts.{Each, each_join, each_at, all_at, some_same, module_at, goes_on, first_there}
 use Rattle.lx_opening.specs.Placed.{IsGlobalPlaced, is_init_placed}
 use Rattle.lx_opening.proofs.Typed.{in_globals, init_placed}
 

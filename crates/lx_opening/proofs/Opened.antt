@@ -12,7 +12,7 @@ use Rattle.lx_model.specs.declared.program.ProgramGlobal.{ProgramGlobal}
 use Rattle.lx_model.specs.declared.program.Program.{Program}
 use Rattle.lx_model.specs.Program.{Home, Target, module_of, same_home, target}
 use Rattle.lx_model.specs.Opening.{is_global_of, global_of, global_granted, call_granted, calls_granted, module_opened, modules_opened}
-use Rattle.lx_propagate.specs.Gets.{below}
+use Rattle.lx_slot_types.specs.Gets.{below}
 
 calls_push : (p : Program) (m : ℕ) (fs : List ℕ) (f : ℕ) (h : History) → calls_granted p m (fs ++ f ∷ []) h ≡ call_granted m (target p (Some m) f) (calls_granted p m fs h)
 calls_push p m [] f h = refl

@@ -7,7 +7,7 @@ ghost use Rattle.lx_link_texts.specs.WellFormed.{IsWellFormed};
 ghost use Rattle.lx_model.specs.Program.{module_of, target};
 ghost use Rattle.lx_model.specs.Opening.{call_granted, calls_granted, global_granted, global_of, globals_granted, is_global_of, module_opened, modules_opened};
 ghost use Rattle.lx_opening.specs.Placed.{IsGlobalPlaced};
-ghost use Rattle.lx_propagate.specs.Gets.{below};
+ghost use Rattle.lx_slot_types.specs.Gets.{below};
 
 use crate::inits::global_of;
 use lx_caps::{Cap, CapStore, Memory, Principal, cells};

@@ -8,19 +8,19 @@ ghost use Rattle.lx_model.specs.World.{opening};
 ghost use Rattle.lx_serve.specs.Room.{journal_room};
 ghost use Rattle.lx_serve.specs.Sources.{Knows};
 ghost use Rattle.lx_serve.specs.Stands.{StandsForState};
-ghost use Rattle.lx_tables.specs.Entries.{all_annotated};
-ghost use Rattle.lx_world.specs.Worlds.{HasEndsRoom, HasRoom, StandsForWorld, program_of, script_events};
+ghost use Rattle.lx_annotation_tables.specs.Entries.{all_annotated};
+ghost use Rattle.lx_core.specs.Worlds.{HasEndsRoom, HasRoom, StandsForWorld, program_of, script_events};
 
 use crate::events::script_events;
 use crate::part::open_part;
+use lx_annotation_tables::{action_counts, reach_laws, sources_of};
 use lx_caps::CapStore;
 use lx_code::{ActionCounts, Code};
+use lx_core::World;
 use lx_model::program::{Calls, Program};
-use lx_propagate::Annotated;
 use lx_serve::{SharedPart, Source};
-use lx_tables::{action_counts, reach_laws, sources_of};
+use lx_slot_types::Annotated;
 use lx_words::Memory;
-use lx_world::World;
 use std::alloc::Global;
 use std::sync::Arc;
 

@@ -7,19 +7,19 @@ ghost use Rattle.lx_model.specs.Opening.{opening_history, opening_state, with_gl
 ghost use Rattle.lx_serve.specs.Room.{journal_room};
 ghost use Rattle.lx_serve.specs.Sources.{Knows};
 ghost use Rattle.lx_serve.specs.Stands.{StandsForState};
-ghost use Rattle.lx_writers.specs.Stands.{StandsRecorded};
+ghost use Rattle.lx_writer_sets.specs.RecordedStands.{StandsRecorded};
 
 use crate::grants::open_modules;
 use crate::inits::put_globals;
 use crate::space::blank;
+use lx_annotation_tables::reach_laws;
 use lx_caps::CapStore;
 use lx_code::Code;
 use lx_memory::Space;
 use lx_model::program::Program;
 use lx_serve::{SharedPart, Source};
-use lx_tables::reach_laws;
 use lx_words::Memory;
-use lx_writers::Recorded;
+use lx_writer_sets::Recorded;
 use std::alloc::Global;
 use std::sync::Arc;
 

@@ -6,7 +6,7 @@ use Rattle.std.proofs.lemmas.List.Elements.{All-get_or}
 use Rattle.std.proofs.lemmas.Option.{slice_get_within, get_or_from_slice_get}
 use Rattle.lx_annot.specs.declared.interface.Interface.{Interface}
 use Rattle.lx_ir.specs.Lawful.{IsLawful}
-use Rattle.lx_propagate.specs.Gets.{below, gets, slot_of}
+use Rattle.lx_slot_types.specs.Gets.{below, gets, slot_of}
 use Rattle.lx_model.specs.declared.program.Program.{Program}
 use Rattle.lx_model.specs.declared.program.ProgramModule.{ProgramModule}
 use Rattle.lx_model.specs.Program.{empty_module}

@@ -3,7 +3,7 @@
 ghost use Rattle.std.specs.Prelude.{◌≡◌, ◌++◌, OnOk, IfOk, IfSome, Some, option_and_then, option_copied, unwrap_or};
 ghost use Rattle.lx_annot.specs.Canonical.{canonical};
 ghost use Rattle.lx_ir.specs.Lawful.{IsLawful};
-ghost use Rattle.lx_propagate.specs.Gets.{slot_of};
+ghost use Rattle.lx_slot_types.specs.Gets.{slot_of};
 ghost use Rattle.lx_model.specs.Program.{empty_module, export_annotation, function_of, module_of, no_annotation, slot_annotation};
 ghost use Rattle.lx_report.specs.Lawful.{HasLawfulModules};
 ghost use Rattle.lx_report.specs.Report.{annotation_text, slot_annotation_text};
@@ -15,7 +15,7 @@ use lx_annot::canonical::canonical;
 use lx_annot::interface::Interface;
 use lx_ir::module::Module;
 use lx_model::program::{Program, ProgramFunction};
-use lx_slot_types::slot_of;
+use lx_propagate::slot_of;
 use lx_words::Memory;
 use std::alloc::Global;
 

@@ -7,7 +7,7 @@ use Rattle.lx_model.specs.declared.program.Program.{Program}
 use Rattle.lx_model.specs.declared.request.What.{What}
 use Rattle.lx_model.specs.declared.request.What.TheVariants as what
 use Rattle.lx_model.specs.Fits.{FitsStack}
-use Rattle.lx_requests.specs.Servable.{is_on_stack, is_servable_what}
+use Rattle.lx_run_laws.specs.Servable.{is_on_stack, is_servable_what}
 
 at_least : (x y : ℕ) → nat_le x y ≡ true → x ≤ y
 at_least x y is = grind (arith, nat_tests)

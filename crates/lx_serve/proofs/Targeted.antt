@@ -10,7 +10,7 @@ use Rattle.lx_caps.specs.History.{History, holds}
 use Rattle.lx_caps.specs.Writers.{is_slot_writer}
 use Rattle.lx_caps.specs.Memory.{number_at}
 use Rattle.lx_annot.specs.Value.{Found}
-use Rattle.lx_propagate.specs.Gets.{below}
+use Rattle.lx_slot_types.specs.Gets.{below}
 use Rattle.lx_principals.specs.Instances.{Instances}
 use Rattle.lx_model.specs.declared.program.Program.{Program}
 use Rattle.lx_model.specs.declared.request.Outcome.{Outcome}
@@ -26,9 +26,9 @@ use Rattle.lx_model.specs.Enter.{Running, by_writers, clean_target, crosses, dec
 use Rattle.lx_model.specs.Program.{Home, function_at, home_of, is_annotated, is_in, is_module_function}
 use Rattle.lx_model.specs.Serve.{entering, entering_as}
 use Rattle.lx_model.specs.State.{State, module_principals}
-use Rattle.lx_targets.specs.Writers.{AreTold}
-use Rattle.lx_targets.specs.declared.writers.SlotWriters.{SlotWriters}
-use Rattle.lx_targets.specs.declared.writers.SlotWriters.TheVariants.{Nobody, AllHold, Lacks}
+use Rattle.lx_call_targets.specs.Writers.{AreTold}
+use Rattle.lx_call_targets.specs.declared.writers.SlotWriters.{SlotWriters}
+use Rattle.lx_call_targets.specs.declared.writers.SlotWriters.TheVariants.{Nobody, AllHold, Lacks}
 use Rattle.lx_serve.specs.Entering.{RunsAs, runs_called}
 use Rattle.lx_serve.specs.Stands.{Keeps, Gives, Tries, instances}
 use Rattle.lx_serve.specs.Targets.{Finds, nobody_at, unless_allowed, unless_called, unless_fitting, unless_known, unless_slot, unless_target}

@@ -12,7 +12,7 @@ use Rattle.lx_model.specs.declared.request.Way.TheVariants as way
 use Rattle.lx_model.specs.declared.request.What.{What}
 use Rattle.lx_model.specs.declared.request.What.TheVariants as what
 use Rattle.lx_model.specs.Fits.{Fits, FitsWay, FitsWhat}
-use Rattle.lx_requests.specs.Servable.{is_servable, is_servable_way, is_servable_what}
+use Rattle.lx_run_laws.specs.Servable.{is_servable, is_servable_way, is_servable_what}
 
 both : (a b : Bool) → a ≡ true → b ≡ true → (a && b) ≡ true
 both a b is also = ap (λ c. c && b) is ∙ also

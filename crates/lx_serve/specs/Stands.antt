@@ -5,7 +5,7 @@ use Rattle.lx_caps.specs.History.{History}
 use Rattle.lx_caps.specs.declared.Principal.{Principal}
 use Rattle.lx_actions.specs.Shown.{IsShownBy}
 use Rattle.lx_principals.specs.Instances.{Instances}
-use Rattle.lx_writers.specs.Stands.{StandsRecorded}
+use Rattle.lx_writer_sets.specs.RecordedStands.{StandsRecorded}
 use Rattle.lx_model.specs.declared.program.Program.{Program}
 use Rattle.lx_model.specs.declared.request.Reply.{Reply}
 use Rattle.lx_model.specs.declared.request.What.{What}

@@ -8,7 +8,7 @@ ghost use Rattle.lx_model.specs.Fits.{FitsStack};
 ghost use Rattle.lx_model.specs.State.{State};
 ghost use Rattle.lx_serve.specs.Room.{lacks_memory};
 ghost use Rattle.lx_serve.specs.Stands.{Keeps, Tries};
-ghost use Rattle.lx_writers.specs.Stands.{spare_of};
+ghost use Rattle.lx_writer_sets.specs.RecordedStands.{spare_of};
 
 use crate::halt::Halt;
 use crate::monitor::Monitor;

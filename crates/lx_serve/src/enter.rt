@@ -13,7 +13,7 @@ ghost use Rattle.lx_model.specs.Program.{home_of, is_in, no_annotation};
 ghost use Rattle.lx_model.specs.State.{State};
 ghost use Rattle.lx_serve.specs.Entering.{IsInstance, IsValue, RunsAs};
 ghost use Rattle.lx_serve.specs.Stands.{Keeps, Tries};
-ghost use Rattle.lx_writers.specs.Stands.{spare_of};
+ghost use Rattle.lx_writer_sets.specs.RecordedStands.{spare_of};
 
 use crate::halt::Halt;
 use crate::monitor::Monitor;
@@ -23,11 +23,11 @@ use lx_actions::SpaceLook;
 use lx_annot::action::{Annotation, Who};
 use lx_annot::expr::Expr;
 use lx_annot::value::value_at_entry;
+use lx_call_targets::{home_of, is_module_function};
 use lx_caps::{CapStore, Memory, Principal};
 use lx_memory::Space;
 use lx_model::program::Program;
 use lx_model::request::Reply;
-use lx_targets::{home_of, is_module_function};
 use lx_words::Words;
 
 fn principal_of(annotation: Option<&Annotation>) -> Option<&Who>

@@ -8,15 +8,15 @@ ghost use Rattle.lx_serve.specs.Entering.{RunsAs, runs_called};
 ghost use Rattle.lx_serve.specs.Sources.{IsLinked};
 ghost use Rattle.lx_serve.specs.Stands.{Keeps, Tries};
 ghost use Rattle.lx_serve.specs.Targets.{Finds, unless_called};
-ghost use Rattle.lx_writers.specs.Stands.{spare_of};
+ghost use Rattle.lx_writer_sets.specs.RecordedStands.{spare_of};
 
 use crate::halt::Halt;
 use crate::monitor::Monitor;
 use crate::targets::{target, text_of};
+use lx_call_targets::is_in;
 use lx_caps::{Cap, CapStore, Principal};
 use lx_model::program::Program;
 use lx_model::request::{Outcome, Refusal, Reply};
-use lx_targets::is_in;
 use lx_words::Words;
 
 impl<C: CapStore + Drop> Monitor<C> {

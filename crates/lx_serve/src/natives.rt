@@ -7,7 +7,7 @@ ghost use Rattle.lx_model.specs.State.{State};
 ghost use Rattle.lx_serve.specs.NativeCalls.{TriesNative};
 ghost use Rattle.lx_serve.specs.Stands.{Keeps, Tries};
 ghost use Rattle.lx_model.specs.Program.{Alloc, Free, ZeroBytes, TryLock, NoteValue, AliasPrincipal};
-ghost use Rattle.lx_writers.specs.Stands.{spare_of};
+ghost use Rattle.lx_writer_sets.specs.RecordedStands.{spare_of};
 
 use crate::halt::Halt;
 use crate::heap::{give_out, take_back};

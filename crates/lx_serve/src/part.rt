@@ -7,7 +7,7 @@ use lx_words::Memory;
 
 impl<C: CapStore + Drop> Part for SharedPart<C> {
     ghost use Rattle.std.specs.Prelude.{◌≡◌, true};
-    ghost use Rattle.lx_requests.specs.Servable.{is_servable};
+    ghost use Rattle.lx_run_laws.specs.Servable.{is_servable};
     ghost use Rattle.lx_serve.specs.Fitting.{fitting_servable};
     ghost use Rattle.lx_serve.specs.Stands.{StandsForState, program_of};
 

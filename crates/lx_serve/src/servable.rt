@@ -1,11 +1,11 @@
 //! Which requests may be served.
 ghost use Rattle.std.specs.Prelude.{◌≡◌, ◌<◌, true, nat_le};
 ghost use Rattle.lx_caps.specs.Regions.{stack_start};
-ghost use Rattle.lx_requests.specs.Servable.{is_on_stack, is_servable, is_servable_way, is_servable_what};
+ghost use Rattle.lx_run_laws.specs.Servable.{is_on_stack, is_servable, is_servable_way, is_servable_what};
 
+use lx_call_targets::is_in;
 use lx_model::program::Program;
 use lx_model::request::{Request, Way, What};
-use lx_targets::is_in;
 
 /// Whether the range between two addresses lies in the thread's stack.
 fn is_on_stack(thread: u32, low: u64, high: u64) -> bool

@@ -8,17 +8,17 @@ ghost use Rattle.lx_model.specs.State.{State};
 ghost use Rattle.lx_serve.specs.Sources.{IsLinked};
 ghost use Rattle.lx_serve.specs.Stands.{Keeps, Tries};
 ghost use Rattle.lx_serve.specs.Targets.{Finds, unless_allowed, unless_slot};
-ghost use Rattle.lx_writers.specs.Stands.{spare_of};
+ghost use Rattle.lx_writer_sets.specs.RecordedStands.{spare_of};
 
 use crate::halt::Halt;
 use crate::monitor::Monitor;
 use crate::space::read;
 use crate::targets::{clean_target, fitting, written_target};
 use crate::terms::unless_mapped;
+use lx_call_targets::{SlotWriters, is_module_function, slot_writers};
 use lx_caps::{CapStore, Principal};
 use lx_model::program::Program;
 use lx_model::request::{Outcome, Refusal, Reply};
-use lx_targets::{SlotWriters, is_module_function, slot_writers};
 use lx_words::Words;
 
 impl<C: CapStore + Drop> Monitor<C> {

@@ -11,10 +11,10 @@ ghost use Rattle.lx_serve.specs.declared.halt.Halt.TheVariants.{Ended};
 use crate::halt::Halt;
 use crate::source::{Source, has_annotation, is_annotated};
 use crate::texts::Texts;
+use lx_call_targets::{fits_params, function_at, has_signature, is_in};
 use lx_caps::Principal;
 use lx_model::program::Program;
 use lx_model::request::{Outcome, Refusal, Trap};
-use lx_targets::{fits_params, function_at, has_signature, is_in};
 use lx_words::Word;
 
 /// Whose text a principal runs.

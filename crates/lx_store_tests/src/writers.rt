@@ -1,7 +1,7 @@
 //! Writers of a slot, as owners come and go and bytes are zeroed.
 use crate::common::{FIRST, SHARED, Step, goes_so};
 use lx_caps::{Atom, Memory, PlainCaps, Principal, mapped};
-use lx_writers::Recorded;
+use lx_writer_sets::Recorded;
 use std::test::Fail;
 
 /// An act on a store that records writers, or a question with its answer.

@@ -5,8 +5,8 @@ use Rattle.lx_model.specs.declared.program.Program.{Program}
 use Rattle.lx_model.specs.World.{World as Meaning, is_whole}
 use Rattle.lx_caplock.specs.declared.knowledge.Entry.{Entry}
 use Rattle.lx_workers.specs.Monitor.{IsRun, threads_of}
-use Rattle.lx_world.specs.declared.world.World.{World}
-use Rattle.lx_world.specs.Worlds.{StandsForWorld}
+use Rattle.lx_core.specs.declared.world.World.{World}
+use Rattle.lx_core.specs.Worlds.{StandsForWorld}
 
 -- the world stands for what the history leaves of the one before: the monitor's run under the threads of its entries, an event
 -- for each entry, which leaves no work

@@ -2,15 +2,15 @@
 ghost use Rattle.std.specs.Prelude.{IfOk};
 ghost use Rattle.lx_model.specs.declared.program.Program.{Program};
 ghost use Rattle.lx_model.specs.World.{World as Meaning};
-ghost use Rattle.lx_world.specs.Worlds.{StandsForWorld};
+ghost use Rattle.lx_core.specs.Worlds.{StandsForWorld};
 ghost use Rattle.lx_threads.specs.Running.{AreRun};
 
 use crate::runner::ThreadCode;
 use lx_caps::CapStore;
+use lx_core::{Runners, World};
 use lx_outside::Gate;
 use lx_words::Memory;
 use lx_workers::{monitor_laws, run_workers};
-use lx_world::{Runners, World};
 use std::alloc::Global;
 use std::sync::Wait;
 use std::thread::Threads;

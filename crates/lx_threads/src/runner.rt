@@ -1,10 +1,10 @@
 //! The runners of threads, as what asks through the seats of a lock.
+use lx_core::answer_laws;
 use lx_interp::{Code, Runner};
 use lx_model::request::{Reply, Request};
-use lx_requests::request_laws;
+use lx_run_laws::request_laws;
 use lx_words::Memory;
 use lx_workers::Asker;
-use lx_world::answer_laws;
 
 /// The code that the threads of a world run.
 #[derive(Drop)]
@@ -15,9 +15,9 @@ pub(crate) struct ThreadCode {
 impl Asker<ThreadCode> for Runner {
     ghost use Rattle.std.specs.Prelude.{◌≡◌, true};
     ghost use Rattle.lx_model.specs.Thread.{Thread};
-    ghost use Rattle.lx_requests.specs.Servable.{is_servable};
+    ghost use Rattle.lx_run_laws.specs.Servable.{is_servable};
     ghost use Rattle.lx_workers.specs.Monitor.{monitored};
-    ghost use Rattle.lx_world.specs.Worlds.{StandsFor};
+    ghost use Rattle.lx_core.specs.Worlds.{StandsFor};
     ghost use Rattle.lx_threads.specs.Threads.{AsksOf};
 
     ghost Thread = { Thread };

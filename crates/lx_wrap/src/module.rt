@@ -1,6 +1,6 @@
 //! The wrappers of a module.
 ghost use Rattle.std.specs.Prelude.{◌≡◌, ◌++◌, ◌∷◌, [], bytes_eq, codes, filter_map, option_copied, option_to_list, slice_get, unwrap_or, IfOk, OnOk};
-ghost use Rattle.lx_slot_types.specs.Slots.{annotated_of};
+ghost use Rattle.lx_propagate.specs.Slots.{annotated_of};
 ghost use Rattle.lx_image_texts.specs.Marks.{is_wrapped};
 ghost use Rattle.lx_image_texts.specs.WrapperText.{empty_annotation, in_wrapper, out_wrappers, wrapper_of, wrappers_of};
 ghost use Rattle.lx_wrap.specs.Exported.{HasPlaces, out_by};
@@ -14,7 +14,7 @@ use indexmap::IndexMap;
 use lx_annot::action::Annotation;
 use lx_annot::interface::Interface;
 use lx_ir::module::{Function, Module};
-use lx_propagate::{Annotated, Marked};
+use lx_slot_types::{Annotated, Marked};
 use lx_words::Memory;
 use std::alloc::Global;
 

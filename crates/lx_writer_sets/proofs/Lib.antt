@@ -11,3 +11,4 @@ pub mod PartLemmas
 pub mod Recording
 pub mod Few
 pub mod BoundLemmas
+pub mod RecordedLemmas

@@ -6,3 +6,5 @@ pub mod Nodes
 pub mod Stands
 pub mod Work
 pub mod Laws
+pub mod Recorded
+pub mod RecordedStands

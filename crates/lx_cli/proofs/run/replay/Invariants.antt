@@ -1,7 +1,7 @@
 use Rattle.std.proofs.Common.{drop}
 use Rattle.lx_model.specs.declared.program.Program.{Program}
 use Rattle.lx_model.specs.World.{World as Meaning}
-use Rattle.lx_world.specs.Worlds.{StandsForWorld}
+use Rattle.lx_core.specs.Worlds.{StandsForWorld}
 use Rattle.lx_cli.proofs.Replays.{IsLeft}
 use Rattle.lx_cli.proofs.run.replay.Given as goal
 

@@ -1,6 +1,6 @@
 use Rattle.std.proofs.Common.{subst, None}
 use Rattle.lx_model.specs.World.{World as Meaning, opening, run}
-use Rattle.lx_world.specs.Worlds.{StandsForWorld}
+use Rattle.lx_core.specs.Worlds.{StandsForWorld}
 use Rattle.lx_workers.specs.Monitor.{threads_of}
 use Rattle.lx_cli.proofs.Reported.{if_ok, told_of}
 use Rattle.lx_cli.proofs.run.run_world.Goals as goal

@@ -1,4 +1,4 @@
-use Rattle.lx_slot_types.specs.Slots.{conflict_of}
+use Rattle.lx_propagate.specs.Slots.{conflict_of}
 use Rattle.lx_image_check.proofs.whole.check_conflict.Goals as goal
 
 pub returns-in-Err : goal.returns-in-Err

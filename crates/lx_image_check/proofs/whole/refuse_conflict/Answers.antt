@@ -1,6 +1,6 @@
 use Rattle.std.proofs.Common.{◌∙◌, Some, List, ℕ, sym, ap, subst}
 use Rattle.std.specs.Prelude.{option_map, ⊤}
-use Rattle.lx_slot_types.specs.Answers.{IsAnswerOr}
+use Rattle.lx_propagate.specs.Answers.{IsAnswerOr}
 use Rattle.lx_image_texts.specs.ImageFaults.{conflict_fault, wrapper_fault}
 use Rattle.lx_image_marks.specs.Told.{IsAnswer}
 use Rattle.lx_image_check.proofs.whole.refuse_conflict.Goals as goal

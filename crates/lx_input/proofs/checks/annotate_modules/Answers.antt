@@ -2,8 +2,8 @@ use Rattle.std.proofs.Common.{◌≡◌, ◌∙◌, sym, ap, subst, ℕ, ◌+◌
 use Rattle.std.proofs.lemmas.Result.{err_from_is_err_and}
 use Rattle.std.proofs.lemmas.List.{length-map, length-take, take_more}
 use Rattle.lx_ir.specs.declared.module.Module.{Module}
-use Rattle.lx_propagate.specs.declared.Marked.{Marked}
-use Rattle.lx_slot_types.specs.Slots.{annotated_of}
+use Rattle.lx_slot_types.specs.declared.Marked.{Marked}
+use Rattle.lx_propagate.specs.Slots.{annotated_of}
 use Rattle.lx_link.specs.Answers.{module_file}
 use Rattle.lx_input.specs.Checks.{EachModule, PropagateTurn}
 use Rattle.lx_input.proofs.Each.{HasPassed, goes_on, ends_early, ends, mapped_more, marked_so_far}

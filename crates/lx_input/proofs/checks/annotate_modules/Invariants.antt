@@ -1,5 +1,5 @@
 use Rattle.std.proofs.Common.{◌≡◌, map, take}
-use Rattle.lx_slot_types.specs.Slots.{annotated_of}
+use Rattle.lx_propagate.specs.Slots.{annotated_of}
 use Rattle.lx_input.specs.Checks.{PropagateTurn}
 use Rattle.lx_input.proofs.Each.{HasPassed}
 use Rattle.lx_input.proofs.checks.annotate_modules.Given as goal

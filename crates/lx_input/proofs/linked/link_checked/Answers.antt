@@ -1,5 +1,5 @@
 use Rattle.std.proofs.Common.{◌≡◌, ◌∙◌}
-use Rattle.lx_sources.specs.declared.sources.Sources.{Sources}
+use Rattle.lx_files.specs.declared.sources.Sources.{Sources}
 use Rattle.lx_input.proofs.Linking.{all_marked, is_input, is_linked}
 use Rattle.lx_input.proofs.linked.link_checked.Goals as goal
 

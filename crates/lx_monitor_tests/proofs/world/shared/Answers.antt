@@ -1,7 +1,7 @@
 use Rattle.std.proofs.Common.{sym, subst, []}
 use Rattle.std.specs.Arc.{arc_value}
 use Rattle.lx_caps.specs.History.{History}
-use Rattle.lx_writers.specs.Stands.{StandsRecorded}
+use Rattle.lx_writer_sets.specs.RecordedStands.{StandsRecorded}
 use Rattle.lx_monitor_tests.proofs.Programs.{silent_owns}
 use Rattle.lx_monitor_tests.proofs.world.shared.Goals as goal
 

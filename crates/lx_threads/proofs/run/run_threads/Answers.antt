@@ -2,7 +2,7 @@ use Rattle.std.proofs.Common.{rules, ◌≡◌, ◌∙◌, sym, subst}
 use Rattle.lx_serve.specs.Stands.{program_of}
 use Rattle.lx_workers.specs.Monitor.{world_behind}
 use Rattle.lx_workers.specs.Working.{AllStand}
-use Rattle.lx_world.specs.Worlds.{StandsFor}
+use Rattle.lx_core.specs.Worlds.{StandsFor}
 use Rattle.lx_threads.specs.declared.runner.ThreadCode.{ThreadCode}
 use denote.Exit.{no}
 use denote.Param.Send.{sendable, param_send, arg_send}

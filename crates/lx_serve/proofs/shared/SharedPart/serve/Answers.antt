@@ -2,7 +2,7 @@ use Rattle.std.proofs.Common.{◌∙◌, ap, refl, subst, ◌++◌, ◌∷◌, [
 use Rattle.lx_model.specs.declared.program.Program.{Program}
 use Rattle.lx_model.specs.Serve.{serve}
 use Rattle.lx_model.specs.State.{State}
-use Rattle.lx_requests.specs.Servable.{is_servable}
+use Rattle.lx_run_laws.specs.Servable.{is_servable}
 use Rattle.lx_serve.proofs.Answered.{entered}
 use Rattle.lx_serve.specs.Stands.{Serves, StandsForState}
 use Rattle.lx_serve.specs.declared.shared.SharedPart.{SharedPart}

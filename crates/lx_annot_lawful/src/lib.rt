@@ -1,2 +1,0 @@
-//! Which interfaces are lawful: definitions alone.
-#![tactic(auto)]

@@ -1,5 +1,0 @@
-pub mod Counts
-pub mod FirstVersion
-pub mod Grown
-pub mod Lawful
-pub mod Named

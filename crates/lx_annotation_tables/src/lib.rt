@@ -1,0 +1,19 @@
+//! Tables of a linked program: where annotations stand, how many actions they have, and what the images of modules have.
+#![tactic(auto)]
+
+ghost use Rattle.lx_annotation_tables.specs.Laws.{AreLinked, AreWithinReach};
+
+mod counts;
+mod images;
+mod sources;
+
+pub use counts::action_counts;
+pub use images::image_counts;
+pub use sources::sources_of;
+
+/// A machine runs every well-formed program, and the monitor serves it.
+#[tactic(auto, using(crate::proofs::Reached::within_reach, crate::proofs::Reached::linked))]
+pub fn reach_laws()
+    ensures reach { AreWithinReach }
+    ensures linked { AreLinked }
+{}

@@ -1,0 +1,14 @@
+pub mod Accounting
+pub mod Calls
+pub mod Counted
+pub mod Gathered
+pub mod Numbered
+pub mod Standing
+pub mod Turns
+pub mod Cuts
+pub mod Mentioned
+pub mod Ranges
+pub mod Listed
+pub mod NextByte
+pub mod Atoms
+pub mod Steps

@@ -1,0 +1,31 @@
+use Rattle.std.proofs.lemmas.Result.{err_from_is_err_and}
+use Rattle.lx_interp.specs.Runner.{calls_left}
+use Rattle.lx_serve.specs.Room.{store_room}
+use Rattle.lx_model.specs.Next.{next}
+use Rattle.lx_core.proofs.Turns.{turned, turned_ends, has_work_of}
+use Rattle.lx_core.proofs.turn.turn.Goals as goal
+
+pub returns-in_err-reply-in-Some-clause-memory : goal.returns-in_err-reply-in-Some-clause-memory
+returns-in_err-reply-in-Some-clause-memory g c =
+    let p = err_from_is_err_and c.from_residual-in_err-reply-in-Some.result c.from_residual-in_err-reply-in-Some.ensures.1 in
+    rw p.1
+    (λ s x st r. record { shared = c.in_err-reply-in-Some.ensures.memory c.args.code.now s st; runner = record { runs = c.local.ensures.stands c.args.thread x r.runs; stack = r.stack } })
+
+pub returns-clause-turns : goal.returns-clause-turns
+returns-clause-turns g c = λ s x st r.
+    let p = c.args.code.now in
+    let t = c.args.thread in
+    let asks = c.in_ok-local.ensures.asks t x r.runs (has_work_of p t c.args.runner.now x r c.requires.work) in
+    turned g.C.CapStore.stands c.request_laws.ensures p t s x c.args.shared.now c.answer.new.shared c.local.new.self c.absorb.new.self c.in-Some.request.now c.in_ok-reply-in-Some.reply
+    st c.requires.thread r.stack asks (c.in-Some.ensures.asked p t (next p t x) asks)
+    (c.in_ok-reply-in-Some.ensures.served p s st) (c.absorb.ensures.stands t (next p t x) asks)
+
+pub returns-clause-ends : goal.returns-clause-ends
+returns-clause-ends g c = λ s x st r.
+    let p = c.args.code.now in
+    let t = c.args.thread in
+    let asks = c.in_ok-local.ensures.asks t x r.runs (has_work_of p t c.args.runner.now x r c.requires.work) in
+    turned_ends g.C.CapStore.stands c.request_laws.ensures p t s x c.args.shared.now c.answer.new.shared c.local.new.self c.absorb.new.self c.in-Some.request.now c.in_ok-reply-in-Some.reply
+    st c.requires.thread r.stack asks (c.in-Some.ensures.asked p t (next p t x) asks)
+    (c.in_ok-reply-in-Some.ensures.served p s st) (c.absorb.ensures.stands t (next p t x) asks)
+    (calls_left c.args.runner.now) (store_room g.C.CapStore.spare c.args.shared.now) (store_room g.C.CapStore.spare c.answer.new.shared) c.requires.work c.local.ensures.calls c.in_ok-reply-in-Some.ensures.leaves

@@ -1,0 +1,84 @@
+-- The faults of the readers are told as they are met.
+use Rattle.std.proofs.Common.{◌≡◌, ℕ, List, Some, Err}
+use Rattle.lx_script.specs.declared.fault.CaseFault.{CaseFault}
+use Rattle.lx_script.specs.declared.fault.CaseFault.TheVariants as scripts
+use Rattle.lx_script.specs.Grammar.{CaseFails, FirstCaseFault}
+use Rattle.lx_script.specs.Schedule.{ScheduleFails, FirstScheduleFault}
+use Rattle.lx_ir_calls.specs.declared.intrinsics.TextForm.TheVariants.{Program, Image}
+use Rattle.lx_ir_calls.specs.declared.intrinsics.TextForm.{TextForm}
+use Rattle.lx_ir_faults.specs.declared.fault.ReadFault.{ReadFault}
+use Rattle.lx_ir_faults.specs.declared.fault.ReadFault.TheVariants as modules
+use Rattle.lx_ir_read.specs.Reading.{ModuleFails, FirstFault}
+use Rattle.lx_annot_read.specs.declared.fault.InterfaceFault.{InterfaceFault}
+use Rattle.lx_annot_read.specs.declared.fault.InterfaceFault.TheVariants as interfaces
+use Rattle.lx_annot_read.specs.Texts.{InterfaceFails, FirstInterfaceFault}
+use Rattle.lx_files.specs.declared.line.FaultKind.{FaultKind}
+use Rattle.lx_files.specs.declared.line.FaultKind.TheVariants as kinds
+use Rattle.lx_files.specs.declared.line.FaultLine.{FaultLine}
+use Rattle.lx_files.specs.declared.stop.InputStop.{InputStop}
+use Rattle.lx_files.specs.declared.stop.InputStop.TheVariants as stops
+use Rattle.lx_files.specs.Faults.{IsTold, script_line, module_line, interface_line}
+use Rattle.lx_files.specs.Inputs.{ReadsCase, ReadsModule, ReadsImage, ReadsInterface, ReadsSchedule}
+
+-- a fault that has a line is not want of memory
+
+case_first : (text : List ℕ) (kind : FaultKind) (file : List ℕ) (e : CaseFault) (f : FaultLine) → CaseFails text e → script_line kind file e ≡ Some f → FirstCaseFault text e
+case_first text kind file scripts.Memory f fails is = absurd (cc)
+case_first text kind file (scripts.Lexical line what) f fails is = fails
+case_first text kind file (scripts.Statement line what) f fails is = fails
+case_first text kind file (scripts.Unknown line what) f fails is = fails
+case_first text kind file (scripts.Twice line what) f fails is = fails
+case_first text kind file (scripts.Range line what) f fails is = fails
+case_first text kind file (scripts.Limit line what) f fails is = fails
+
+schedule_first : (text : List ℕ) (kind : FaultKind) (file : List ℕ) (e : CaseFault) (f : FaultLine) → ScheduleFails text e → script_line kind file e ≡ Some f → FirstScheduleFault text e
+schedule_first text kind file scripts.Memory f fails is = absurd (cc)
+schedule_first text kind file (scripts.Lexical line what) f fails is = fails
+schedule_first text kind file (scripts.Statement line what) f fails is = fails
+schedule_first text kind file (scripts.Unknown line what) f fails is = fails
+schedule_first text kind file (scripts.Twice line what) f fails is = fails
+schedule_first text kind file (scripts.Range line what) f fails is = fails
+schedule_first text kind file (scripts.Limit line what) f fails is = fails
+
+module_first : (form : TextForm) (text file : List ℕ) (e : ReadFault) (f : FaultLine) → ModuleFails form text e → module_line file e ≡ Some f → FirstFault form text e
+module_first form text file modules.Memory f fails is = absurd (cc)
+module_first form text file (modules.Lexical line what) f fails is = fails
+module_first form text file (modules.Statement line what) f fails is = fails
+module_first form text file (modules.OutOfProfile line what) f fails is = fails
+module_first form text file (modules.Twice line what) f fails is = fails
+module_first form text file (modules.Unknown line what) f fails is = fails
+
+interface_first : (text file : List ℕ) (e : InterfaceFault) (f : FaultLine) → InterfaceFails text e → interface_line file e ≡ Some f → FirstInterfaceFault text e
+interface_first text file interfaces.Memory f fails is = absurd (cc)
+interface_first text file (interfaces.Lexical line what) f fails is = fails
+interface_first text file (interfaces.Statement line what) f fails is = fails
+interface_first text file (interfaces.Unknown line what) f fails is = fails
+interface_first text file (interfaces.Twice line what) f fails is = fails
+interface_first text file (interfaces.NeedsSize line what) f fails is = fails
+
+-- what the readers fail with is told
+
+pub case_told : (file text : List ℕ) (e : CaseFault) (s : InputStop) → CaseFails text e → IsTold (script_line kinds.Case file e) s → ReadsCase file text (Err s)
+case_told file text e stops.Memory fails told = tt
+case_told file text e (stops.Fault f) fails told = (e, case_first text kinds.Case file e f fails told, told)
+case_told file text e (stops.Unread name) fails told = absurd told
+
+pub schedule_told : (file text : List ℕ) (e : CaseFault) (s : InputStop) → ScheduleFails text e → IsTold (script_line kinds.Schedule file e) s → ReadsSchedule file text (Err s)
+schedule_told file text e stops.Memory fails told = tt
+schedule_told file text e (stops.Fault f) fails told = (e, schedule_first text kinds.Schedule file e f fails told, told)
+schedule_told file text e (stops.Unread name) fails told = absurd told
+
+pub module_told : (file text : List ℕ) (e : ReadFault) (s : InputStop) → ModuleFails Program text e → IsTold (module_line file e) s → ReadsModule file text (Err s)
+module_told file text e stops.Memory fails told = tt
+module_told file text e (stops.Fault f) fails told = (e, module_first Program text file e f fails told, told)
+module_told file text e (stops.Unread name) fails told = absurd told
+
+pub image_told : (file text : List ℕ) (e : ReadFault) (s : InputStop) → ModuleFails Image text e → IsTold (module_line file e) s → ReadsImage file text (Err s)
+image_told file text e stops.Memory fails told = tt
+image_told file text e (stops.Fault f) fails told = (e, module_first Image text file e f fails told, told)
+image_told file text e (stops.Unread name) fails told = absurd told
+
+pub interface_told : (file text : List ℕ) (e : InterfaceFault) (s : InputStop) → InterfaceFails text e → IsTold (interface_line file e) s → ReadsInterface file text (Err s)
+interface_told file text e stops.Memory fails told = tt
+interface_told file text e (stops.Fault f) fails told = (e, interface_first text file e f fails told, told)
+interface_told file text e (stops.Unread name) fails told = absurd told

@@ -1,0 +1,88 @@
+//! Texts of files, as they are read.
+
+ghost use Rattle.std.specs.Prelude.{◌≡◌, ◌≤◌, length, IfOk};
+ghost use Rattle.lx_files.specs.Names.{NamesAreText};
+ghost use Rattle.lx_ir.specs.Lawful.{IsLawful};
+ghost use Rattle.lx_files.specs.Inputs.{ReadsCase, ReadsImage, ReadsInterface, ReadsModule, ReadsSchedule};
+ghost use Rattle.lx_files.specs.Sound.{IsSoundModule};
+ghost use Rattle.lx_files.specs.Turns.{most_bytes};
+ghost use Rattle.lx_annot.specs.Lawful.{IsLawfulInterface};
+
+use crate::line::FaultKind;
+use crate::stop::{InputStop, interface_stop, module_stop, script_stop};
+use lx_annot::interface::Interface;
+use lx_annot_grammar::lawful_laws;
+use lx_annot_read::read_interface;
+use lx_ir::module::Module;
+use lx_ir_lawful::whole_laws;
+use lx_ir_read::{TextForm, read_module};
+use lx_script::{Case, read_case, read_schedule};
+use lx_words::Schedule;
+use std::alloc::Global;
+
+/// The case that the text of a file says.
+#[tactic(auto, using(crate::proofs::Told::case_told, crate::proofs::CaseNames::names_are_text))]
+pub fn case_of_text(alloc: Global, file: &[u8], text: &[u8]) -> Result<Case, InputStop>
+    requires { length text.now ≤ most_bytes }
+    ensures reads { ReadsCase file.now text.now result }
+    ensures named { IfOk result (λ case. NamesAreText case) }
+{
+    match read_case(alloc, text) {
+        Ok(case) => Ok(case),
+        Err(fault) => Err(script_stop(alloc, FaultKind::Case, file, fault)),
+    }
+}
+
+/// The module that the text of a file says.
+#[tactic(auto, using(crate::proofs::Told::module_told))]
+pub fn module_of_text(alloc: Global, file: &[u8], text: &[u8]) -> Result<Module, InputStop>
+    requires { length text.now ≤ most_bytes }
+    ensures reads { ReadsModule file.now text.now result }
+    ensures sound { IfOk result IsSoundModule }
+{
+    whole_laws();
+    match read_module(alloc, TextForm::Program, text) {
+        Ok(module) => Ok(module),
+        Err(fault) => Err(module_stop(alloc, file, fault)),
+    }
+}
+
+/// The image that the text of a file says.
+#[tactic(auto, using(crate::proofs::Told::image_told))]
+pub fn image_of_text(alloc: Global, file: &[u8], text: &[u8]) -> Result<Module, InputStop>
+    requires { length text.now ≤ most_bytes }
+    ensures reads { ReadsImage file.now text.now result }
+    ensures lawful { IfOk result IsLawful }
+{
+    whole_laws();
+    match read_module(alloc, TextForm::Image, text) {
+        Ok(image) => Ok(image),
+        Err(fault) => Err(module_stop(alloc, file, fault)),
+    }
+}
+
+/// The interface that the text of a file says.
+#[tactic(auto, using(crate::proofs::Told::interface_told))]
+pub fn interface_of_text(alloc: Global, file: &[u8], text: &[u8]) -> Result<Interface, InputStop>
+    requires { length text.now ≤ most_bytes }
+    ensures reads { ReadsInterface file.now text.now result }
+    ensures lawful { IfOk result IsLawfulInterface }
+{
+    lawful_laws();
+    match read_interface(alloc, text) {
+        Ok(interface) => Ok(interface),
+        Err(fault) => Err(interface_stop(alloc, file, fault)),
+    }
+}
+
+/// The entries that the text of a file says as a schedule.
+#[tactic(auto, using(crate::proofs::Told::schedule_told))]
+pub fn schedule_of_text(alloc: Global, file: &[u8], text: &[u8]) -> Result<Schedule, InputStop>
+    requires { length text.now ≤ most_bytes }
+    ensures { ReadsSchedule file.now text.now result }
+{
+    match read_schedule(alloc, text) {
+        Ok(entries) => Ok(entries),
+        Err(fault) => Err(script_stop(alloc, FaultKind::Schedule, file, fault)),
+    }
+}

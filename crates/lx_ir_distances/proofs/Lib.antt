@@ -1,4 +1,0 @@
-pub mod Moduli
-pub mod Kept
-pub mod Steps
-pub mod Fits

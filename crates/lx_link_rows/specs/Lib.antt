@@ -1,4 +1,0 @@
-pub mod Programs
-pub mod Faults
-pub mod Calls
-pub mod Orders

@@ -1,3 +1,0 @@
-pub mod Atoms
-pub mod Listing
-pub mod Laws

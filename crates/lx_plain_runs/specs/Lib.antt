@@ -1,3 +1,0 @@
-pub mod PlainRuns
-pub mod Authorised
-pub mod Laws

@@ -1,4 +1,0 @@
-pub mod Targets
-pub mod Effects
-pub mod Steps
-pub mod Replies

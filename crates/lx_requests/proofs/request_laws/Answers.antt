@@ -1,7 +1,0 @@
--- The laws are lemmas.
-use Rattle.lx_requests.proofs.Steps.{next_servable}
-use Rattle.lx_requests.proofs.Replies.{absorbed_on}
-use Rattle.lx_requests.proofs.request_laws.Goals as goal
-
-pub returns : goal.returns
-returns c = record { asks = next_servable; stays = absorbed_on }

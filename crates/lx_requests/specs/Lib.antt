@@ -1,3 +1,0 @@
-pub mod Servable
-pub mod OnStack
-pub mod Laws

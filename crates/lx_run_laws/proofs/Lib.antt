@@ -1,0 +1,10 @@
+pub mod Placed
+pub mod Replaced
+pub mod Endings
+pub mod Reached
+pub mod Tops
+pub mod Needs
+pub mod Targets
+pub mod Effects
+pub mod Steps
+pub mod Replies

@@ -1,7 +1,0 @@
-use Rattle.std.proofs.Common.{◌≡◌, map}
-use Rattle.lx_propagate.specs.Gets.{below}
-use Rattle.lx_model.specs.Account.{image_count}
-use Rattle.lx_tables.proofs.images.image_counts.Given as goal
-
-abbrev pub invariant-loop-number : goal.invariant-loop-number
-invariant-loop-number l = l.images.items ≡ map (image_count l.program) (below l.number)

@@ -1,0 +1,11 @@
+-- Loans and their end change no writer, and have no range.
+use Rattle.std.proofs.Common.{refl}
+use Rattle.lx_caps.specs.History.{without_zeros}
+use Rattle.lx_writer_sets.proofs.recorded.RecordedCapStore.open_loan.Goals as goal
+
+pub returns-clause-appends : goal.returns-clause-appends
+returns-clause-appends g c = λ h is. record {
+  owned = c.open_loan.ensures.appends (without_zeros h) is.owned;
+  written = c.writer_set_laws.ensures.loan c.args.self.now.sets h c.args.thread is.written;
+  placed = (refl, is.placed);
+}
