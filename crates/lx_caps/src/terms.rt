@@ -1,40 +1,12 @@
 // What principals reach, what capabilities are made of, and how atoms are ordered.
-ghost use Rattle.std.specs.Prelude.{◌≡◌, ◌<◌, ◌||◌, Bool};
+ghost use Rattle.std.specs.Prelude.{◌≡◌, ◌||◌, Bool};
 ghost use Rattle.lx_caps.specs.Cells.{cells};
 ghost use Rattle.lx_caps.specs.History.{has, is_of, reaches, same_principal};
 ghost use Rattle.lx_caps.specs.Order.{is_before, is_behind};
 ghost use Rattle.lx_caps.specs.Precedence.{follows, is_found, module_rank, precedes, rank_in_module, IsFirstPrincipal};
-ghost use Rattle.lx_caps.specs.Regions.{lies_in, mapped};
 ghost use Rattle.lx_caps.specs.declared.Principal.{Principal};
 
 use crate::{Atom, Cap, Principal};
-
-const GLOBALS_START: u64 = 0x1000000;
-
-const HEAP_START: u64 = 0x2000000;
-
-const STACKS_START: u64 = 0x3000000;
-
-const REGION_SIZE: u64 = 0x100000;
-
-fn lies_in(start: u64, at: u64, len: u64) -> bool
-    requires { start < 0x4000000 }
-    ensures { result ≡ lies_in start at len }
-{
-    let end = start + REGION_SIZE;
-    start <= at && at <= end && len <= end - at
-}
-
-/// Says whether a range is empty or lies in one of the three regions of memory, each of 1 MiB: globals from
-/// `0x1000000`, heap from `0x2000000`, stacks from `0x3000000`.
-pub fn mapped(at: u64, len: u64) -> bool
-    ensures { result ≡ mapped at len }
-{
-    len == 0
-        || lies_in(GLOBALS_START, at, len)
-        || lies_in(HEAP_START, at, len)
-        || lies_in(STACKS_START, at, len)
-}
 
 /// How much of a store's room a grant of the capability takes at most.
 pub fn cells(cap: Cap) -> u64

@@ -3,6 +3,7 @@
 ghost use Rattle.std.specs.Prelude.{◌≡◌, ◌++◌, ◌∷◌, [], ◌==◌, length, is_ok, IfOk, IfErr, if◌then◌else◌, bytes_eq};
 
 use std::alloc::{AllocError, AllocFailed, Global};
+use std::fmt;
 use std::marker::Model;
 
 /// A list of values.
@@ -99,5 +100,15 @@ impl Items<u8> {
         ensures { result ≡ bytes_eq self.now other.now }
     {
         self.items.as_slice() == other
+    }
+}
+
+/// A name as text, each byte as the character of its number.
+impl fmt::Display for Items<u8> {
+    fn fmt<W: fmt::Write>(&self, f: &mut fmt::Formatter<W>) -> fmt::Result {
+        for byte in self.as_slice() {
+            f.write_char(char::from(*byte))?;
+        }
+        Ok(())
     }
 }

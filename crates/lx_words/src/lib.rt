@@ -14,9 +14,9 @@ mod word;
 
 pub use items::Items;
 pub use lexer::{one_way, scan, split};
-pub use memory::Memory;
+pub use memory::{Memory, number_of};
 pub use number::{are_digits, are_hex_digits, decimal_of, hex_of};
-pub use operators::{DivFault, binary, compare, resize};
+pub use operators::{DivFault, below_minus_one, binary, compare, is_negative, resize};
 pub use text::{number_texts, put_decimal, put_hex};
 pub use token::{LexFault, Lexeme, Scan, Stop, Token, TokenKind, TokenRule, Tokens};
 pub use word::{BinOp, Pred, Width, Word};

@@ -1,6 +1,6 @@
 //! Want of memory.
 
-ghost use Rattle.std.specs.Prelude.{◌≡◌};
+ghost use Rattle.std.specs.Prelude.{◌≡◌, IfOk};
 
 use std::alloc::{AllocError, AllocFailed};
 use thiserror::Error;
@@ -23,5 +23,18 @@ impl<T: Drop> From<AllocFailed<T>> for Memory {
 
     fn from(_error: AllocFailed<T>) -> Memory {
         Memory
+    }
+}
+
+/// A count as a number of 32 bits, which is how things are numbered.
+///
+/// # Errors
+/// More than a number of 32 bits counts are want of memory.
+pub fn number_of(count: usize) -> Result<u32, Memory>
+    ensures { IfOk result (λ n. n ≡ count) }
+{
+    match u32::try_from(count) {
+        Ok(number) => Ok(number),
+        Err(_) => Err(Memory),
     }
 }

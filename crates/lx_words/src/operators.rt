@@ -25,6 +25,15 @@ fn cut(width: Width, bits: u64) -> Word
     }
 }
 
+impl Word {
+    /// The number cut to the width: its lowest bits.
+    pub fn new(width: Width, bits: u64) -> Word
+        ensures { result ≡ word width bits }
+    {
+        cut(width, bits)
+    }
+}
+
 /// The number that lies as far below -1 as `below` lies above 0, cut to a width.
 fn cut_negative(width: Width, below: u64) -> Word
     ensures { result ≡ word_of_int width (negsuc below) }
@@ -32,14 +41,15 @@ fn cut_negative(width: Width, below: u64) -> Word
     cut(width, !below)
 }
 
-fn is_negative(a: Word) -> bool
+/// Whether a word is below 0 when its highest bit is a sign.
+pub fn is_negative(a: Word) -> bool
     ensures { result ≡ is_negative a }
 {
     a.bits > a.width.mask() >> 1
 }
 
 /// How far a negative word lies below -1.
-fn below_minus_one(a: Word) -> u64
+pub fn below_minus_one(a: Word) -> u64
     requires { is_negative a ≡ true }
     ensures { signed a ≡ negsuc result }
 {

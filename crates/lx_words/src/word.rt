@@ -1,6 +1,6 @@
 //! Words, their widths, and the names of the operators on them.
 
-ghost use Rattle.std.specs.Prelude.{◌≡◌, ◌+◌};
+ghost use Rattle.std.specs.Prelude.{◌≡◌, ◌<◌, ◌+◌};
 ghost use Rattle.lx_words.specs.Width.{bit_count, byte_count, modulus};
 
 use std::marker::Model;
@@ -31,7 +31,9 @@ impl Width {
 
     /// How many bytes a word of this width takes in memory.
     pub fn byte_count(self) -> u8
-        ensures { result ≡ byte_count self }
+        ensures count { result ≡ byte_count self }
+        ensures some { 0 < result }
+        ensures small { result < 9 }
     {
         match self {
             Width::W1 | Width::W8 => 1,
