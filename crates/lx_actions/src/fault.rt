@@ -1,14 +1,13 @@
 //! Why an action is not done.
 use lx_caps::Memory as WantOfMemory;
 use lx_model::request::Refusal;
-use std::fmt;
 use thiserror::Error;
 
 /// Why an action is not done.
-#[derive(Clone, Copy, Error)]
+#[derive(Clone, Copy, Debug, PartialEq, Eq, Error)]
 pub enum ActFault {
     /// An item is refused.
-    #[error("the action is refused")]
+    #[error("the action is refused: {0:?}")]
     Refused(Refusal),
     /// A `load64` that was evaluated looked at eight bytes of which this one is the first that is not mapped.
     #[error("address 0x{at:x} is not mapped")]
@@ -16,12 +15,6 @@ pub enum ActFault {
     /// There was not enough memory.
     #[error("out of memory")]
     Memory,
-}
-
-impl fmt::Debug for ActFault {
-    fn fmt<W: fmt::Write>(&self, f: &mut fmt::Formatter<W>) -> fmt::Result {
-        write!(f, "{self}")
-    }
 }
 
 impl From<WantOfMemory> for ActFault {

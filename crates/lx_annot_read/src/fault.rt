@@ -16,24 +16,24 @@ use thiserror::Error;
 /// The first fault of an interface: its line, counted from 1, and the words that name it.
 #[derive(Debug, Drop, Error)]
 pub enum InterfaceFault {
+    /// A byte that begins no token; `what` is the byte, as `0x9`.
+    #[error("line {line}: the byte {what} begins no token")]
+    Lexical { line: u32, what: Name },
+    /// A token that cannot stand where it does; `what` is the token, or `end` where the text ends too early.
+    #[error("line {line}: `{what}` cannot stand here")]
+    Statement { line: u32, what: Name },
+    /// A name that is not declared before, or `return` where it means nothing; `what` is the name.
+    #[error("line {line}: `{what}` is not declared")]
+    Unknown { line: u32, what: Name },
+    /// A name that is declared twice in its kind, or a field that is typed twice; `what` is the name.
+    #[error("line {line}: `{what}` is declared twice")]
+    Twice { line: u32, what: Name },
+    /// A `write` without a size; `what` is `write`.
+    #[error("line {line}: `{what}` has no size")]
+    NeedsSize { line: u32, what: Name },
     /// There is not enough memory to read the text.
     #[error("out of memory")]
     Memory,
-    /// A byte that begins no token; `what` is the byte, as `0x9`.
-    #[error("line {line}: a byte that begins no token")]
-    Lexical { line: u32, what: Name },
-    /// A token that cannot stand where it does; `what` is the token, or `end` where the text ends too early.
-    #[error("line {line}: a token that cannot stand here")]
-    Statement { line: u32, what: Name },
-    /// A name that is not declared before, or `return` where it means nothing; `what` is the name.
-    #[error("line {line}: the name is not known")]
-    Unknown { line: u32, what: Name },
-    /// A name that is declared twice in its kind, or a field that is typed twice; `what` is the name.
-    #[error("line {line}: the name is declared twice")]
-    Twice { line: u32, what: Name },
-    /// A `write` without a size; `what` is `write`.
-    #[error("line {line}: the size is missing")]
-    NeedsSize { line: u32, what: Name },
 }
 
 /// What kind of fault a text has.
@@ -57,8 +57,8 @@ pub struct Met {
 /// Why a part of a text could not be read.
 #[derive(Debug, Drop)]
 pub enum Failure {
-    Memory,
     Fault(Met),
+    Memory,
 }
 
 impl From<Memory> for Failure {

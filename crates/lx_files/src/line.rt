@@ -5,6 +5,7 @@ ghost use Rattle.lx_files.specs.Lines.{kind_text, number_text, place_text, rule_
 
 use lx_words::{Memory, Name, put_decimal};
 use std::alloc::Global;
+use thiserror::Error;
 
 /// What met a fault: the reader of a text, a check of what was read, or the limit on a file's bytes.
 #[derive(Clone, Copy, Debug, PartialEq, Eq)]
@@ -22,7 +23,8 @@ pub enum FaultKind {
 
 /// A fault of the input: the file, the line in it, counted from 1, the fault's number among those of its kind, and the
 /// words that name it.
-#[derive(Debug, Drop)]
+#[derive(Debug, Drop, Error)]
+#[error("{file}, line {line}: {} fault {number}, `{what}`", kind_name(*.kind))]
 pub struct FaultLine {
     pub file: Name,
     pub line: u32,

@@ -15,15 +15,15 @@ use thiserror::Error;
 /// Why not all files of a command were read.
 #[derive(Debug, Drop, Error)]
 pub enum InputStop {
+    /// The shelf did not give this file.
+    #[error("the file `{0}` cannot be read")]
+    Unread(Name),
+    /// The first fault of the input.
+    #[error("{0}")]
+    Fault(FaultLine),
     /// There is not enough memory to read the files.
     #[error("out of memory")]
     Memory,
-    /// The shelf did not give this file.
-    #[error("a file cannot be read")]
-    Unread(Name),
-    /// The first fault of the input.
-    #[error("the input has a fault")]
-    Fault(FaultLine),
 }
 
 impl From<AllocError> for InputStop {

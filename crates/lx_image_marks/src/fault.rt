@@ -6,26 +6,26 @@ use lx_words::{Memory, Name};
 use std::alloc::{AllocError, Global};
 use thiserror::Error;
 
-/// The kinds of faults. Their texts are their numbers.
+/// The kinds of faults, numbered from 1 on.
 #[derive(Clone, Copy, Debug, Error)]
 pub enum FaultKind {
     /// A store or block write without its guard, but a spared store.
-    #[error("1")]
+    #[error("a store or block write has no guard")]
     BareStore,
     /// A guard or check with another operand or size than what stands behind it asks for.
-    #[error("2")]
+    #[error("a guard or check has another operand or size than what follows it")]
     GuardDiffers,
     /// An indirect call without its check.
-    #[error("3")]
+    #[error("an indirect call has no check")]
     BareIndirect,
     /// A wrapper that is missing or differs, or what no image has as a whole.
-    #[error("4")]
+    #[error("a wrapper is missing or differs, or the text is no image as a whole")]
     WrapperDiffers,
     /// A call of an import in the place of its wrapper's, or a mention of a name that images alone have.
-    #[error("5")]
+    #[error("an import is called past its wrapper, or a name that images alone have is mentioned")]
     BodyReached,
     /// A guard or check before nothing that wants one, or a line that wrappers alone have.
-    #[error("6")]
+    #[error("a guard or check precedes nothing that wants one, or a wrapper's line stands outside of wrappers")]
     StrayGuard,
 }
 
@@ -48,7 +48,7 @@ impl FaultKind {
 /// A fault of a text as an image: its kind, its line, the name of the function, and the number of the instruction in the function, from
 /// 0 on. Where no instruction can be named the number is 0 and the line is the function's, or 1 for a function that is missing.
 #[derive(Debug, Drop, Error)]
-#[error("line {line}: image {kind}")]
+#[error("line {line}: `@{function}`, instruction {place}: {kind}")]
 pub struct ImageFault {
     pub kind: FaultKind,
     pub line: u32,

@@ -12,24 +12,24 @@ use thiserror::Error;
 /// The first fault of a text: its line, counted from 1, and what names it.
 #[derive(Debug, Drop, Error)]
 pub enum ReadFault {
+    /// A byte that begins no token; `what` is the byte, as `0x9`.
+    #[error("line {line}: the byte {what} begins no token")]
+    Lexical { line: u32, what: Name },
+    /// A token that cannot stand where it does; `what` is the token, or `end` where the text ends too early.
+    #[error("line {line}: `{what}` cannot stand here")]
+    Statement { line: u32, what: Name },
+    /// A word, a type or a number outside the profile; `what` is the token.
+    #[error("line {line}: `{what}` is outside the language that is read")]
+    OutOfProfile { line: u32, what: Name },
+    /// A name that is defined twice; `what` is the name with its `%` or `@`.
+    #[error("line {line}: `{what}` is defined twice")]
+    Twice { line: u32, what: Name },
+    /// A name that is not defined; `what` is the name with its `%` or `@`.
+    #[error("line {line}: `{what}` is not defined")]
+    Unknown { line: u32, what: Name },
     /// There is not enough memory to read the text.
     #[error("out of memory")]
     Memory,
-    /// A byte that begins no token; `what` is the byte, as `0x9`.
-    #[error("line {line}: a byte that begins no token")]
-    Lexical { line: u32, what: Name },
-    /// A token that cannot stand where it does; `what` is the token, or `end` where the text ends too early.
-    #[error("line {line}: a token that cannot stand here")]
-    Statement { line: u32, what: Name },
-    /// A word, a type or a number outside the profile; `what` is the token.
-    #[error("line {line}: outside the language that is read")]
-    OutOfProfile { line: u32, what: Name },
-    /// A name that is defined twice; `what` is the name with its `%` or `@`.
-    #[error("line {line}: the name is defined twice")]
-    Twice { line: u32, what: Name },
-    /// A name that is not defined; `what` is the name with its `%` or `@`.
-    #[error("line {line}: the name is not defined")]
-    Unknown { line: u32, what: Name },
 }
 
 /// Where a text has its first fault.

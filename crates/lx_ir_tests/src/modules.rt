@@ -463,3 +463,38 @@ fn parameters_of_imports_lose_their_names(rt: HostRuntime) -> Result<(), Fail> {
     assert_eq!(rt; defined.as_slice(), b"p b ".as_slice());
     Ok(())
 }
+
+/// A text, and what its first fault says.
+struct Saying(&'static [u8], &'static str);
+
+static SAYINGS: [Saying; 5] = [
+    Saying(b"\x01", "line 1: the byte 0x1 begins no token"),
+    Saying(b"@g = global i32", "line 1: `end` cannot stand here"),
+    Saying(
+        b"@g = global float 1",
+        "line 1: `float` is outside the language that is read",
+    ),
+    Saying(
+        b"@g = global i32 1\n@g = global i32 2",
+        "line 2: `@g` is defined twice",
+    ),
+    Saying(b"@g = global ptr @h", "line 1: `@h` is not defined"),
+];
+
+fn fault_text(alloc: Global, text: &[u8]) -> Result<String, Fail> {
+    match read(alloc, TextForm::Program, text) {
+        Err(fault) => {
+            let text = format!(in alloc; "{fault}")?;
+            Ok(text)
+        }
+        Ok(_) => Err(Fail::new("a text has no fault")),
+    }
+}
+
+#[test]
+fn a_fault_says_what_is_wrong(rt: HostRuntime) -> Result<(), Fail> {
+    for row in SAYINGS.iter() {
+        assert_eq!(rt; fault_text(rt.alloc(), row.0)?.as_str(), row.1);
+    }
+    Ok(())
+}

@@ -116,3 +116,47 @@ fn a_block_without_a_terminator_is_told(rt: HostRuntime) -> Result<(), Fail> {
     assert_eq!(rt; wrong, "");
     Ok(())
 }
+
+/// A text, and what the fault of its module says.
+struct Saying(&'static str, &'static str);
+
+static SAYINGS: [Saying; 5] = [
+    Saying(
+        "@g = global i32 null",
+        "line 1: the types of `@g` do not match",
+    ),
+    Saying(
+        "define void @f() {\n  br label %b\n}",
+        "line 2: the function has no block `b`",
+    ),
+    Saying(
+        "define i32 @f() {\n  ret i32 %x\n}",
+        "line 2: `%x` may be read before it is assigned",
+    ),
+    Saying(
+        "define void @f() {\n  %r = phi i32 [ 1, %0 ]\n  ret void\n}",
+        "line 2: the phi `%r` is out of place, or its labels are not its block's predecessors",
+    ),
+    Saying(
+        "define void @f() {\n  %r = add i32 1, 2\n}",
+        "line 2: the block `0` ends without a terminator",
+    ),
+];
+
+fn fault_text(alloc: Global, text: &str) -> Result<String, Fail> {
+    match found(alloc, text)? {
+        Err(fault) => {
+            let text = format!(in alloc; "{fault}")?;
+            Ok(text)
+        }
+        Ok(_) => Err(Fail::new("a module has no fault")),
+    }
+}
+
+#[test]
+fn a_fault_says_what_is_wrong(rt: HostRuntime) -> Result<(), Fail> {
+    for row in SAYINGS.iter() {
+        assert_eq!(rt; fault_text(rt.alloc(), row.0)?.as_str(), row.1);
+    }
+    Ok(())
+}

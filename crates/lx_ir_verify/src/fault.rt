@@ -11,20 +11,20 @@ use thiserror::Error;
 pub enum VerifyFault {
     /// Fault 1, with the name of a global whose initialiser is of another type, or with the first word of an
     /// instruction whose operand, argument or result is of another type than its form or the called function asks.
-    #[error("line {line}: verify 1")]
+    #[error("line {line}: the types of `{what}` do not match")]
     TypeDiffers { line: u32, what: Name },
     /// Fault 2, with a label that the function lacks.
-    #[error("line {line}: verify 2")]
+    #[error("line {line}: the function has no block `{what}`")]
     NoSuchLabel { line: u32, what: Name },
     /// Fault 3, with a register that is read on some walk from the start that did not assign it.
-    #[error("line {line}: verify 3")]
+    #[error("line {line}: `{what}` may be read before it is assigned")]
     NotAssigned { line: u32, what: Name },
     /// Fault 4, with the register of a phi whose labels are not the block's predecessors, or that stands in the
     /// first block or behind another kind of instruction.
-    #[error("line {line}: verify 4")]
+    #[error("line {line}: the phi `{what}` is out of place, or its labels are not its block's predecessors")]
     PhiEdges { line: u32, what: Name },
     /// Fault 5, with the name of a block that ends without a terminator.
-    #[error("line {line}: verify 5")]
+    #[error("line {line}: the block `{what}` ends without a terminator")]
     NoTerminator { line: u32, what: Name },
     /// There was not enough memory.
     #[error("out of memory")]

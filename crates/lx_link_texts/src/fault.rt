@@ -1,6 +1,8 @@
 //! Faults of what is linked.
 use lx_ir::module::Function;
+use std::fmt;
 use std::marker::Model;
+use thiserror::Error;
 
 /// What kind of fault it is.
 #[derive(Clone, Copy, Debug, PartialEq, Eq)]
@@ -10,6 +12,30 @@ pub enum FaultKind {
     SignatureDiffers,
     TooLarge,
     KernelIndirect,
+}
+
+/// What the text of a fault says of the name that it has.
+fn predicate(kind: FaultKind) -> &'static str {
+    match kind {
+        FaultKind::Missing => "is not there",
+        FaultKind::Unannotated => "is not exported by the interface",
+        FaultKind::SignatureDiffers => "has a signature that does not fit",
+        FaultKind::TooLarge => "are past their limit",
+        FaultKind::KernelIndirect => "calls through a register",
+    }
+}
+
+/// A name in a text, each byte as the character of its number.
+#[derive(Clone, Copy)]
+struct Shown<'a>(&'a [u8]);
+
+impl fmt::Display for Shown<'_> {
+    fn fmt<W: fmt::Write>(&self, f: &mut fmt::Formatter<W>) -> fmt::Result {
+        for byte in self.0 {
+            f.write_char(char::from(*byte))?;
+        }
+        Ok(())
+    }
 }
 
 /// The text that has a fault: a module by its number.
@@ -22,7 +48,8 @@ pub enum Source {
 }
 
 /// A fault that was found: the text and the line, and the name of a function or global, or the word for a limit.
-#[derive(Drop)]
+#[derive(Debug, Drop, Error)]
+#[error("line {line}: `{}` {}", Shown(.name), predicate(*.kind))]
 pub struct Found<'a> {
     pub kind: FaultKind,
     pub source: Source,

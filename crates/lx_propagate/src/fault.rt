@@ -8,7 +8,7 @@ use thiserror::Error;
 pub enum PropagateFault {
     /// Fault 1, with the line and the name of the first function that gets two slot types whose annotations differ,
     /// and the names of the two: the first that it gets in interface order, and the first that differs from it.
-    #[error("line {line}: propagate 1")]
+    #[error("line {line}: `@{function}` gets the slot types `{first}` and `{second}`, whose annotations differ")]
     Conflict {
         line: u32,
         function: Name,

@@ -32,8 +32,8 @@ pub struct Fault {
 /// Why a part of a text could not be read.
 #[derive(Debug, Drop)]
 pub enum ReadError {
-    Memory,
     Fault(Fault),
+    Memory,
 }
 
 impl From<AllocError> for ReadError {
@@ -88,27 +88,27 @@ pub fn met_byte(alloc: Global, line: u32, byte: u8) -> ReadError
 /// The first fault of a case or a schedule: its line, counted from 1, and the words that name it.
 #[derive(Debug, Drop, Error)]
 pub enum CaseFault {
+    /// A control byte, or one from 128 on; `what` is the byte, as `0x9`.
+    #[error("line {line}: the byte {what} stands in no word")]
+    Lexical { line: u32, what: Name },
+    /// A word that cannot stand where it does; `what` is the word, or `end` where the line or the text ends too early.
+    #[error("line {line}: `{what}` cannot stand here")]
+    Statement { line: u32, what: Name },
+    /// A module that the case does not name before; `what` is its name.
+    #[error("line {line}: the case names no module `{what}`")]
+    Unknown { line: u32, what: Name },
+    /// A module that is named twice; `what` is its name.
+    #[error("line {line}: the case names the module `{what}` twice")]
+    Twice { line: u32, what: Name },
+    /// A number that is too large or too small; `what` is the number as it is written.
+    #[error("line {line}: the number `{what}` is out of range")]
+    Range { line: u32, what: Name },
+    /// There are too many; `what` says of what: `modules`, `threads`, `calls`, `fuel` or `entries`.
+    #[error("line {line}: the limit on {what} is passed")]
+    Limit { line: u32, what: Name },
     /// There is not enough memory to read the text.
     #[error("out of memory")]
     Memory,
-    /// A control byte, or one from 128 on; `what` is the byte, as `0x9`.
-    #[error("line {line}: a byte that stands in no word")]
-    Lexical { line: u32, what: Name },
-    /// A word that cannot stand where it does; `what` is the word, or `end` where the line or the text ends too early.
-    #[error("line {line}: a word that cannot stand here")]
-    Statement { line: u32, what: Name },
-    /// A module that the case does not name before; `what` is its name.
-    #[error("line {line}: the module is not known")]
-    Unknown { line: u32, what: Name },
-    /// A module that is named twice; `what` is its name.
-    #[error("line {line}: the module is named twice")]
-    Twice { line: u32, what: Name },
-    /// A number that is too large or too small; `what` is the number as it is written.
-    #[error("line {line}: the number is out of range")]
-    Range { line: u32, what: Name },
-    /// There are too many; `what` says of what: `modules`, `threads`, `calls`, `fuel` or `entries`.
-    #[error("line {line}: a limit is passed")]
-    Limit { line: u32, what: Name },
 }
 
 impl From<AllocError> for CaseFault {

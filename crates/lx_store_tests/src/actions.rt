@@ -487,3 +487,28 @@ fn a_space_is_looked_at(rt: HostRuntime) -> Result<(), Fail> {
     assert!(rt; look.load64(0x20ffff9).is_none());
     Ok(())
 }
+
+/// A fault, and what it says.
+struct Saying(ActFault, &'static str);
+
+static SAYINGS: [Saying; 3] = [
+    Saying(
+        ActFault::Refused(Refusal::Ref {
+            who: Principal::Kernel,
+            ty: 1,
+            at: 16,
+        }),
+        "the action is refused: Ref { who: Kernel, ty: 1, at: 16 }",
+    ),
+    Saying(ActFault::Unmapped { at: 16 }, "address 0x10 is not mapped"),
+    Saying(ActFault::Memory, "out of memory"),
+];
+
+#[test]
+fn a_fault_says_what_is_wrong(rt: HostRuntime) -> Result<(), Fail> {
+    for row in SAYINGS.iter() {
+        let text = format!(in rt.alloc(); "{}", row.0)?;
+        assert_eq!(rt; text.as_str(), row.1);
+    }
+    Ok(())
+}

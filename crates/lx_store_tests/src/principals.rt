@@ -178,3 +178,27 @@ fn more_instances_are_named_than_16_bits_count(rt: HostRuntime) -> Result<(), Fa
     let steps = past_16_bits(rt.alloc())?;
     assert_steps(&rt, rt.alloc(), 1, steps.as_slice())
 }
+
+/// A fault, and what it says.
+struct Saying(AliasFault, &'static str);
+
+static SAYINGS: [Saying; 3] = [
+    Saying(
+        AliasFault::NotCurrent { known: 16 },
+        "0x10 names no instance as which the caller acts",
+    ),
+    Saying(
+        AliasFault::NameTaken { further: 16 },
+        "0x10 is a name already",
+    ),
+    Saying(AliasFault::Memory, "out of memory"),
+];
+
+#[test]
+fn a_fault_says_what_is_wrong(rt: HostRuntime) -> Result<(), Fail> {
+    for row in SAYINGS.iter() {
+        let text = format!(in rt.alloc(); "{}", row.0)?;
+        assert_eq!(rt; text.as_str(), row.1);
+    }
+    Ok(())
+}

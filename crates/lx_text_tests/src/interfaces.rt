@@ -11,7 +11,7 @@ use std::test::Fail;
 /// The bytes that a file may have.
 const MOST_BYTES: usize = 1 << 20;
 
-fn interface_in(alloc: Global, text: &[u8]) -> Result<Interface, InterfaceFault> {
+pub fn interface_in(alloc: Global, text: &[u8]) -> Result<Interface, InterfaceFault> {
     if text.len() > MOST_BYTES {
         return Err(InterfaceFault::Memory);
     }

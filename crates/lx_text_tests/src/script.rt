@@ -554,3 +554,49 @@ fn a_case_may_be_as_large_as_its_limits(rt: HostRuntime) -> Result<(), Fail> {
     }
     Ok(())
 }
+
+/// A case, and what its first fault says.
+struct Said(&'static [u8], &'static str);
+
+static SAID: [Said; 7] = [
+    Said(b"lxfi\tcase", "line 1: the byte 0x9 stands in no word"),
+    Said(
+        b"lxfi case 1\nkernel some",
+        "line 2: `some` cannot stand here",
+    ),
+    Said(b"\nlxfi case", "line 2: `end` cannot stand here"),
+    Said(
+        b"lxfi case 1\nkernel none\ninterface none\nthread\ncall m:f fuel 1",
+        "line 5: the case names no module `m`",
+    ),
+    Said(
+        b"lxfi case 1\nkernel none\ninterface none\nmodule m f\nmodule m f",
+        "line 5: the case names the module `m` twice",
+    ),
+    Said(
+        b"lxfi case 1\nkernel none\ninterface none\nthread\ncall kernel:f -9223372036854775809 fuel 1",
+        "line 5: the number `-9223372036854775809` is out of range",
+    ),
+    Said(
+        b"lxfi case 1\nkernel none\ninterface none\nthread\ncall kernel:f fuel 1048576\ncall kernel:f fuel 1",
+        "line 6: the limit on fuel is passed",
+    ),
+];
+
+fn told_text(alloc: Global, text: &[u8]) -> Result<String, Fail> {
+    match case_in(alloc, text) {
+        Err(fault) => {
+            let text = format!(in alloc; "{fault}")?;
+            Ok(text)
+        }
+        Ok(_) => Err(Fail::new("it is a case")),
+    }
+}
+
+#[test]
+fn the_fault_of_a_case_says_what_is_wrong(rt: HostRuntime) -> Result<(), Fail> {
+    for row in SAID.iter() {
+        assert_eq!(rt; told_text(rt.alloc(), row.0)?.as_str(), row.1);
+    }
+    Ok(())
+}

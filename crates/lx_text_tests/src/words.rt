@@ -162,6 +162,14 @@ fn the_first_byte_that_begins_no_token(rt: HostRuntime) -> Result<(), Fail> {
 }
 
 #[test]
+fn a_byte_that_begins_no_token_is_told(rt: HostRuntime) -> Result<(), Fail> {
+    let fault = LexFault::Byte { line: 3, byte: 9 };
+    let text = format!(in rt.alloc(); "{fault}")?;
+    assert_eq!(rt; text.as_str(), "line 3: the byte 0x9 begins no token");
+    Ok(())
+}
+
+#[test]
 fn lists_keep_what_they_are_given(rt: HostRuntime) -> Result<(), Fail> {
     let mut name = Name::from_bytes(rt.alloc(), b"kmallo")?;
     name.push(b'c')?;
