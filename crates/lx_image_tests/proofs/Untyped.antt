@@ -1,5 +1,5 @@
 -- Where an interface has no slot types, no function gets one.
-use Rattle.std.proofs.Common.{◌≡◌, ℕ, zero, suc, ◌≤◌, Bool, true, false, Option, Some, None, List, [], ◌∷◌, ◌++◌, length, if◌then◌else◌, refl, sym, ap, ◌∙◌, arith}
+use Rattle.std.proofs.Common.{◌≡◌, ℕ, suc, ◌≤◌, Bool, true, false, Option, None, List, [], ◌∷◌, ◌++◌, length, if◌then◌else◌, refl, sym, ap, ◌∙◌, arith}
 use Rattle.std.specs.Prelude.{find, option_map, option_to_list}
 use Rattle.lx_ir.specs.declared.module.Function.{Function}
 use Rattle.lx_ir.specs.declared.module.Module.{Module}
@@ -7,7 +7,7 @@ use Rattle.lx_ir.specs.Lookup.{is_defined}
 use Rattle.lx_annot.specs.declared.interface.Interface.{Interface}
 use Rattle.lx_slot_types.specs.Gets.{below, gets, slot_of}
 use Rattle.lx_slot_types.specs.declared.Marked.{Marked}
-use Rattle.lx_propagate.specs.Slots.{annotated_from, annotated_of, marked, mark_at}
+use Rattle.lx_propagate.specs.Slots.{annotated_from, annotated_of, marked}
 
 unmarked : (n : ℕ) (b : Bool) (o : Option ℕ) → o ≡ None → (if b then option_map (marked n) o else None) ≡ None
 unmarked n true o e = ap (option_map (marked n)) e

@@ -7,7 +7,8 @@ use lx_ir::print;
 use lx_ir_lawful::whole_laws;
 use lx_ir_read::{TextForm, read_module};
 use lx_ir_verify::{Verified, verify};
-use lx_words::Items;
+use lx_propagate::PropagateFault;
+use lx_words::{Items, Name};
 use std::alloc::Global;
 use std::test::Fail;
 
@@ -26,13 +27,12 @@ fn bare_interface(alloc: Global) -> Interface {
 }
 
 /// The verified module of an image's text.
-fn verified(alloc: Global, text: &str) -> Result<Verified, Fail> {
-    let bytes = text.as_bytes();
-    if bytes.len() > 20000 {
+pub fn verified(alloc: Global, text: &[u8]) -> Result<Verified, Fail> {
+    if text.len() > 1000000 {
         return Err(Fail::new("a text is too long"));
     }
     whole_laws();
-    let module = read_module(alloc, TextForm::Image, bytes)?;
+    let module = read_module(alloc, TextForm::Image, text)?;
     let verified = verify(alloc, module)?;
     Ok(verified)
 }
@@ -42,14 +42,21 @@ fn told(alloc: Global, fault: &ImageFault) -> Result<String, Fail> {
     let function = String::from_utf8_lossy(alloc, fault.function.as_slice())?;
     let text = format!(in alloc;
         "{}: image {} @{} {}",
-        fault.line, fault.kind, function, fault.place
+        fault.line,
+        fault.kind.number(),
+        function,
+        fault.place
     )?;
     Ok(text)
 }
 
 /// What the checker says of a text.
 fn answer(alloc: Global, text: &str) -> Result<String, Fail> {
-    match check(alloc, &bare_interface(alloc), verified(alloc, text)?) {
+    match check(
+        alloc,
+        &bare_interface(alloc),
+        verified(alloc, text.as_bytes())?,
+    ) {
         Ok(checked) => {
             drop(checked);
             let accepted = String::from_str(alloc, "accepted")?;
@@ -95,9 +102,58 @@ fn texts_are_accepted_or_their_first_fault_is_told(rt: HostRuntime) -> Result<()
     Ok(())
 }
 
+/// What the fault of a text says.
+fn fault_text(alloc: Global, text: &str) -> Result<String, Fail> {
+    match check(
+        alloc,
+        &bare_interface(alloc),
+        verified(alloc, text.as_bytes())?,
+    ) {
+        Ok(checked) => {
+            drop(checked);
+            Err(Fail::new("accepted"))
+        }
+        Err(fault) => {
+            let text = format!(in alloc; "{fault}")?;
+            Ok(text)
+        }
+    }
+}
+
+#[test]
+fn the_fault_of_an_image_says_what_is_wrong(rt: HostRuntime) -> Result<(), Fail> {
+    let text =
+        "@g = global i32 0\ndefine void @main() {\n0:\n  store i32 7, ptr @g\n  ret void\n}\n";
+    assert_eq!(rt;
+        fault_text(rt.alloc(), text)?.as_str(),
+        "line 4: `@main`, instruction 0: a store or block write has no guard"
+    );
+    Ok(())
+}
+
+#[test]
+fn two_slot_types_that_differ_are_told(rt: HostRuntime) -> Result<(), Fail> {
+    let fault = PropagateFault::Conflict {
+        line: 4,
+        function: Name::from_bytes(rt.alloc(), b"h")?,
+        first: Name::from_bytes(rt.alloc(), b"probe")?,
+        second: Name::from_bytes(rt.alloc(), b"xmit")?,
+    };
+    let text = format!(in rt.alloc(); "{fault}")?;
+    assert_eq!(rt;
+        text.as_str(),
+        "line 4: `@h` gets the slot types `probe` and `xmit`, whose annotations differ"
+    );
+    Ok(())
+}
+
 /// The text of the program of an image.
 fn program(alloc: Global, text: &str) -> Result<Vec<u8>, Fail> {
-    match check(alloc, &bare_interface(alloc), verified(alloc, text)?) {
+    match check(
+        alloc,
+        &bare_interface(alloc),
+        verified(alloc, text.as_bytes())?,
+    ) {
         Ok(checked) => {
             let module = erase(alloc, &checked)?;
             let printed = print(alloc, &module)?;

@@ -1,14 +1,18 @@
-//! Modules are read, and their images are printed and compared byte for byte.
+//! Modules are read, and their images are printed and compared byte for byte. Each image is read and verified again.
 
-ghost use Rattle.lx_ir.specs.Lawful.{IsLawful};
+ghost use Rattle.std.specs.Prelude.{◌≡◌, None, IfOk};
+ghost use Rattle.lx_ir.specs.Lawful.{IsPlain};
+ghost use Rattle.lx_propagate.specs.Slots.{annotated_of, conflict_of};
 
+use crate::check::verified;
 use crate::instrument_rows::{FUNCTION_LINES, ROWS, Row};
 use lx_annot::interface::Interface;
 use lx_instrument::{instrument, instrument_full};
-use lx_ir::module::Module;
 use lx_ir::print;
 use lx_ir_lawful::whole_laws;
 use lx_ir_read::{TextForm, read_module};
+use lx_ir_verify::{Verified, verify};
+use lx_propagate::propagate;
 use lx_slot_types::Annotated;
 use lx_words::{Items, Memory, put_decimal};
 use std::alloc::Global;
@@ -19,7 +23,7 @@ const MANY: u32 = 600;
 
 /// The texts that lines are written for: a module, its image with all guards, and its image without those of spared stores.
 #[derive(Clone, Copy)]
-enum Version {
+pub enum Version {
     Module,
     Full,
     Spared,
@@ -94,43 +98,58 @@ fn no_interface(alloc: Global) -> Interface {
     }
 }
 
-/// The image of a module in an interface without slot types.
-#[tactic(auto, using(crate::proofs::Untyped::none_annotated))]
-fn image_of(alloc: Global, version: Version, i: &Interface, m: &Module) -> Result<Module, Memory>
-    requires { IsLawful m.now }
+/// The verified module of a program's text.
+pub fn program(alloc: Global, text: &[u8]) -> Result<Verified, Fail>
+    ensures { IfOk result IsPlain }
 {
-    if i.slots.len() > 0 {
-        return Err(Memory);
-    }
-    let annotated = Annotated::new(alloc);
-    match version {
-        Version::Spared => instrument(alloc, i, m, &annotated),
-        _ => instrument_full(alloc, i, m, &annotated),
-    }
-}
-
-fn printed_image(alloc: Global, version: Version, m: &Module) -> Result<Vec<u8>, Memory>
-    requires { IsLawful m.now }
-{
-    let image = image_of(alloc, version, &no_interface(alloc), m)?;
-    print(alloc, &image)
-}
-
-/// The image of the module that a text says, printed.
-fn printed(alloc: Global, version: Version, text: &[u8]) -> Result<Vec<u8>, Fail> {
     if text.len() > 1000000 {
         return Err(Fail::new("a text is too long"));
     }
     whole_laws();
     let module = read_module(alloc, TextForm::Program, text)?;
-    let image = printed_image(alloc, version, &module)?;
-    Ok(image)
+    let verified = verify(alloc, module)?;
+    Ok(verified)
 }
 
-/// Whether the image of a module is the text that is wanted.
+/// The image of a module, where `annotated` is what handing on slot types in it gives.
+pub fn image_by(
+    alloc: Global,
+    version: Version,
+    i: &Interface,
+    m: &Verified,
+    annotated: &Annotated,
+) -> Result<Verified, Memory>
+    requires plain { IsPlain m.now }
+    requires annotated { annotated.now ≡ annotated_of i.now m.now }
+    requires agrees { conflict_of i.now m.now ≡ None }
+{
+    match version {
+        Version::Spared => instrument(alloc, i, m, annotated),
+        _ => instrument_full(alloc, i, m, annotated),
+    }
+}
+
+/// The image of the module that a text says, printed.
+fn printed(alloc: Global, version: Version, i: &Interface, text: &[u8]) -> Result<Vec<u8>, Fail> {
+    let module = program(alloc, text)?;
+    let annotated = propagate(alloc, i, module.module())?;
+    let image = image_by(alloc, version, i, &module, &annotated)?;
+    let text = print(alloc, image.module())?;
+    Ok(text)
+}
+
+/// The text of an image, read, verified and printed again.
+fn printed_again(alloc: Global, text: &[u8]) -> Result<Vec<u8>, Fail> {
+    let image = verified(alloc, text)?;
+    let text = print(alloc, image.module())?;
+    Ok(text)
+}
+
+/// Whether the image of a module is the text that is wanted, and that text is read as it was printed.
 fn is_wanted(alloc: Global, version: Version, module: &[u8], wanted: &[u8]) -> Result<bool, Fail> {
-    let image = printed(alloc, version, module)?;
-    Ok(image.as_slice() == wanted)
+    let image = printed(alloc, version, &no_interface(alloc), module)?;
+    let again = printed_again(alloc, image.as_slice())?;
+    Ok(image.as_slice() == wanted && again.as_slice() == wanted)
 }
 
 fn row_is_wanted(alloc: Global, version: Version, row: &Row) -> Result<bool, Fail> {

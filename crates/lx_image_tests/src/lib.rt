@@ -10,4 +10,6 @@ mod instrument;
 #[cfg(test)]
 mod instrument_rows;
 #[cfg(test)]
+mod slots;
+#[cfg(test)]
 mod wrap;

@@ -1,19 +1,24 @@
 //! The images of modules.
-ghost use Rattle.std.specs.Prelude.{◌≡◌, ◌++◌, ◌∷◌, [], map, IsTrue, IfOk, OnOk};
+ghost use Rattle.std.specs.Prelude.{◌≡◌, ◌++◌, ◌∷◌, [], None, map, IsTrue, IfOk, OnOk};
 ghost use Rattle.std.specs.List.{list_all};
-ghost use Rattle.lx_ir.specs.Lawful.{IsLawful, is_lawful_function};
-ghost use Rattle.lx_propagate.specs.Slots.{annotated_of};
+ghost use Rattle.lx_ir.specs.Lawful.{IsLawful, IsPlain, is_lawful_function};
+ghost use Rattle.lx_ir.specs.Verified.{IsVerified};
+ghost use Rattle.lx_propagate.specs.Slots.{annotated_of, conflict_of};
 ghost use Rattle.lx_image_texts.specs.WrapperText.{wrappers_of};
 ghost use Rattle.lx_image_texts.specs.Instrumented.{GuardsBut, leaves_none, leaves_spared};
 ghost use Rattle.lx_image_texts.specs.Spared.{is_spared};
 ghost use Rattle.lx_instrument.specs.Made.{called_numbers, function_by};
+ghost use Rattle.lx_instrument.specs.Room.{has_room};
 ghost use Rattle.lx_spared.specs.Rooms.{spared_by};
 
 use crate::functions::{function_by, spared_function};
 use crate::numbers::called_numbers;
+use crate::room::has_room;
 use lx_annot::interface::Interface;
+use lx_image_programs::image_program_laws;
 use lx_ir::module::{Function, Module};
 use lx_ir_copies::copies;
+use lx_ir_verify::Verified;
 use lx_slot_types::Annotated;
 use lx_spared::Rooms;
 use lx_words::{Items, Memory};
@@ -93,12 +98,8 @@ fn full_functions(
     }
 }
 
-/// The image of a module in which every store and block write has its guard. `annotated` has the functions that it defines and
-/// that get a slot type.
-///
-/// # Errors
-/// Want of memory; more functions, parameters or actions than numbers of 32 bits count are that too.
-pub fn instrument_full(
+/// The image of a module in which every store and block write has its guard.
+fn full_image(
     alloc: Global,
     i: &Interface,
     m: &Module,
@@ -187,12 +188,8 @@ fn spared_functions(
     }
 }
 
-/// The image of a lawful module in which a store to bytes of the stack that its function keeps to itself has no guard. `annotated`
-/// has the functions that the module defines and that get a slot type.
-///
-/// # Errors
-/// Want of memory; more functions, parameters or actions than numbers of 32 bits count are that too.
-pub fn instrument(
+/// The image of a lawful module in which spared stores have no guard.
+fn spared_image(
     alloc: Global,
     i: &Interface,
     m: &Module,
@@ -210,4 +207,104 @@ pub fn instrument(
         globals,
         functions,
     })
+}
+
+/// The image of a module, which is verified if there is room for its wrappers.
+fn verified_image(m: &Module, annotated: &Annotated, image: Module) -> Result<Verified, Memory>
+    requires { IsTrue (has_room m.now annotated.now image.functions) → IsVerified image }
+    ensures same { IfOk result (λ verified. verified ≡ image) }
+    ensures verified { IfOk result IsVerified }
+{
+    if has_room(m, annotated, image.functions.as_slice()) {
+        Ok(Verified::proved(image))
+    } else {
+        drop(image);
+        Err(Memory)
+    }
+}
+
+/// What [`instrument_full`] makes of a module that stands in no `Verified`.
+fn instrument_module_full(
+    alloc: Global,
+    i: &Interface,
+    m: &Module,
+    annotated: &Annotated,
+) -> Result<Verified, Memory>
+    requires verified { IsVerified m.now }
+    requires plain { IsPlain m.now }
+    requires annotated { annotated.now ≡ annotated_of i.now m.now }
+    requires agrees { conflict_of i.now m.now ≡ None }
+    ensures image { IfOk result (λ image. GuardsBut leaves_none i.now m.now image) }
+    ensures verified { IfOk result IsVerified }
+{
+    image_program_laws();
+    let image = full_image(alloc, i, m, annotated)?;
+    let verified = verified_image(m, annotated, image)?;
+    Ok(verified)
+}
+
+/// The image of a verified module in which every store and block write has its guard; it is verified itself. `annotated` is what
+/// handing on slot types in the module gives, which found no conflict.
+///
+/// # Errors
+/// Want of memory. An image that no text can say is that too: one with more functions, or more registers in a wrapper, than numbers
+/// of 32 bits count, and one whose wrapper would call a function of the name of a block write, which LLVM lets no text define.
+pub fn instrument_full(
+    alloc: Global,
+    i: &Interface,
+    m: &Verified,
+    annotated: &Annotated,
+) -> Result<Verified, Memory>
+    requires plain { IsPlain m.now }
+    requires annotated { annotated.now ≡ annotated_of i.now m.now }
+    requires agrees { conflict_of i.now m.now ≡ None }
+    ensures image { IfOk result (λ image. GuardsBut leaves_none i.now m.now image) }
+    ensures verified { IfOk result IsVerified }
+{
+    let image = instrument_module_full(alloc, i, m.module(), annotated)?;
+    Ok(image)
+}
+
+/// What [`instrument`] makes of a module that is known to be verified and that stands elsewhere, as those of a linked program do.
+///
+/// # Errors
+/// Those of [`instrument`].
+pub fn instrument_module(
+    alloc: Global,
+    i: &Interface,
+    m: &Module,
+    annotated: &Annotated,
+) -> Result<Verified, Memory>
+    requires verified { IsVerified m.now }
+    requires plain { IsPlain m.now }
+    requires annotated { annotated.now ≡ annotated_of i.now m.now }
+    requires agrees { conflict_of i.now m.now ≡ None }
+    ensures image { IfOk result (λ image. GuardsBut (leaves_spared m.now) i.now m.now image) }
+    ensures verified { IfOk result IsVerified }
+{
+    image_program_laws();
+    let image = spared_image(alloc, i, m, annotated)?;
+    let verified = verified_image(m, annotated, image)?;
+    Ok(verified)
+}
+
+/// The image of a verified module in which a store to bytes of the stack that its function keeps to itself has no guard; it is
+/// verified itself. `annotated` is what handing on slot types in the module gives, which found no conflict.
+///
+/// # Errors
+/// Those of [`instrument_full`].
+pub fn instrument(
+    alloc: Global,
+    i: &Interface,
+    m: &Verified,
+    annotated: &Annotated,
+) -> Result<Verified, Memory>
+    requires plain { IsPlain m.now }
+    requires annotated { annotated.now ≡ annotated_of i.now m.now }
+    requires agrees { conflict_of i.now m.now ≡ None }
+    ensures image { IfOk result (λ image. GuardsBut (leaves_spared m.now) i.now m.now image) }
+    ensures verified { IfOk result IsVerified }
+{
+    let image = instrument_module(alloc, i, m.module(), annotated)?;
+    Ok(image)
 }

@@ -9,5 +9,6 @@ mod image;
 mod instrs;
 mod marks;
 mod numbers;
+mod room;
 
-pub use image::{instrument, instrument_full};
+pub use image::{instrument, instrument_full, instrument_module};

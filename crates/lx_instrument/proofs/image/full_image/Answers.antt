@@ -1,6 +1,6 @@
 use Rattle.std.proofs.Common.{◌∙◌}
 use Rattle.lx_instrument.proofs.Laws.{made_full}
-use Rattle.lx_instrument.proofs.image.instrument_full.Goals as goal
+use Rattle.lx_instrument.proofs.image.full_image.Goals as goal
 
 pub returns : goal.returns
 returns c =

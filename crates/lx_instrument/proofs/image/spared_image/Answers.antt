@@ -1,6 +1,6 @@
 use Rattle.std.proofs.Common.{◌∙◌}
 use Rattle.lx_instrument.proofs.Laws.{made_spared}
-use Rattle.lx_instrument.proofs.image.instrument.Goals as goal
+use Rattle.lx_instrument.proofs.image.spared_image.Goals as goal
 
 pub returns : goal.returns
 returns c =
