@@ -19,7 +19,8 @@ use Rattle.lx_model.specs.Account.{image_count}
 use Rattle.lx_model.specs.Program.{module_or_empty}
 use Rattle.lx_propagate.specs.Slots.{annotated_of, marked}
 use Rattle.lx_annotation_tables.specs.Entries.{all_annotated}
-use Rattle.lx_annotation_tables.specs.Images.{has_wrapper, image_of, inserted_in, is_behind, is_wrapped}
+use Rattle.lx_model.specs.Account.{has_wrapper}
+use Rattle.lx_annotation_tables.specs.Images.{image_of, inserted_in, is_behind, is_wrapped}
 use Rattle.lx_annotation_tables.specs.declared.images.Inserted.TheVariants.{Guard, Check}
 use Rattle.lx_annotation_tables.proofs.Texts.{first_there, goes_on}
 use Rattle.lx_annotation_tables.proofs.Told.{is_of, found_marked}

@@ -9,6 +9,7 @@ use Rattle.lx_annot.specs.declared.interface.Interface.{Interface}
 use Rattle.lx_slot_types.specs.declared.Marked.{Marked}
 use Rattle.lx_slot_types.specs.Gets.{slot_of}
 use Rattle.lx_model.specs.declared.account.ImageCount.{ImageCount}
+use Rattle.lx_model.specs.Account.{has_wrapper}
 use Rattle.lx_annotation_tables.specs.declared.images.Inserted.{Inserted}
 use Rattle.lx_annotation_tables.specs.declared.images.Inserted.TheVariants.{Guard, Check}
 
@@ -25,11 +26,6 @@ inserted_in what fs = count_by (is_behind what) (flat_map instrs_of fs)
 unfoldable pub is_wrapped : List Marked → ℕ × Function → Bool
 is_wrapped annotated x =
     if is_defined x.1 then list_any (λ y. nat_eq y.function x.0) annotated else not (bytes_eq x.1.name (codes "lxfi_princ_alias"))
-
-abbrev pub has_wrapper : Interface → Module → ℕ × Function → Bool
-has_wrapper i m x =
-    (not (is_defined x.1) && not (bytes_eq x.1.name (codes "lxfi_princ_alias")))
-    || (is_defined x.1 && is_some (slot_of i m x.0))
 
 unfoldable pub image_of : Interface → Module → ImageCount
 image_of i m =

@@ -1,7 +1,7 @@
 //! What the images of modules have beyond the modules.
-ghost use Rattle.std.specs.Prelude.{◌≡◌, ◌+◌, IfOk, Some, bytes_eq, codes, count_by, length, map, nat_eq};
+ghost use Rattle.std.specs.Prelude.{◌≡◌, ◌+◌, IfOk, Some, count_by, length, map, nat_eq};
 ghost use Rattle.std.specs.List.{enumerate_from, flat_map, list_any};
-ghost use Rattle.lx_ir.specs.Lookup.{instrs_of, is_indirect_call, is_write};
+ghost use Rattle.lx_ir.specs.Lookup.{instrs_of, is_write};
 ghost use Rattle.lx_model.specs.Account.{image_count};
 ghost use Rattle.lx_slot_types.specs.Gets.{below};
 ghost use Rattle.lx_propagate.specs.Slots.{annotated_of};
@@ -10,8 +10,9 @@ ghost use Rattle.lx_annotation_tables.specs.Entries.{all_annotated};
 ghost use Rattle.lx_annotation_tables.specs.Images.{image_of, inserted_in, is_behind, is_wrapped};
 ghost use Rattle.lx_annotation_tables.specs.declared.images.Inserted.TheVariants as inserted;
 
-use lx_ir::instr::{Callee, Instr, Op};
+use lx_ir::instr::{Instr, Op};
 use lx_ir::module::{Block, Function, Module};
+use lx_link_texts::{is_alias, is_indirect_call};
 use lx_model::account::ImageCount;
 use lx_model::program::Program;
 use lx_slot_types::{Annotated, Marked};
@@ -31,18 +32,6 @@ fn is_write(op: &Op) -> bool
     matches!(
         op,
         Op::Store { .. } | Op::CopyBlock { .. } | Op::FillBlock { .. }
-    )
-}
-
-fn is_indirect_call(op: &Op) -> bool
-    ensures { result ≡ is_indirect_call op.now }
-{
-    matches!(
-        op,
-        Op::Call {
-            callee: Callee::Register(_),
-            ..
-        }
     )
 }
 
@@ -111,12 +100,6 @@ fn count_functions(what: Inserted, functions: &[Function]) -> Result<u64, Memory
         total = add(total, more)?;
     }
     Ok(total)
-}
-
-fn is_alias(name: &[u8]) -> bool
-    ensures { result ≡ bytes_eq name.now (codes "lxfi_princ_alias") }
-{
-    name == b"lxfi_princ_alias".as_slice()
 }
 
 fn is_annotated(annotated: &[Marked], number: usize) -> bool

@@ -15,7 +15,8 @@ pub fn home_of(program: &Program, function: u32) -> Option<Option<u32>>
     }
 }
 
-fn is_same_home(home: Option<u32>, other: Option<u32>) -> bool
+/// Whether two texts are the same; none is the kernel's.
+pub fn is_same_home(home: Option<u32>, other: Option<u32>) -> bool
     ensures { result ≡ same_home home other }
 {
     match (home, other) {

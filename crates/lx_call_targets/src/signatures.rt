@@ -1,10 +1,9 @@
 //! Whether signatures agree: parameters and results by their widths.
-ghost use Rattle.std.specs.Prelude.{◌≡◌, map, option_map, unwrap_or};
+ghost use Rattle.std.specs.Prelude.{◌≡◌, map};
 ghost use Rattle.lx_ir.specs.Layout.{width_of};
 ghost use Rattle.lx_model.specs.Enter.{fits_params, has_signature};
-ghost use Rattle.lx_model.specs.Program.{declared_width, has_slot_signature, param_widths, result_width, same_result, same_widths, slot_widths};
+ghost use Rattle.lx_model.specs.Program.{are_declared, declared_width, has_slot_signature, is_of_width, result_width, same_result, same_widths};
 ghost use Rattle.lx_words.specs.Width.{same_width};
-ghost use Rattle.lx_words.specs.declared.word.Width.TheVariants.{W64};
 
 use crate::functions::function_of;
 use lx_annot::expr::Ty;
@@ -14,7 +13,8 @@ use lx_ir::types::Scalar;
 use lx_model::program::Program;
 use lx_words::{Width, Word};
 
-fn width_of(ty: Scalar) -> Width
+/// The width of a type of a register; an address has 64 bits.
+pub fn width_of(ty: Scalar) -> Width
     ensures { result ≡ width_of ty }
 {
     match ty {
@@ -23,14 +23,15 @@ fn width_of(ty: Scalar) -> Width
     }
 }
 
-fn is_same_width(a: Width, b: Width) -> bool
+/// Whether two widths are the same.
+pub fn is_same_width(a: Width, b: Width) -> bool
     ensures { result ≡ same_width a b }
 {
     a.bit_count() == b.bit_count()
 }
 
 /// The width of a declared type; `void` has none.
-fn declared_width(ty: Ty) -> Option<Width>
+pub fn declared_width(ty: Ty) -> Option<Width>
     ensures { result ≡ declared_width ty }
 {
     match ty {
@@ -43,11 +44,13 @@ fn declared_width(ty: Ty) -> Option<Width>
     }
 }
 
-/// The width of a slot type's parameter.
-fn parameter_width(declared: &Declared) -> Width
-    ensures { result ≡ unwrap_or (declared_width declared.now.ty) W64 }
+fn is_of_width(declared: Option<Width>, width: Width) -> bool
+    ensures { result ≡ is_of_width declared width }
 {
-    declared_width(declared.ty).unwrap_or(Width::W64)
+    match declared {
+        None => false,
+        Some(declared) => is_same_width(declared, width),
+    }
 }
 
 fn is_passed(arg: Word, parameter: &Parameter) -> bool
@@ -73,15 +76,15 @@ fn are_passed(args: &[Word], parameters: &[Parameter]) -> bool
 }
 
 fn is_declared(declared: &Declared, parameter: &Parameter) -> bool
-    ensures { result ≡ same_width (unwrap_or (declared_width declared.now.ty) W64) (width_of parameter.now.ty) }
+    ensures { result ≡ is_of_width (declared_width declared.now.ty) (width_of parameter.now.ty) }
 {
-    is_same_width(parameter_width(declared), width_of(parameter.ty))
+    is_of_width(declared_width(declared.ty), width_of(parameter.ty))
 }
 
-/// Whether declared parameters are as many and as wide as a function's.
-#[tactic(auto, using(crate::proofs::Pairs::widths_step, crate::proofs::Pairs::widths_end, crate::proofs::Pairs::widths_length))]
-fn are_declared(declared: &[Declared], parameters: &[Parameter]) -> bool
-    ensures { result ≡ same_widths (map (λ x. unwrap_or (declared_width x.ty) W64) declared.now) (map (λ x. width_of x.ty) parameters.now) }
+/// Whether parameters are as many and as wide as they are declared. A `void` one has no width, and agrees with nothing.
+#[tactic(auto, using(crate::proofs::Pairs::declared_step, crate::proofs::Pairs::declared_end, crate::proofs::Pairs::declared_length))]
+pub fn are_declared(declared: &[Declared], parameters: &[Parameter]) -> bool
+    ensures { result ≡ are_declared declared.now (map (λ x. width_of x.ty) parameters.now) }
 {
     if declared.len() != parameters.len() {
         return false;
@@ -94,7 +97,40 @@ fn are_declared(declared: &[Declared], parameters: &[Parameter]) -> bool
     true
 }
 
-fn is_same_result(a: Option<Width>, b: Option<Width>) -> bool
+/// Whether parameters have these widths.
+#[tactic(auto, using(crate::proofs::Pairs::bare_step, crate::proofs::Pairs::bare_end, crate::proofs::Pairs::bare_length))]
+pub fn have_widths(widths: &[Width], parameters: &[Parameter]) -> bool
+    ensures { result ≡ same_widths widths.now (map (λ x. width_of x.ty) parameters.now) }
+{
+    if widths.len() != parameters.len() {
+        return false;
+    }
+    for i in 0..widths.len() {
+        if !is_same_width(widths[i], width_of(parameters[i].ty)) {
+            return false;
+        }
+    }
+    true
+}
+
+/// Whether parameters are as many and as wide as others.
+#[tactic(auto, using(crate::proofs::Pairs::widths_step, crate::proofs::Pairs::widths_end, crate::proofs::Pairs::widths_length))]
+pub fn have_same_widths(some: &[Parameter], others: &[Parameter]) -> bool
+    ensures { result ≡ same_widths (map (λ x. width_of x.ty) some.now) (map (λ x. width_of x.ty) others.now) }
+{
+    if some.len() != others.len() {
+        return false;
+    }
+    for i in 0..some.len() {
+        if !is_same_width(width_of(some[i].ty), width_of(others[i].ty)) {
+            return false;
+        }
+    }
+    true
+}
+
+/// Whether two results are of the same width, or there is neither.
+pub fn is_same_result(a: Option<Width>, b: Option<Width>) -> bool
     ensures { result ≡ same_result a b }
 {
     match (a, b) {
@@ -104,7 +140,8 @@ fn is_same_result(a: Option<Width>, b: Option<Width>) -> bool
     }
 }
 
-fn result_width(function: &Function) -> Option<Width>
+/// The width of a function's result.
+pub fn result_width(function: &Function) -> Option<Width>
     ensures { result ≡ result_width function.now }
 {
     match function.ret {
@@ -113,7 +150,8 @@ fn result_width(function: &Function) -> Option<Width>
     }
 }
 
-fn has_slot_signature(slot: &Slot, function: &Function) -> bool
+/// Whether a function has the signature of a slot type.
+pub fn has_slot_signature(slot: &Slot, function: &Function) -> bool
     ensures { result ≡ has_slot_signature slot.now function.now }
 {
     are_declared(slot.params.as_slice(), function.params.as_slice())

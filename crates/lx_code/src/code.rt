@@ -1,6 +1,5 @@
 //! The code that a machine runs: what the numbers of a program name.
 ghost use Rattle.std.specs.Prelude.{◌≡◌, ℕ, ◌+◌, ◌<◌, Bool, true, IsTrue, IfOk, Option, Some, List, length, map, option_copied, option_and_then, slice_get, unwrap_or};
-ghost use Rattle.lx_ir.specs.Lookup.{blocks_of};
 ghost use Rattle.lx_model.specs.Program.{module_of, empty_module, function_of, function_of_entry, home_or_kernel, result_width, target, global_address};
 ghost use Rattle.lx_model.specs.Thread.{routine, routine_or_none, code_block_of};
 ghost use Rattle.lx_model.specs.Next.{actions_of, has_action};
@@ -11,6 +10,7 @@ use crate::tables::Tables;
 use crate::targets::Target;
 use crate::words::width_of;
 use lx_ir::module::{Block, Function, Module};
+use lx_ir_walks::blocks_of;
 use lx_model::program::{Program, ProgramFunction};
 use lx_words::{Items, Memory, Width};
 use std::alloc::Global;
@@ -100,16 +100,6 @@ fn most_locals(program: &Program) -> usize
         most = most.max(locals_of(program, entry));
     }
     most
-}
-
-// The blocks of a function; an import has none.
-fn blocks_of(function: &Function) -> &[Block]
-    ensures { result.now ≡ blocks_of function.now }
-{
-    match &function.blocks {
-        Some(blocks) => blocks.as_slice(),
-        None => &[],
-    }
 }
 
 // How many actions stand behind the body, or before it.

@@ -5,7 +5,6 @@ ghost use Rattle.lx_code.specs.Targets.{target_of};
 
 use crate::code::Code;
 use crate::targets::Target;
-use crate::words::cut;
 use lx_ir::module::{Constant, Pointer, Symbol};
 use lx_words::{Width, Word};
 
@@ -47,10 +46,10 @@ pub fn constant_of(code: &Code, home: Option<u32>, constant: &Constant) -> Word
 {
     match constant {
         Constant::Number(word) => *word,
-        Constant::Truth(true) => cut(Width::W1, 1),
-        Constant::Truth(false) => cut(Width::W1, 0),
-        Constant::Blank(_, width) => cut(*width, 0),
-        Constant::Pointer(pointer) => cut(Width::W64, pointer_number(code, home, pointer)),
-        Constant::Cast(pointer, width) => cut(*width, pointer_number(code, home, pointer)),
+        Constant::Truth(true) => Word::new(Width::W1, 1),
+        Constant::Truth(false) => Word::new(Width::W1, 0),
+        Constant::Blank(_, width) => Word::new(*width, 0),
+        Constant::Pointer(pointer) => Word::new(Width::W64, pointer_number(code, home, pointer)),
+        Constant::Cast(pointer, width) => Word::new(*width, pointer_number(code, home, pointer)),
     }
 }

@@ -11,4 +11,4 @@ mod words;
 pub use code::{ActionCounts, Code};
 pub use constants::constant_of;
 pub use targets::Target;
-pub use words::{cut, width_of};
+pub use words::width_of;

@@ -10,7 +10,7 @@ use crate::targets::{Lookup, Target};
 use indexmap::IndexMap;
 use lx_ir::module::Module;
 use lx_model::program::Program;
-use lx_words::{Items, Memory};
+use lx_words::{Items, Memory, number_of};
 use std::alloc::Global;
 
 /// What the functions of the kernel and of each module name, by their numbers there, and the addresses of globals.
@@ -48,9 +48,7 @@ fn module_table(
     requires { text.now ≡ module_of lookup.now (Some number) }
     ensures { IfOk result (λ table. HasTable lookup.now (Some number) table) }
 {
-    let Ok(home) = u32::try_from(number) else {
-        return Err(Memory);
-    };
+    let home = number_of(number)?;
     let table = table_of(alloc, lookup, Some(home), text)?;
     Ok(table)
 }

@@ -13,6 +13,6 @@ mod stop;
 mod turns;
 
 pub use line::{FaultKind, FaultLine, fault_text};
-pub use sources::{Asked, Besides, ImageFile, Sources, one_input, read_sources};
+pub use sources::{Asked, Besides, ImageFile, Sources, input_laws, read_sources};
 pub use stop::{InputStop, fault_at};
 pub use turns::Modules;

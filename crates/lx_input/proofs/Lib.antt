@@ -1,3 +1,4 @@
+pub mod Agreeing
 pub mod Told
 pub mod Each
 pub mod Linking

@@ -1,5 +1,6 @@
 -- What linking answers, and what is linked.
-use Rattle.std.proofs.Common.{◌≡◌, ◌∙◌, sym, ap, subst, refl, ℕ, suc, ◌<◌, ◌≤◌, List, [], ◌∷◌, length, map, Option, Some, None, Result, Ok, Err, inl, inr, ◌⊎◌, arith}
+use Rattle.std.proofs.Common.{◌≡◌, ◌∙◌, sym, ap, subst, refl, ℕ, suc, ◌≤◌, List, [], ◌∷◌, length, map, Option, Some, None, Ok, Err, inl, inr, arith}
+use Rattle.std.specs.Prelude.{All}
 use Rattle.std.proofs.lemmas.List.{length-map}
 use Rattle.lx_ir.specs.declared.module.Module.{Module}
 use Rattle.lx_annot.specs.declared.interface.Interface.{Interface}
@@ -19,7 +20,6 @@ use Rattle.lx_link_texts.specs.declared.fault.FaultKind.{FaultKind}
 use Rattle.lx_link_texts.specs.declared.fault.FaultKind.TheVariants as links
 use Rattle.lx_link_texts.specs.Faults.{Fault, all_annotated}
 use Rattle.lx_link.specs.declared.fault.LinkFault.{LinkFault}
-use Rattle.lx_link.specs.declared.fault.LinkFault.TheVariants as answers
 use Rattle.lx_link.specs.Answers.{IsFault, answered, fault_named, file_of, link_fault, linked_of, named_modules, sources_of, what_of}
 use Rattle.lx_files.specs.declared.line.FaultLine.{FaultLine}
 use Rattle.lx_files.specs.declared.stop.InputStop.{InputStop}
@@ -30,9 +30,10 @@ use Rattle.lx_files.specs.declared.sources.Sources.{Sources}
 use Rattle.lx_files.specs.Sound.{IsOneOf}
 use Rattle.lx_files.specs.Faults.{IsTold, fault_at}
 use Rattle.lx_input.specs.declared.input.Input.{Input}
-use Rattle.lx_input.specs.Lines.{link_answer, link_line, link_number, linked_file, named_or}
+use Rattle.lx_input.specs.Lines.{link_answer, link_line, link_number, named_or}
 use Rattle.lx_input.specs.Inputs.{LinkTurn, texts_of}
-use Rattle.lx_input.specs.Laws.{IsLinkedInput, IsModuleNumber}
+use Rattle.lx_input.specs.Laws.{HasNoConflict, IsLinkedInput, IsModuleNumber}
+use Rattle.lx_input.proofs.Agreeing.{all_named}
 
 -- the line of an answer is that of the fault
 
@@ -115,11 +116,14 @@ module _ (case : List ℕ) (s : Sources) (linked : LinkedParts) (p : Program) (s
       omega (arith, below, modules, named)
 
   pub is_linked : IsWellFormed linked.program → FitsCalls linked.program linked.calls → length s.case.threads ≤ 16 → length s.modules ≡ length s.case.modules → IsOneOf s.modules s.besides.number
-      → IsLinkedInput (record { program = p; script = script; annotated = marks; besides = s.besides })
-  is_linked formed fits few as_many below = record {
+      → All (HasNoConflict s.interface) s.modules → IsLinkedInput (record { program = p; script = script; annotated = marks; besides = s.besides })
+  is_linked formed fits few as_many below agree = record {
     formed = subst IsWellFormed (sym program_is) formed;
     fits = subst (λ (q : Program). FitsCalls q script) (sym program_is) (subst (FitsCalls linked.program) (sym script_is) fits);
     few = few_calls few;
     annotated = marks_are ∙ ap (λ (q : Program). all_annotated (texts_of_program q)) (sym program_of_texts);
+    agree =
+        subst (λ (q : Program). All (λ (m : ProgramModule). HasNoConflict q.interface m.«module») q.modules) (sym program_of_texts)
+        (all_named s.interface s.case.modules s.modules agree);
     number = is_number as_many s.besides.number below;
   }

@@ -1,5 +1,5 @@
 -- The checks of what was read, one after the other.
-use Rattle.std.proofs.Common.{◌≡◌, ◌∙◌, sym, subst, refl, ℕ, List, [], ◌∷◌, Option, Some, None, Result, Ok, Err}
+use Rattle.std.proofs.Common.{◌≡◌, subst, refl, ℕ, List, [], ◌∷◌, Option, Some, None, Result, Ok, Err}
 use Rattle.lx_ir.specs.declared.module.Module.{Module}
 use Rattle.lx_ir.specs.Faults.{FirstFault}
 use Rattle.lx_script.specs.declared.case.CaseModule.{CaseModule}
@@ -7,10 +7,10 @@ use Rattle.lx_link.specs.Answers.{origin_name}
 use Rattle.lx_files.specs.declared.stop.InputStop.{InputStop}
 use Rattle.lx_files.specs.declared.stop.InputStop.TheVariants as stops
 use Rattle.lx_files.specs.declared.sources.Sources.{Sources}
-use Rattle.lx_files.specs.Turns.{Then, Goes, Gives, HasNoted}
+use Rattle.lx_files.specs.Turns.{Then, Gives, HasNoted}
 use Rattle.lx_files.specs.declared.sources.ImageFile.{ImageFile}
 use Rattle.lx_input.specs.declared.input.Input.{Input}
-use Rattle.lx_input.specs.Checks.{Passed, VerifyTurn, PropagateTurn, EachModule}
+use Rattle.lx_input.specs.Checks.{VerifyTurn, PropagateTurn, EachModule}
 use Rattle.lx_input.specs.Inputs.{LinkTurn, ImageCheck, BehindLink, BehindSlots, BehindVerified, BehindKernel, CheckTurn}
 use Rattle.lx_input.proofs.Each.{Turn}
 

@@ -1,28 +1,25 @@
 -- What the files of a command come to is settled.
-use Rattle.std.proofs.Common.{◌≡◌, ◌∙◌, sym, ap, subst, refl, ℕ, List, [], ◌∷◌, Option, Some, None, Result, Ok, Err}
+use Rattle.std.proofs.Common.{◌≡◌, ◌∙◌, sym, ap, refl, ℕ, List, [], ◌∷◌, Option, Some, None, Ok, Err}
 use Rattle.lx_outside.specs.declared.file_text.FileText.{FileText}
 use Rattle.lx_ir.specs.declared.module.Module.{Module}
-use Rattle.lx_ir.specs.Faults.{Fault, FirstFault}
+use Rattle.lx_ir.specs.Faults.{FirstFault}
 use Rattle.lx_ir_verify.specs.Laws.{OneFirstFault}
 use Rattle.lx_annot.specs.declared.interface.Interface.{Interface}
-use Rattle.lx_propagate.specs.Slots.{Conflict, conflict_of}
 use Rattle.lx_script.specs.declared.case.CaseModule.{CaseModule}
-use Rattle.lx_link_texts.specs.Faults.{Fault as LinkFault}
-use Rattle.lx_link.specs.Answers.{link_fault, origin_name}
+use Rattle.lx_link.specs.Answers.{origin_name}
 use Rattle.lx_files.specs.declared.line.FaultLine.{FaultLine}
-use Rattle.lx_files.specs.declared.stop.InputStop.{InputStop}
 use Rattle.lx_files.specs.declared.stop.InputStop.TheVariants as stops
 use Rattle.lx_files.specs.declared.sources.ImageFile.{ImageFile}
 use Rattle.lx_files.specs.declared.sources.Sources.{Sources}
 use Rattle.lx_files.specs.Asked.{Asked}
 use Rattle.lx_files.specs.Turns.{Gives}
 use Rattle.lx_files.specs.Inputs.{SourcesTurn}
-use Rattle.lx_files.specs.Laws.{IsOne, IsSettled, EndsAt, OneInput as OneSources, MissingFilesEnd as MissingSourcesEnd}
+use Rattle.lx_files.specs.Laws.{IsOne, EndsAt, OneInput as OneSources, MissingFilesEnd as MissingSourcesEnd}
 use Rattle.lx_files.proofs.Settled.{then_one, then_ends, gives_one}
 use Rattle.lx_input.specs.declared.input.Input.{Input}
 use Rattle.lx_input.specs.Lines.{verify_line, conflict_line, link_line}
-use Rattle.lx_input.specs.Checks.{Passed, VerifyTurn, PropagateTurn, EachModule}
-use Rattle.lx_input.specs.Inputs.{LinkTurn, ImageCheck, BehindLink, BehindSlots, BehindVerified, BehindKernel, CheckTurn, InputTurn, input_of, texts_of}
+use Rattle.lx_input.specs.Checks.{VerifyTurn, PropagateTurn, EachModule}
+use Rattle.lx_input.specs.Inputs.{LinkTurn, ImageCheck, BehindLink, BehindSlots, BehindVerified, BehindKernel, CheckTurn, InputTurn}
 use Rattle.lx_input.proofs.Each.{Turn}
 use Rattle.lx_input.proofs.Parts.{check_reads_none}
 

@@ -1,5 +1,5 @@
 -- What the checks answer is told as it is found.
-use Rattle.std.proofs.Common.{◌≡◌, refl, ℕ, List, Option, Some, None, Result, Ok, Err}
+use Rattle.std.proofs.Common.{◌≡◌, ℕ, List, Some, Err}
 use Rattle.lx_ir.specs.declared.module.Module.{Module}
 use Rattle.lx_ir.specs.Faults.{Fault, FirstFault}
 use Rattle.lx_ir.specs.Faults as finds

@@ -1,5 +1,5 @@
 -- Checks of texts that were read, each in its turn. Any of them may come to want of memory.
-use Rattle.std.specs.Prelude.{◌≡◌, ℕ, List, [], ◌∷◌, Option, Some, None, Result, Ok, Err}
+use Rattle.std.specs.Prelude.{◌≡◌, ℕ, List, ◌∷◌, Some, None, Result, Ok, Err}
 use Rattle.lx_ir.specs.declared.module.Module.{Module}
 use Rattle.lx_ir.specs.Faults.{Fault, FirstFault}
 use Rattle.lx_annot.specs.declared.interface.Interface.{Interface}

@@ -6,6 +6,7 @@ ghost use Rattle.lx_link.specs.Answers.{module_file};
 ghost use Rattle.lx_propagate.specs.Slots.{annotated_of};
 ghost use Rattle.lx_files.specs.Sound.{IsSoundModule};
 ghost use Rattle.lx_input.specs.Checks.{EachModule, PropagateTurn, VerifyTurn, passed};
+ghost use Rattle.lx_input.specs.Laws.{HasNoConflict};
 
 use crate::stop::{propagate_stop, verify_stop};
 use lx_annot::interface::Interface;
@@ -122,6 +123,7 @@ pub fn annotate_modules(
     requires { length modules.now ≡ length names.now }
     ensures turn { EachModule (PropagateTurn interface.now) names.now modules.now (passed result) }
     ensures same { IfOk result (λ list. list ≡ map (annotated_of interface.now) modules.now) }
+    ensures agree { IfOk result (λ _. All (HasNoConflict interface.now) modules.now) }
 {
     let mut list = Items::new(alloc);
     for verified in modules {

@@ -51,10 +51,10 @@ pub fn read_input<S: Shelf>(
 
 /// What the files of a command come to is settled: they are one input at most or have one first fault, and not both; and
 /// neither behind a file that is asked for and not there.
-pub fn one_input()
+pub fn input_laws()
     ensures one { OneInput }
     ensures missing { MissingFilesEnd }
 {
-    lx_files::one_input();
+    lx_files::input_laws();
     lx_ir_verify::verifier_laws();
 }

@@ -11,7 +11,7 @@ mod input;
 mod linked;
 mod stop;
 
-pub use input::{Input, one_input, read_input};
+pub use input::{Input, input_laws, read_input};
 pub use lx_files::{
     Asked, Besides, FaultKind, FaultLine, ImageFile, InputStop, fault_text, read_sources,
 };

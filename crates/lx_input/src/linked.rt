@@ -8,7 +8,7 @@ ghost use Rattle.lx_files.specs.Sound.{AreSound, IsOneOf, IsSoundImage};
 ghost use Rattle.lx_link.specs.Answers.{origin_name};
 ghost use Rattle.lx_input.specs.Checks.{passed};
 ghost use Rattle.lx_input.specs.Inputs.{BehindLink, CheckTurn, ImageCheck, LinkTurn};
-ghost use Rattle.lx_input.specs.Laws.{IsLinkedInput, IsReady, IsVerifiedImage};
+ghost use Rattle.lx_input.specs.Laws.{HasNoConflict, IsLinkedInput, IsReady, IsVerifiedImage};
 
 use crate::checks::{annotate_modules, verify_module, verify_modules};
 use crate::input::Input;
@@ -47,19 +47,20 @@ fn link_checked(
     alloc: Global,
     name: &[u8],
     case: &Case,
-    kernel: Verified,
-    interface: Interface,
-    modules: Vec<Verified>,
+    kernel: &Verified,
+    interface: &Interface,
+    modules: &[Verified],
     annotated: Items<Annotated>,
     besides: Besides,
 ) -> Result<Input, InputStop>
-    requires as_many { length modules.items ≡ length case.now.modules }
-    requires kernel_plain { IsPlain kernel }
-    requires modules_plain { All IsPlain modules.items }
-    requires interface { IsLawfulInterface interface }
-    requires annotated { annotated ≡ map (annotated_of interface) modules.items }
-    requires number { IsOneOf modules.items besides.number }
-    ensures turn { LinkTurn name.now (record { case = case.now; kernel = kernel; interface = interface; modules = modules.items; besides = besides }) result }
+    requires as_many { length modules.now ≡ length case.now.modules }
+    requires kernel_plain { IsPlain kernel.now }
+    requires modules_plain { All IsPlain modules.now }
+    requires interface { IsLawfulInterface interface.now }
+    requires annotated { annotated ≡ map (annotated_of interface.now) modules.now }
+    requires agree { All (HasNoConflict interface.now) modules.now }
+    requires number { IsOneOf modules.now besides.number }
+    ensures turn { LinkTurn name.now (record { case = case.now; kernel = kernel.now; interface = interface.now; modules = modules.now; besides = besides }) result }
     ensures linked { IfOk result IsLinkedInput }
     ensures besides { IfOk result (λ i. i.besides ≡ besides) }
 {
@@ -153,9 +154,10 @@ pub fn check_sources(alloc: Global, name: &[u8], sources: Sources) -> Result<Inp
     let names = case.modules.as_slice();
     let kernel = verify_module(alloc, origin_name(&case.kernel), kernel)?;
     let modules = verify_modules(alloc, names, modules.into_vec())?;
-    let annotated = annotate_modules(alloc, &interface, names, &modules)?;
+    let verified = modules.as_slice();
+    let annotated = annotate_modules(alloc, &interface, names, verified)?;
     let input = link_checked(
-        alloc, name, &case, kernel, interface, modules, annotated, besides,
+        alloc, name, &case, &kernel, &interface, verified, annotated, besides,
     )?;
     verify_image(alloc, input)
 }

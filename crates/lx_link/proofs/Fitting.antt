@@ -1,6 +1,6 @@
 -- What is linked without a fault.
-use Rattle.std.proofs.Common.{◌≡◌, ℕ, zero, suc, ◌+◌, ◌<◌, ◌≤◌, Bool, true, false, ◌&&◌, Option, Some, None, List, [], ◌∷◌, length, get_or, map, nat_eq, refl, ap, sym, subst, ◌∙◌, arith, ℤ}
-use Rattle.std.specs.Prelude.{All, slice_get, position, option_and_then, unwrap_or, zip, if◌then◌else◌, IsTrue}
+use Rattle.std.proofs.Common.{◌≡◌, ℕ, zero, suc, Bool, true, false, ◌&&◌, Option, Some, None, List, [], ◌∷◌, length, get_or, map, nat_eq, refl, ap, sym, subst, ◌∙◌, arith, ℤ}
+use Rattle.std.specs.Prelude.{All, slice_get, position, option_and_then, unwrap_or, if◌then◌else◌}
 use Rattle.std.specs.Option.{option_or}
 use Rattle.std.proofs.lemmas.Bool.Decides.{nat_tests}
 use Rattle.std.proofs.lemmas.Option.{slice_get-get_or}
@@ -8,7 +8,7 @@ use Rattle.std.proofs.lemmas.List.Quantifiers.{position-Some}
 use Rattle.lx_words.specs.declared.word.Width.{Width}
 use Rattle.lx_words.specs.declared.word.Width.TheVariants.{W1, W8, W16, W32, W64}
 use Rattle.lx_words.specs.Width.{bit_count}
-use Rattle.lx_words.specs.Word.{Word, word, word_of_int}
+use Rattle.lx_words.specs.Word.{word, word_of_int}
 use Rattle.lx_ir.specs.declared.module.Parameter.{Parameter}
 use Rattle.lx_ir.specs.declared.module.Function.{Function}
 use Rattle.lx_ir.specs.Faults.{first_some}
@@ -16,17 +16,15 @@ use Rattle.lx_ir.specs.Layout.{width_of}
 use Rattle.lx_model.specs.declared.program.Program.{Program}
 use Rattle.lx_model.specs.declared.program.ProgramFunction.{ProgramFunction}
 use Rattle.lx_model.specs.declared.program.ProgramFunction.TheVariants.{Native, Of}
-use Rattle.lx_model.specs.Program.{Home, same_home, module_of, is_entry, number_of, function_of, function_of_entry, same_widths, param_widths}
+use Rattle.lx_model.specs.Program.{Home, same_home, module_of, is_entry, number_of, function_of, function_of_entry, same_widths}
 use Rattle.lx_model.specs.Fits.{FitsFunction, widths}
 use Rattle.lx_script.specs.declared.case.CaseArg.{CaseArg}
 use Rattle.lx_script.specs.declared.case.CaseCall.{CaseCall}
-use Rattle.lx_script.specs.Case.{Case}
 use Rattle.lx_link_texts.specs.Faults.{Fault, fault_unless, defines, text_fault, limit_fault}
 use Rattle.lx_link_texts.specs.Placing.{program_of}
 use Rattle.lx_link_texts.specs.WellFormed.{FitsCall, FitsCalls}
 use Rattle.lx_link_texts.specs.Laws.{AreWellFormed}
 use Rattle.lx_link.specs.Calls.{is_in_range, value_or_zero, argument_value, argument_word, argument_words, all_fit, are_in_range, params_of, parameters, function_named, target, argument_fault, call_fault, call_fault_by, thread_fault, script_fault, call_to, resolved, calls_of}
-use Rattle.lx_link.specs.Answers.{link_fault}
 use Rattle.lx_link.specs.Laws.{AreWellLinked, CallsFit}
 
 -- Rows of passes.

@@ -1,7 +1,7 @@
 -- Lemmas on modules that are named one after another, and on what is linked of them.
-use Rattle.std.proofs.Common.{◌≡◌, ℕ, zero, suc, ◌+◌, ◌<◌, ◌≤◌, Option, None, List, [], ◌∷◌, ◌++◌, ◌^◌, length, get_or, take, refl, ap, sym, subst, ◌∙◌, arith}
+use Rattle.std.proofs.Common.{◌≡◌, ℕ, zero, suc, ◌+◌, ◌<◌, ◌≤◌, None, List, [], ◌∷◌, ◌++◌, length, get_or, take, refl, ap, sym, subst, ◌∙◌, arith}
 use Rattle.std.specs.Prelude.{All}
-use Rattle.std.proofs.lemmas.List.{length-append, length-take, take_more}
+use Rattle.std.proofs.lemmas.List.{length-take, take_more}
 use Rattle.std.proofs.lemmas.List.Elements.{All-append}
 use Rattle.lx_ir.specs.declared.module.Module.{Module}
 use Rattle.lx_ir.specs.Lawful.{IsPlain}
@@ -24,23 +24,15 @@ last_named [] (y ∷ ys) n m e = absurd (omega (arith, e))
 last_named (x ∷ xs) [] n m e = absurd (omega (arith, e))
 last_named (x ∷ xs) (y ∷ ys) n m e = ap (λ l. named x y ∷ l) (last_named xs ys n m (omega (arith, e)))
 
-named_behind : (ns : List CaseModule) (ms : List Module) (k : ℕ) (n : CaseModule) (m : Module) (old new : List ProgramModule) → k ≡ length ms → k < length ns → n ≡ get_or ns k n
-    → old ≡ named_modules (take k ns) ms → new ≡ old ++ named n m ∷ [] → new ≡ named_modules (take (k + 1) ns) (ms ++ m ∷ [])
-named_behind ns ms k n m old new c h e p q =
-    let few : length (take k ns) ≡ length ms = grind (arith, length-take) in
-    let more : take (k + 1) ns ≡ take k ns ++ n ∷ [] = take_more ns k n h ∙ ap (λ x. take k ns ++ x ∷ []) (sym e) in
-    q ∙ ap (λ l. l ++ named n m ∷ []) p ∙ sym (last_named (take k ns) ms n m few) ∙ ap (λ l. named_modules l (ms ++ m ∷ [])) (sym more)
-
--- one module more: the list, and its length
-pub named_more : (ns : List CaseModule) (ms : List Module) (k : ℕ) (n : CaseModule) (m : Module) (old new : List ProgramModule) → k ≡ length old → length old ≡ length ms → k < length ns → n ≡ get_or ns k n
-    → old ≡ named_modules (take (length ms) ns) ms → new ≡ old ++ named n m ∷ [] → new ≡ named_modules (take (length (ms ++ m ∷ [])) ns) (ms ++ m ∷ [])
-named_more ns ms k n m old new a b h e p q =
-    let same : k ≡ length ms = a ∙ b in
-    let more : length (ms ++ m ∷ []) ≡ k + 1 = length-append ms (m ∷ []) ∙ ap (λ z. z + 1) (sym same) in
-    named_behind ns ms k n m old new same h e (p ∙ ap (λ z. named_modules (take z ns) ms) (sym same)) q ∙ ap (λ z. named_modules (take z ns) (ms ++ m ∷ [])) (sym more)
-
-pub longer : (ms : List Module) (n : CaseModule) (m : Module) (old new : List ProgramModule) → length old ≡ length ms → new ≡ old ++ named n m ∷ [] → length new ≡ length (ms ++ m ∷ [])
-longer ms n m old new b q = ap length q ∙ length-append old (named n m ∷ []) ∙ ap (λ z. z + 1) b ∙ sym (length-append ms (m ∷ []))
+-- one module more
+pub named_more : (ns : List CaseModule) (ms : List Module) (i : ℕ) (n : CaseModule) (m : Module) (old new : List ProgramModule) → length ms ≡ length ns → i < length ms → n ≡ get_or ns i n → m ≡ get_or ms i m
+    → old ≡ named_modules (take i ns) (take i ms) → new ≡ old ++ named n m ∷ [] → new ≡ named_modules (take (i + 1) ns) (take (i + 1) ms)
+named_more ns ms i n m old new many h e d p q =
+    let there : i < length ns = grind (arith, many) in
+    let few : length (take i ns) ≡ length (take i ms) = grind (arith, length-take) in
+    let names : take (i + 1) ns ≡ take i ns ++ n ∷ [] = take_more ns i n there ∙ ap (λ x. take i ns ++ x ∷ []) (sym e) in
+    let modules : take (i + 1) ms ≡ take i ms ++ m ∷ [] = take_more ms i m h ∙ ap (λ x. take i ms ++ x ∷ []) (sym d) in
+    q ∙ ap (λ l. l ++ named n m ∷ []) p ∙ sym (last_named (take i ns) (take i ms) n m few) ∙ (λ j. named_modules (sym names j) (sym modules j))
 
 one : (m : Module) → IsVerified m → (n : CaseModule) → AreVerified (named n m ∷ [])
 one m v n zero d h = v
@@ -58,10 +50,10 @@ few [] ms = omega arith
 few (n ∷ ns) [] = omega arith
 few (n ∷ ns) (m ∷ ms) = let less = few ns ms in omega (arith, less)
 
-pub within_limits : VerifiedHaveLimits → (kernel : Module) (i : Interface) (c : Case) (ms : List Module) (list : List ProgramModule) → IsVerified kernel → AreVerified list → list ≡ named_modules c.modules ms → IsWithinLimits c.modules c.threads → HasLimits (sources_of kernel i list)
-within_limits law kernel i c ms list k v e w =
-    let less : length list ≤ length c.modules = subst (λ l. length l ≤ length c.modules) (sym e) (few c.modules ms) in
-    law (sources_of kernel i list) k v (omega (arith, less, w.modules_within))
+pub within_limits : VerifiedHaveLimits → (kernel : Module) (i : Interface) (c : Case) (ms : List Module) (s : Sources) → IsVerified s.kernel → AreVerified s.modules → s ≡ sources_of kernel i (named_modules c.modules ms) → IsWithinLimits c.modules c.threads → HasLimits s
+within_limits law kernel i c ms s k v e w =
+    let less : length s.modules ≤ length c.modules = subst (λ (t : Sources). length t.modules ≤ length c.modules) (sym e) (few c.modules ms) in
+    law s k v (omega (arith, less, w.modules_within))
 
 sound : (ns : List CaseModule) (ms : List Module) → All IsPlain ms → AreVerified (named_modules ns ms) → All IsSound (named_modules ns ms)
 sound [] ms p v k d h = absurd (omega (arith, h))
@@ -69,12 +61,14 @@ sound (n ∷ ns) [] p v k d h = absurd (omega (arith, h))
 sound (n ∷ ns) (m ∷ ms) p v zero d h = (v zero d h, p zero m (omega arith))
 sound (n ∷ ns) (m ∷ ms) p v (suc k) d h = sound ns ms (λ j x g. p (suc j) x (omega (arith, g))) (λ j x g. v (suc j) x (omega (arith, g))) k d (omega (arith, h))
 
-pub is_linked : AreWellLinked → CallsFit → (kernel : Module) (i : Interface) (c : Case) (ms : List Module) (list : List ProgramModule) (parts : LinkedParts) → IsVerified kernel → IsPlain kernel → IsLawfulInterface i → All IsPlain ms → AreVerified list → list ≡ named_modules c.modules ms → link_fault (sources_of kernel i list) c ≡ None → parts ≡ linked_of (sources_of kernel i list) c → IsLinked parts
-is_linked linked fit kernel i c ms list parts k p lawful plain v e none is =
-    let all : All IsSound list = subst (All IsSound) (sym e) (sound c.modules ms plain (subst AreVerified e v)) in
-    let s : Sources = sources_of kernel i list in
-    subst IsLinked (sym is)
+pub is_linked : AreWellLinked → CallsFit → (kernel : Module) (i : Interface) (c : Case) (ms : List Module) (s : Sources) (parts : LinkedParts) → IsVerified s.kernel × AreVerified s.modules → IsPlain kernel → IsLawfulInterface i → All IsPlain ms
+    → s ≡ sources_of kernel i (named_modules c.modules ms) → link_fault s c ≡ None → parts ≡ linked_of s c → IsLinked parts
+is_linked linked fit kernel i c ms s parts v p lawful plain e none is =
+    let texts : Sources = sources_of kernel i (named_modules c.modules ms) in
+    let verified : IsVerified kernel × AreVerified (named_modules c.modules ms) = subst (λ (t : Sources). IsVerified t.kernel × AreVerified t.modules) e v in
+    let free : link_fault texts c ≡ None = subst (λ (t : Sources). link_fault t c ≡ None) e none in
+    subst IsLinked (sym (subst (λ (t : Sources). parts ≡ linked_of t c) e is))
     (record {
-      program = linked s c (record { kernel = k; kernel_plain = p; interface = lawful; modules = all }) none;
-      calls = fit s c none;
+      program = linked texts c (record { kernel = verified.0; kernel_plain = p; interface = lawful; modules = sound c.modules ms plain verified.1 }) free;
+      calls = fit texts c free;
     })

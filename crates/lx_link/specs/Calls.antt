@@ -1,5 +1,5 @@
 -- The calls of a script, over a program.
-use Rattle.std.specs.Prelude.{ℕ, zero, suc, ◌+◌, ◌/◌, Bool, true, false, ◌&&◌, Option, Some, None, List, [], ◌∷◌, find, map, nat_eq, nat_lt, option_map, option_and_then, position, unwrap_or, bytes_eq, is_some, length, zip, if◌then◌else◌, ℤ, pos, negsuc}
+use Rattle.std.specs.Prelude.{ℕ, ◌/◌, Bool, ◌&&◌, Option, Some, None, List, [], map, nat_eq, nat_lt, option_map, option_and_then, position, unwrap_or, bytes_eq, is_some, length, zip, if◌then◌else◌, ℤ, pos, negsuc}
 use Rattle.std.specs.List.{list_all}
 use Rattle.std.specs.Option.{option_or}
 use Rattle.lx_words.specs.declared.word.Width.{Width}
@@ -7,7 +7,6 @@ use Rattle.lx_words.specs.Width.{modulus}
 use Rattle.lx_words.specs.Word.{Word, word, word_of_int}
 use Rattle.lx_ir.specs.declared.module.Parameter.{Parameter}
 use Rattle.lx_ir.specs.declared.module.Function.{Function}
-use Rattle.lx_ir.specs.declared.module.Module.{Module}
 use Rattle.lx_ir.specs.Faults.{first_some}
 use Rattle.lx_ir.specs.Layout.{width_of}
 use Rattle.lx_model.specs.declared.program.Program.{Program}

@@ -1,26 +1,16 @@
 //! The arguments of a call: whether they fit the parameters, and their words.
 ghost use Rattle.std.specs.Prelude.{◌≡◌, ◌≤◌, IfOk, is_some, length};
 ghost use Rattle.std.specs.List.{list_all};
-ghost use Rattle.lx_ir.specs.Layout.{width_of};
 ghost use Rattle.lx_link_texts.specs.Faults.{most_functions};
 ghost use Rattle.lx_link.specs.Calls.{all_fit, are_in_range, argument_value, argument_word, argument_words, value_or_zero, word_in, word_of_argument};
 
 use crate::names::named_address;
+use lx_call_targets::width_of;
 use lx_ir::module::Parameter;
-use lx_ir::types::Scalar;
 use lx_model::program::Program;
 use lx_script::CaseArg;
 use lx_words::{Items, Memory, Width, Word, Words};
 use std::alloc::Global;
-
-fn width_of(ty: Scalar) -> Width
-    ensures { result ≡ width_of ty }
-{
-    match ty {
-        Scalar::Int(width) => width,
-        Scalar::Ptr => Width::W64,
-    }
-}
 
 /// The word of a value at a width; none where it is below the least signed one or above the greatest unsigned one.
 fn word_in(width: Width, value: i128) -> Option<Word>

@@ -21,6 +21,7 @@ use lx_link_texts::{check_limits, check_texts};
 use lx_model::program::{Program, ProgramModule};
 use lx_script::{Case, CaseModule};
 use lx_slot_types::Annotated;
+use lx_text_copies::{copied_interface, copied_module};
 use lx_words::{Items, Memory, Name};
 use std::alloc::Global;
 
@@ -118,71 +119,85 @@ fn push_module(
     alloc: Global,
     list: &mut Items<ProgramModule>,
     name: &CaseModule,
-    verified: Verified,
+    verified: &Verified,
 ) -> Result<(), Memory>
-    ensures list { OnOk result (list.new ≡ list.old ++ named name.now verified ∷ []) }
-    ensures verified { OnOk result (IsVerified verified) }
+    ensures list { OnOk result (list.new ≡ list.old ++ named name.now verified.now ∷ []) }
+    ensures verified { OnOk result (IsVerified verified.now) }
 {
     let name = Name::from_bytes(alloc, name.name.as_slice())?;
-    list.push(ProgramModule {
-        name,
-        module: verified.into_module(),
-    })?;
+    let module = copied_module(alloc, verified.module())?;
+    list.push(ProgramModule { name, module })?;
     Ok(())
 }
 
-/// The modules with the names that the case gives them.
-#[tactic(auto, using(crate::proofs::Modules::named_more, crate::proofs::Modules::longer, crate::proofs::Modules::verified_more))]
-pub fn named_modules(
+/// Copies of the modules, with the names that the case gives them.
+#[tactic(auto, using(crate::proofs::Modules::named_more, crate::proofs::Modules::verified_more))]
+fn named_modules(
     alloc: Global,
     names: &[CaseModule],
-    modules: Vec<Verified>,
+    modules: &[Verified],
 ) -> Result<Items<ProgramModule>, Memory>
-    requires { length modules.items ≡ length names.now }
-    ensures list { IfOk result (λ list. list ≡ named_modules names.now modules.items) }
+    requires { length modules.now ≡ length names.now }
+    ensures list { IfOk result (λ list. list ≡ named_modules names.now modules.now) }
     ensures verified { IfOk result AreVerified }
 {
     let mut list = Items::new(alloc);
-    for verified in modules {
-        let name = &names[list.len()];
-        push_module(alloc, &mut list, name, verified)?;
+    for i in 0..modules.len() {
+        push_module(alloc, &mut list, &names[i], &modules[i])?;
     }
     Ok(list)
+}
+
+/// Copies of the texts, with the names that the case gives the modules.
+pub fn copied_sources(
+    alloc: Global,
+    kernel: &Verified,
+    interface: &Interface,
+    names: &[CaseModule],
+    modules: &[Verified],
+) -> Result<Sources, Memory>
+    requires { length modules.now ≡ length names.now }
+    ensures sources { IfOk result (λ sources. sources ≡ sources_of kernel.now interface.now (named_modules names.now modules.now)) }
+    ensures verified { IfOk result (λ sources. IsVerified sources.kernel × AreVerified sources.modules) }
+{
+    let modules = named_modules(alloc, names, modules)?;
+    let kernel = copied_module(alloc, kernel.module())?;
+    let interface = copied_interface(alloc, interface)?;
+    Ok(Sources {
+        kernel,
+        interface,
+        modules,
+    })
 }
 
 /// Links over any means.
 #[tactic(auto, using(crate::proofs::Passes::no_modules, crate::proofs::Passes::either_wanted, crate::proofs::Modules::is_linked))]
 fn link_by<M: Means>(
     means: &M,
-    kernel: Verified,
-    interface: Interface,
-    modules: Vec<Verified>,
+    kernel: &Verified,
+    interface: &Interface,
+    modules: &[Verified],
     annotated: &[Annotated],
     case: &Case,
 ) -> Result<Linked, LinkFault>
-    requires modules { length modules.items ≡ length case.now.modules }
-    requires kernel_plain { IsPlain kernel }
-    requires modules_plain { All IsPlain modules.items }
-    requires interface { IsLawfulInterface interface }
-    requires annotated { annotated.now ≡ all_annotated (sources_of kernel interface (named_modules case.now.modules modules.items)) }
-    ensures fault { StopsOr (M.unnamed means.now ⊎ M.lacks means.now) case.now (link_fault (sources_of kernel interface (named_modules case.now.modules modules.items)) case.now) result }
-    ensures ok { IfOk result (λ linked. linked ≡ linked_of (sources_of kernel interface (named_modules case.now.modules modules.items)) case.now) }
+    requires modules { length modules.now ≡ length case.now.modules }
+    requires kernel_plain { IsPlain kernel.now }
+    requires modules_plain { All IsPlain modules.now }
+    requires interface { IsLawfulInterface interface.now }
+    requires annotated { annotated.now ≡ all_annotated (sources_of kernel.now interface.now (named_modules case.now.modules modules.now)) }
+    ensures fault { StopsOr (M.unnamed means.now ⊎ M.lacks means.now) case.now (link_fault (sources_of kernel.now interface.now (named_modules case.now.modules modules.now)) case.now) result }
+    ensures ok { IfOk result (λ linked. linked ≡ linked_of (sources_of kernel.now interface.now (named_modules case.now.modules modules.now)) case.now) }
 {
     lx_link_texts::text_laws();
     link_laws();
-    let modules = means.named_modules(case.modules.as_slice(), modules)?;
-    let sources = Sources {
-        kernel: kernel.into_module(),
-        interface,
-        modules,
-    };
+    let sources = means.sources(kernel, interface, case.modules.as_slice(), modules)?;
     let parts = link_sources(means, case, sources, annotated)?;
     Ok(Linked::new(parts))
 }
 
-/// Links a kernel, an interface and the modules of a case, and gives the calls of the case by numbers and words.
-/// There are as many modules as the case has, in its order, and `annotated` has for each the functions that have a
-/// slot type.
+/// Links a kernel, an interface and the modules of a case, and gives the calls of the case by numbers and words. The program
+/// has copies of them, which take memory and time linear in the texts. There are as many modules as the case has, in its
+/// order, and `annotated` has for each the functions that have a slot type.
 ///
 /// # Errors
 /// The first fault, in this order: an indirect call of the kernel (5); an export that the kernel lacks (1) or has with
@@ -190,24 +205,24 @@ fn link_by<M: Means>(
 /// another signature (3); an import of a module that the kernel lacks (1), that is not exported (2) or that has another
 /// signature (3); an annotated function with another signature than its slot type (3); too many functions or bytes of
 /// globals (4); a call whose target or whose argument's name is missing (1), or whose arguments do not fit (3).
-/// `Memory` where there was not enough: for the modules' names, for the names in the fault, or, where neither the texts
-/// nor the limits have a fault, for what is linked. All faults but those of calls are found without memory.
+/// `Memory` where there was not enough: for the copies of the texts, for the names in the fault, or, where neither the texts
+/// nor the limits have a fault, for what is linked. Behind the copies, all faults but those of calls are found without memory.
 #[tactic(auto, using(crate::proofs::Passes::any_want))]
 pub fn link(
     alloc: Global,
-    kernel: Verified,
-    interface: Interface,
-    modules: Vec<Verified>,
+    kernel: &Verified,
+    interface: &Interface,
+    modules: &[Verified],
     annotated: &[Annotated],
     case: &Case,
 ) -> Result<Linked, LinkFault>
-    requires modules { length modules.items ≡ length case.now.modules }
-    requires kernel_plain { IsPlain kernel }
-    requires modules_plain { All IsPlain modules.items }
-    requires interface { IsLawfulInterface interface }
-    requires annotated { annotated.now ≡ all_annotated (sources_of kernel interface (named_modules case.now.modules modules.items)) }
-    ensures fault { Stops case.now (link_fault (sources_of kernel interface (named_modules case.now.modules modules.items)) case.now) result }
-    ensures ok { IfOk result (λ linked. linked ≡ linked_of (sources_of kernel interface (named_modules case.now.modules modules.items)) case.now) }
+    requires modules { length modules.now ≡ length case.now.modules }
+    requires kernel_plain { IsPlain kernel.now }
+    requires modules_plain { All IsPlain modules.now }
+    requires interface { IsLawfulInterface interface.now }
+    requires annotated { annotated.now ≡ all_annotated (sources_of kernel.now interface.now (named_modules case.now.modules modules.now)) }
+    ensures fault { Stops case.now (link_fault (sources_of kernel.now interface.now (named_modules case.now.modules modules.now)) case.now) result }
+    ensures ok { IfOk result (λ linked. linked ≡ linked_of (sources_of kernel.now interface.now (named_modules case.now.modules modules.now)) case.now) }
 {
     let linked = link_by(&alloc, kernel, interface, modules, annotated, case)?;
     Ok(linked)

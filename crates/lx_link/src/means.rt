@@ -1,19 +1,21 @@
 //! What linking makes that takes memory.
 ghost use Rattle.std.specs.Prelude.{◌≡◌, ◌≤◌, IfOk, OnErr, length, ⊤};
+ghost use Rattle.lx_ir.specs.Verified.{IsVerified};
 ghost use Rattle.lx_link_texts.specs.Faults.{most_functions};
 ghost use Rattle.lx_link_texts.specs.Placing.{HasLimits, functions_of, globals_end, globals_of, last_end};
-ghost use Rattle.lx_link.specs.Answers.{AreVerified, answered, named_modules};
+ghost use Rattle.lx_link.specs.Answers.{AreVerified, answered, named_modules, sources_of};
 ghost use Rattle.lx_link.specs.Calls.{calls_of};
 
 use crate::answers::answered;
 use crate::calls::resolve;
 use crate::fault::LinkFault;
-use crate::linking::named_modules;
+use crate::linking::copied_sources;
+use lx_annot::interface::Interface;
 use lx_ir_verify::Verified;
 use lx_link_texts::fault::Found;
 use lx_link_texts::sources::Sources;
 use lx_link_texts::{functions_of, globals_of};
-use lx_model::program::{Calls, Program, ProgramFunction, ProgramGlobal, ProgramModule};
+use lx_model::program::{Calls, Program, ProgramFunction, ProgramGlobal};
 use lx_script::{Case, CaseModule, CaseThread};
 use lx_words::{Items, Memory};
 use std::alloc::Global;
@@ -24,7 +26,7 @@ pub trait Means {
     /// There was no memory for the names of a fault.
     ghost unnamed: { Self → Type 0 };
 
-    /// There was no memory for modules, tables or calls.
+    /// There was no memory for copies, tables or calls.
     ghost lacks: { Self → Type 0 };
 
     /// The fault that is answered for one that was found.
@@ -32,15 +34,17 @@ pub trait Means {
         ensures ok { IfOk result (λ fault. fault ≡ answered case.now found.now) }
         ensures err { OnErr result (unnamed self.now) };
 
-    /// The modules with the names that the case gives them.
-    fn named_modules(
+    /// Copies of the texts, with the names that the case gives the modules.
+    fn sources(
         &self,
+        kernel: &Verified,
+        interface: &Interface,
         names: &[CaseModule],
-        modules: Vec<Verified>,
-    ) -> Result<Items<ProgramModule>, Memory>
-        requires { length modules.items ≡ length names.now }
-        ensures list { IfOk result (λ list. list ≡ named_modules names.now modules.items) }
-        ensures verified { IfOk result AreVerified }
+        modules: &[Verified],
+    ) -> Result<Sources, Memory>
+        requires { length modules.now ≡ length names.now }
+        ensures sources { IfOk result (λ sources. sources ≡ sources_of kernel.now interface.now (named_modules names.now modules.now)) }
+        ensures verified { IfOk result (λ sources. IsVerified sources.kernel × AreVerified sources.modules) }
         ensures err { OnErr result (lacks self.now) };
 
     /// The functions of texts by number.
@@ -73,13 +77,15 @@ impl Means for Global {
         Ok(fault)
     }
 
-    fn named_modules(
+    fn sources(
         &self,
+        kernel: &Verified,
+        interface: &Interface,
         names: &[CaseModule],
-        modules: Vec<Verified>,
-    ) -> Result<Items<ProgramModule>, Memory> {
-        let list = named_modules(*self, names, modules)?;
-        Ok(list)
+        modules: &[Verified],
+    ) -> Result<Sources, Memory> {
+        let sources = copied_sources(*self, kernel, interface, names, modules)?;
+        Ok(sources)
     }
 
     fn functions(&self, sources: &Sources) -> Result<Items<ProgramFunction>, Memory> {

@@ -4,18 +4,10 @@ ghost use Rattle.lx_model.specs.Program.{address_of, global_address, is_entry, m
 ghost use Rattle.lx_link_texts.specs.Faults.{defines, most_functions};
 ghost use Rattle.lx_link.specs.Calls.{function_named, global_named, named_address};
 
+use lx_call_targets::is_same_home;
 use lx_ir::module::{Function, GlobalVar};
+use lx_link_texts::defines;
 use lx_model::program::{Program, ProgramFunction, ProgramGlobal};
-
-fn is_same_home(a: Option<u32>, b: Option<u32>) -> bool
-    ensures { result ≡ same_home a b }
-{
-    match (a, b) {
-        (None, None) => true,
-        (Some(m), Some(n)) => m == n,
-        _ => false,
-    }
-}
 
 /// The functions of a text.
 pub fn functions_in(program: &Program, home: Option<u32>) -> &[Function]
@@ -41,12 +33,6 @@ fn globals_in(program: &Program, home: Option<u32>) -> &[GlobalVar]
             Some(entry) => entry.module.globals.as_slice(),
         },
     }
-}
-
-fn defines(function: &Function, name: &[u8]) -> bool
-    ensures { result ≡ defines name.now function.now }
-{
-    function.blocks.is_some() && function.name.is_same(name)
 }
 
 fn place_named(functions: &[Function], name: &[u8]) -> Option<usize>

@@ -23,7 +23,8 @@ use Rattle.lx_link_texts.specs.declared.fault.FaultKind.TheVariants.{Missing, Un
 use Rattle.lx_link_texts.specs.declared.fault.Source.{Source}
 use Rattle.lx_link_texts.specs.declared.fault.Source.TheVariants as source
 use Rattle.lx_link_texts.specs.declared.sources.Sources.{Sources}
-use Rattle.lx_link_texts.specs.Signatures.{has_export_signature, has_slot_signature, has_slot_call_signature, has_native_signature, have_same_signature}
+use Rattle.lx_model.specs.Program.{has_slot_signature}
+use Rattle.lx_link_texts.specs.Signatures.{has_export_signature, has_slot_call_signature, has_native_signature, have_same_signature}
 use Rattle.lx_link_texts.specs.Placing.{HasLimits, HasLawfulGlobals, functions_of, globals_end, last_end, program_of}
 use Rattle.lx_link_texts.specs.Faults.{Fault, fault, fault_of, fault_unless, first_module, calls_indirectly, kernel_call_fault, defined, export_fault, export_fault_by, kernel_native, slot_called, kernel_import_fault, kernel_import_fault_by, is_alias, is_kernel_name, is_exported, import_fault_by, module_import_fault, imports_fault, slot_fault, slot_fault_by, slots_fault, text_fault, limit_fault, functions_fault, globals_fault, most_functions}
 use Rattle.lx_link_texts.specs.WellFormed.{IsWellFormed, IsModuleOf, is_export_of, is_exported_well, is_kernel_import_by, is_kernel_import, is_import_of, is_module_import, has_slot_of, is_marked_well}

@@ -12,13 +12,13 @@ use Rattle.lx_annot.specs.declared.interface.Interface.{Interface}
 use Rattle.lx_slot_types.specs.declared.Marked.{Marked}
 use Rattle.lx_propagate.specs.Slots.{annotated_of}
 use Rattle.lx_model.specs.declared.program.ProgramModule.{ProgramModule}
-use Rattle.lx_model.specs.Program.{native_names}
+use Rattle.lx_model.specs.Program.{has_slot_signature, native_names}
 use Rattle.lx_link_texts.specs.declared.fault.FaultKind.{FaultKind}
 use Rattle.lx_link_texts.specs.declared.fault.FaultKind.TheVariants.{Missing, Unannotated, SignatureDiffers, TooLarge, KernelIndirect}
 use Rattle.lx_link_texts.specs.declared.fault.Source.{Source}
 use Rattle.lx_link_texts.specs.declared.fault.Source.TheVariants as source
 use Rattle.lx_link_texts.specs.declared.sources.Sources.{Sources}
-use Rattle.lx_link_texts.specs.Signatures.{has_export_signature, has_slot_signature, has_slot_call_signature, has_native_signature, have_same_signature}
+use Rattle.lx_link_texts.specs.Signatures.{has_export_signature, has_slot_call_signature, has_native_signature, have_same_signature}
 use Rattle.lx_link_texts.specs.Placing.{functions_of, globals_end, last_end}
 
 -- a fault: its kind, the text that has it and its line there, and the name of a function or global, or the word for a limit

@@ -16,7 +16,8 @@ use Rattle.lx_model.specs.declared.program.ProgramModule.{ProgramModule}
 use Rattle.lx_model.specs.declared.program.ScriptCall.{ScriptCall}
 use Rattle.lx_model.specs.Fits.{FitsFunction}
 use Rattle.lx_link_texts.specs.declared.sources.Sources.{Sources}
-use Rattle.lx_link_texts.specs.Signatures.{has_export_signature, has_slot_signature, has_slot_call_signature, has_native_signature, have_same_signature}
+use Rattle.lx_model.specs.Program.{has_slot_signature}
+use Rattle.lx_link_texts.specs.Signatures.{has_export_signature, has_slot_call_signature, has_native_signature, have_same_signature}
 use Rattle.lx_link_texts.specs.Placing.{functions_of, globals_of, globals_end, last_end}
 use Rattle.lx_annot.specs.Lawful.{IsLawfulInterface}
 use Rattle.lx_link_texts.specs.Faults.{calls_indirectly, defined, kernel_native, slot_called, is_alias, is_kernel_name, is_exported, most_functions}

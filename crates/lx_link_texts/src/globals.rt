@@ -5,21 +5,22 @@ ghost use Rattle.lx_link_texts.specs.Placing.{HasGlobals, HasLawfulGlobals, HasL
 
 use crate::limits::do_globals_fit;
 use crate::sources::Sources;
+use lx_caps::GLOBALS_START;
 use lx_ir::module::{GlobalVar, Module};
 use lx_ir::size_of;
 use lx_model::program::{ProgramGlobal, ProgramModule};
 use lx_words::{Items, Memory};
 use std::alloc::Global;
-
-/// Where the region of globals begins.
-pub const GLOBALS_START: u64 = 0x1000000;
+use thiserror::Error;
 
 /// Why globals have no place.
-#[derive(Clone, Copy, Debug, PartialEq, Eq)]
+#[derive(Clone, Copy, Debug, PartialEq, Eq, Error)]
 pub enum PlaceError {
     /// They end past the region.
+    #[error("the globals end past their region")]
     Past,
     /// There was not enough memory.
+    #[error("out of memory")]
     Memory,
 }
 

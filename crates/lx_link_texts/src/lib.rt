@@ -18,6 +18,7 @@ mod texts;
 pub use functions::functions_of;
 pub use globals::{PlaceError, globals_of};
 pub use limits::check_limits;
+pub use lookup::{defines, is_alias, is_indirect_call};
 pub use texts::check_texts;
 
 /// Sound texts without a fault make a well-formed program, and verified ones are within what is numbered.

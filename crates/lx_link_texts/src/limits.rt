@@ -5,8 +5,9 @@ ghost use Rattle.lx_link_texts.specs.Faults.{Gives, fault, functions_fault, glob
 ghost use Rattle.lx_link_texts.specs.Placing.{HasFewFunctions, HasGlobals, HasLawfulGlobals, HasLimits, end_behind, entries_from, functions_of, globals_end, last_end, module_entries, modules_end, start_behind};
 
 use crate::fault::{FaultKind, Found, Source};
-use crate::globals::{GLOBALS_START, global_size, start_behind};
+use crate::globals::{global_size, start_behind};
 use crate::sources::Sources;
+use lx_caps::{GLOBALS_START, REGION_SIZE};
 use lx_ir::module::{Function, Module};
 use lx_model::program::ProgramModule;
 
@@ -17,7 +18,7 @@ const MOST_FUNCTIONS: u64 = 65_536;
 const NATIVES: u64 = 6;
 
 /// Where the region of globals ends.
-const LAST_END: u64 = 0x1100000;
+const LAST_END: u64 = GLOBALS_START + REGION_SIZE;
 
 /// Globals end past their region.
 #[derive(Clone, Copy)]

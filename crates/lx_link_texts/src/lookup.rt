@@ -1,12 +1,13 @@
 //! What names name.
 ghost use Rattle.std.specs.Prelude.{◌≡◌, ◌<◌, ◌++◌, IfSome, bytes_eq, codes, option_copied};
 ghost use Rattle.std.specs.List.{list_any};
-ghost use Rattle.lx_ir.specs.Lookup.{is_indirect_call, blocks_of};
+ghost use Rattle.lx_ir.specs.Lookup.{is_indirect_call};
 ghost use Rattle.lx_link_texts.specs.Faults.{calls_indirectly, defined, defines, is_alias, is_exported, is_kernel_name, kernel_native, slot_called};
 
 use lx_annot::interface::{Interface, Slot};
 use lx_ir::instr::{Callee, Instr, Op};
 use lx_ir::module::{Block, Function, Module};
+use lx_ir_walks::blocks_of;
 
 /// Whether the text defines the function, under this name.
 pub fn defines(function: &Function, name: &[u8]) -> bool
@@ -105,7 +106,8 @@ pub fn is_exported(interface: &Interface, name: &[u8]) -> bool
         .any(|export| export.name.is_same(name))
 }
 
-fn is_indirect_call(op: &Op) -> bool
+/// Whether an instruction calls what a register holds.
+pub fn is_indirect_call(op: &Op) -> bool
     ensures { result ≡ is_indirect_call op.now }
 {
     matches!(
@@ -121,15 +123,6 @@ fn have_indirect_call(instrs: &[Instr]) -> bool
     ensures { result ≡ list_any (λ i. is_indirect_call i.op) instrs.now }
 {
     instrs.iter().any(|instr| is_indirect_call(&instr.op))
-}
-
-fn blocks_of(function: &Function) -> &[Block]
-    ensures { result.now ≡ blocks_of function.now }
-{
-    match &function.blocks {
-        Some(blocks) => blocks.as_slice(),
-        None => &[],
-    }
 }
 
 fn have_indirect_calls(blocks: &[Block]) -> bool

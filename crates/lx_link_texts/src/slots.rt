@@ -6,9 +6,9 @@ ghost use Rattle.lx_propagate.specs.Slots.{annotated_of};
 ghost use Rattle.lx_link_texts.specs.Faults.{Gives, all_annotated, first_module, slot_fault, slot_fault_by, slots_fault};
 
 use crate::fault::{FaultKind, Found, Source};
-use crate::signatures::has_slot_signature;
 use crate::sources::Sources;
 use lx_annot::interface::{Interface, Slot};
+use lx_call_targets::has_slot_signature;
 use lx_ir::module::{Function, Module};
 use lx_slot_types::{Annotated, Marked};
 

@@ -14,7 +14,7 @@ use Rattle.lx_model.specs.declared.request.Way.TheVariants.{Script, Direct, Indi
 use Rattle.lx_model.specs.declared.request.What.{What}
 use Rattle.lx_model.specs.declared.request.What.TheVariants as what
 use Rattle.lx_model.specs.declared.request.Request.{Request}
-use Rattle.lx_model.specs.Program.{NativeCall, Alloc, Free, ZeroBytes, TryLock, NoteValue, AliasPrincipal, native_call, same_result, result_width, function_of, is_in, param_widths, same_widths, slot_widths}
+use Rattle.lx_model.specs.Program.{NativeCall, Alloc, Free, ZeroBytes, TryLock, NoteValue, AliasPrincipal, native_call, same_result, result_width, function_of, is_in, param_widths, same_widths, are_declared}
 use Rattle.lx_model.specs.Next.{actions_of}
 use Rattle.lx_model.specs.Authority.{is_module}
 
@@ -26,7 +26,7 @@ abbrev pub FitsFunction : Program → ℕ → List Word → Type 0
 FitsFunction p n args = (f : Function) × (function_of p n ≡ Some f) × IsTrue (same_widths (widths args) (param_widths f))
 
 abbrev pub FitsSlot : Program → ℕ → List Word → Type 0
-FitsSlot p s args = (t : SlotType) × (slice_get p.interface.slots s ≡ Some t) × IsTrue (same_widths (widths args) (slot_widths t))
+FitsSlot p s args = (t : SlotType) × (slice_get p.interface.slots s ≡ Some t) × IsTrue (are_declared t.params (widths args))
 
 abbrev pub FitsWay : Program → Way → List Word → Type 0
 FitsWay p (Script n) args = FitsFunction p n args

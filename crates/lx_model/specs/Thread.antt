@@ -5,10 +5,10 @@ use Rattle.lx_words.specs.Word.{Word, word}
 use Rattle.lx_caps.specs.declared.Principal.{Principal}
 use Rattle.lx_caps.specs.Regions.{stack_start}
 use Rattle.lx_ir.specs.declared.instr.Op.{Op}
-use Rattle.lx_ir.specs.declared.instr.Op.TheVariants as op
 use Rattle.lx_ir.specs.declared.module.Block.{Block}
 use Rattle.lx_ir.specs.declared.module.Function.{Function}
 use Rattle.lx_ir.specs.Lookup.{blocks_of}
+use Rattle.lx_ir.specs.Operands.{given_by}
 use Rattle.lx_model.specs.declared.program.Program.{Program}
 use Rattle.lx_model.specs.declared.program.ScriptCall.{ScriptCall}
 use Rattle.lx_model.specs.declared.request.Outcome.{Outcome}
@@ -85,20 +85,6 @@ zero_word = word W1 0
 abbrev pub register : Activation → ℕ → Word
 register a r = slice_index_or a.registers r zero_word
 
--- the register that an instruction gives
-abbrev pub destination : Op → Option ℕ
-destination (op.Binary to o ty a b) = Some to
-destination (op.Compare to pred ty a b) = Some to
-destination (op.Convert to how from a into) = Some to
-destination (op.Freeze to ty a) = Some to
-destination (op.Select to test ty a b) = Some to
-destination (op.Phi to ty edges) = Some to
-destination (op.Alloca to ty) = Some to
-destination (op.Load to ty at) = Some to
-destination (op.GetElementPtr to ty base indices) = Some to
-destination (op.Call to ret callee args) = to
-destination _ = None
-
 -- registers after one is given a value, if there is a value and a register
 abbrev pub with_register : Option ℕ → Option Word → List Word → List Word
 with_register (Some r) (Some w) registers = slice_set registers r w
@@ -107,7 +93,7 @@ with_register _ _ registers = registers
 -- goes past an instruction, with its value
 abbrev pub head_destination : List Op → Option ℕ
 head_destination [] = None
-head_destination (o ∷ os) = destination o
+head_destination (o ∷ os) = given_by o
 
 abbrev pub behind_head : List Op → List Op
 behind_head [] = []

@@ -10,12 +10,13 @@ use Rattle.lx_ir.specs.declared.instr.Callee.TheVariants as callee
 use Rattle.lx_ir.specs.declared.module.Symbol.TheVariants as symbol
 use Rattle.lx_ir.specs.declared.instr.Op.{Op}
 use Rattle.lx_ir.specs.declared.instr.Op.TheVariants as op
+use Rattle.lx_ir.specs.Operands.{given_by}
 use Rattle.lx_image_texts.specs.Marks.{without_marks, mark_of, size_value}
 use Rattle.lx_image_texts.specs.Instrumented.{unless_left}
 use Rattle.lx_images.specs.ImageCode.{stores_in, Bare, text_op, image_ops}
 use Rattle.lx_model.specs.declared.program.Program.{Program}
 use Rattle.lx_model.specs.Program.{Home, Target, ToNative, ToSlot, ToImport, ToOwn, Nowhere, target}
-use Rattle.lx_model.specs.Thread.{CodeBlock, Activation, start_of, Routine, destination, head_destination, behind_head, with_register, activation_behind, first_label, first_code}
+use Rattle.lx_model.specs.Thread.{CodeBlock, Activation, start_of, Routine, head_destination, behind_head, with_register, activation_behind, first_label, first_code}
 use Rattle.lx_model.specs.Effect.{Moves, effect, division, arrival, jump_effect, code_block_named, target_effect, slot_effect, call_effect, text_of, with_phi, with_phis, without_phis, site_result, call_result, returned_by, returned_at, returned_value}
 use Rattle.lx_images.specs.Image.{Code}
 use Rattle.lx_images.specs.Guarded.{bare_of, guarded_op, guarded_ops, waiting_ops, guarded_block, guarded_routine, guarded_run, waiting_run, guarded_effect}
@@ -26,13 +27,13 @@ at_code a code = record a { code = code }
 
 -- going past an instruction
 
-pub destination-guarded : (c : Code) (h : Home) (o : Op) → destination (guarded_op c h o) ≡ destination o
-destination-guarded c h (op.Guard at size narrow) = refl
-destination-guarded c h _ = refl
+pub given-guarded : (c : Code) (h : Home) (o : Op) → given_by (guarded_op c h o) ≡ given_by o
+given-guarded c h (op.Guard at size narrow) = refl
+given-guarded c h _ = refl
 
 pub head-waiting : (c : Code) (h : Home) (bare : Bare) (os : List Op) → head_destination (waiting_ops c h bare os) ≡ head_destination os
 head-waiting c h bare [] = refl
-head-waiting c h bare (o ∷ os) = destination-guarded c h o
+head-waiting c h bare (o ∷ os) = given-guarded c h o
 
 pub behind-waiting : (c : Code) (h : Home) (bare : Bare) (os : List Op) → behind_head (waiting_ops c h bare os) ≡ guarded_ops c h bare (behind_head os)
 behind-waiting c h bare [] = refl

@@ -7,7 +7,7 @@ use lx_caps::{history_laws, loan_laws};
 use lx_model::model_laws;
 
 /// Accepted images run as their programs do under the monitor.
-pub fn simulation()
+pub fn simulation_laws()
     ensures { SimulationLaws }
 {
     history_laws();

@@ -5,7 +5,7 @@ use Rattle.std.proofs.lemmas.Option.{slice_get-map, slice_get_past}
 use Rattle.lx_ir.specs.declared.instr.Instr.{Instr}
 use Rattle.lx_ir.specs.declared.instr.Op.{Op}
 use Rattle.lx_model.specs.declared.program.Program.{Program}
-use Rattle.lx_model.specs.Thread.{Activation, activation_behind, behind_head, head_destination, destination, with_register}
+use Rattle.lx_model.specs.Thread.{Activation, activation_behind, behind_head, head_destination, with_register}
 use Rattle.lx_model.specs.Effect.{is_phi, without_phis, returned_by, returned_at, returned_value, site_result, call_result}
 use Rattle.lx_steps.specs.Standing.{rest_from, front_at, behind_found, head_of, phi_at, is_phi_in}
 use Rattle.lx_words.specs.Word.{Word}

@@ -1,6 +1,6 @@
 //! Addresses of parts of values.
 ghost use Rattle.std.specs.Prelude.{◌≡◌, ℕ, ◌+◌, ◌%◌, ◌^◌, IsTrue, map, nat_abs, negsuc, option_copied, slice_get, true};
-ghost use Rattle.lx_words.specs.Word.{signed, modulo, is_negative};
+ghost use Rattle.lx_words.specs.Word.{signed, modulo};
 ghost use Rattle.lx_model.specs.Program.{module_of};
 ghost use Rattle.lx_ir.specs.Layout.{element_offset, fields_of, field_of, is_lawful_type, part_at, part_of, part_or, unnamed};
 ghost use Rattle.lx_steps.specs.Parts.{IsPart, IsPartModulo, element_in};
@@ -17,7 +17,7 @@ use lx_ir::instr::Argument;
 use lx_ir::module::{Module, Value};
 use lx_ir::types::{IrType, TypeNode};
 use lx_ir::{offset_at, size_of, unnamed};
-use lx_words::{Width, Word, resize};
+use lx_words::{Width, Word, below_minus_one, is_negative, resize};
 
 /// A part of a type: how far it lies behind the start, modulo 2^64, and its type.
 #[derive(Clone, Copy)]
@@ -31,20 +31,6 @@ fn signed_bits(word: Word) -> u64
     ensures { result ≡ modulo (signed word) (2 ^ 64) }
 {
     resize(word, Width::W64, true).bits
-}
-
-fn is_negative(word: Word) -> bool
-    ensures { result ≡ is_negative word }
-{
-    word.bits > word.width.mask() >> 1
-}
-
-// How far a negative word lies below -1.
-fn below_minus_one(word: Word) -> u64
-    requires { is_negative word ≡ true }
-    ensures { signed word ≡ negsuc result }
-{
-    word.width.mask() - word.bits
 }
 
 // How far a word lies from 0.

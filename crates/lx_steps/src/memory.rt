@@ -10,13 +10,13 @@ ghost use Rattle.std.specs.Prelude.{ℕ, Bool};
 use crate::activation::Activation;
 use crate::effect::Effect;
 use crate::operand::operand;
-use lx_code::{Code, cut, width_of};
+use lx_code::{Code, width_of};
 use lx_ir::instr::Argument;
 use lx_ir::module::Value;
 use lx_ir::types::{IrType, Scalar};
 use lx_ir::{align_of, size_of};
 use lx_model::request::What;
-use lx_words::Width;
+use lx_words::{Width, Word};
 
 /// Bytes of the stack for a value of a type.
 pub(crate) fn alloca(code: &Code, run: &Activation, ty: &IrType) -> Effect
@@ -48,7 +48,7 @@ pub(crate) fn store(code: &Code, run: &Activation, ty: &Scalar, value: &Value, a
     let value = operand(code, run, value);
     Effect::Wants(What::Store {
         at: operand(code, run, at).bits,
-        value: cut(width_of(ty), value.bits),
+        value: Word::new(width_of(ty), value.bits),
     })
 }
 

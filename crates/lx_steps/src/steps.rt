@@ -1,7 +1,7 @@
 //! How a running function goes on.
 ghost use Rattle.std.specs.Prelude.{◌≡◌, ℕ, ◌+◌, ◌<◌, ◌≤◌, ◌++◌, Bool, Option, Some, List, IsTrue, IfSome, IfOk, OnErr, map, option_copied, option_map, replicate, slice_get, vec_len, vec_capacity};
 ghost use Rattle.lx_ir.specs.declared.instr.Op.{Op};
-ghost use Rattle.lx_model.specs.Thread.{activation, activation_behind, destination, routine, with_register, zero_word};
+ghost use Rattle.lx_model.specs.Thread.{activation, activation_behind, routine, with_register, zero_word};
 ghost use Rattle.lx_model.specs.Effect.{arrival, edge_value, is_phi, returned_by, returned_value, site_result, call_result, types_of, with_phi, with_phis};
 ghost use Rattle.lx_model.specs.Next.{with_alloca, without_allocas};
 ghost use Rattle.lx_words.specs.Word.{Word};
@@ -15,6 +15,7 @@ use crate::activation::{Activation, Range};
 use crate::operand::{blank_word, operand};
 use lx_code::{Code, width_of};
 use lx_ir::instr::{Edge, Instr, Op};
+use lx_ir_walks::given_by;
 use lx_words::{Memory, Width, Word};
 use std::alloc::Global;
 
@@ -90,25 +91,6 @@ pub fn instruction<'a>(code: &'a Code, run: &Activation) -> Option<&'a Op>
     match instr_at(instrs, next_place(instrs, run.arrived, run.place)) {
         Some(instr) => Some(&instr.op),
         None => None,
-    }
-}
-
-/// The register that an instruction gives.
-fn destination_of(op: &Op) -> Option<u32>
-    ensures { result ≡ destination op.now }
-{
-    match op {
-        Op::Binary { to, .. }
-        | Op::Compare { to, .. }
-        | Op::Convert { to, .. }
-        | Op::Freeze { to, .. }
-        | Op::Select { to, .. }
-        | Op::Phi { to, .. }
-        | Op::Alloca { to, .. }
-        | Op::Load { to, .. }
-        | Op::GetElementPtr { to, .. } => Some(*to),
-        Op::Call { to, .. } => *to,
-        _ => None,
     }
 }
 
@@ -248,7 +230,7 @@ impl Activation {
         let instrs = instrs_of(code, self);
         let place = next_place(instrs, self.arrived, self.place);
         if let Some(instr) = instrs.get(place) {
-            set_register(&mut self.registers, destination_of(&instr.op), value);
+            set_register(&mut self.registers, given_by(&instr.op), value);
             self.place = place + 1;
         }
     }

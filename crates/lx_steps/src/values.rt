@@ -8,7 +8,7 @@ ghost use Rattle.lx_steps.specs.Standing.{run_of};
 use crate::activation::Activation;
 use crate::effect::Effect;
 use crate::operand::operand;
-use lx_code::{Code, cut, width_of};
+use lx_code::{Code, width_of};
 use lx_ir::instr::Conversion;
 use lx_ir::module::Value;
 use lx_ir::types::Scalar;
@@ -30,9 +30,9 @@ fn truth(holds: bool) -> Word
     ensures { result ≡ truth_word holds }
 {
     if holds {
-        cut(Width::W1, 1)
+        Word::new(Width::W1, 1)
     } else {
-        cut(Width::W1, 0)
+        Word::new(Width::W1, 0)
     }
 }
 

@@ -1,12 +1,13 @@
-use Rattle.std.proofs.Common.{◌≡◌, ◌∙◌, sym, ap, subst, ℕ, ◌+◌, ◌<◌, ◌≤◌, List, [], ◌∷◌, ◌++◌, length, map, take, slice_get, arith}
+use Rattle.std.proofs.Common.{◌≡◌, ◌∙◌, sym, ap, ℕ, ◌+◌, ◌<◌, List, [], ◌∷◌, ◌++◌, length, map, take, slice_get, arith}
 use Rattle.std.proofs.lemmas.Result.{err_from_is_err_and}
-use Rattle.std.proofs.lemmas.List.{length-map, length-take, take_more}
+use Rattle.std.proofs.lemmas.List.{take_more}
 use Rattle.lx_ir.specs.declared.module.Module.{Module}
 use Rattle.lx_slot_types.specs.declared.Marked.{Marked}
 use Rattle.lx_propagate.specs.Slots.{annotated_of}
 use Rattle.lx_link.specs.Answers.{module_file}
-use Rattle.lx_input.specs.Checks.{EachModule, PropagateTurn}
-use Rattle.lx_input.proofs.Each.{HasPassed, goes_on, ends_early, ends, mapped_more, marked_so_far}
+use Rattle.lx_input.specs.Checks.{PropagateTurn}
+use Rattle.lx_input.proofs.Each.{goes_on, ends_early, ends, mapped_more, marked_so_far}
+use Rattle.lx_input.proofs.Agreeing.{all_agree}
 use Rattle.lx_input.proofs.checks.annotate_modules.Goals as goal
 
 pub loop-verified-preserved : goal.loop-verified-preserved
@@ -40,3 +41,8 @@ returns-in_err-annotate_next-clause-turn c =
 pub returns-clause-turn : goal.returns-clause-turn
 returns-clause-turn c =
     ends (PropagateTurn c.args.interface.now) c.args.names.now c.args.modules.now c.loop-verified.verified-index c.requires c.loop-verified-test.false c.loop-verified.invariant.1
+
+pub returns-clause-agree : goal.returns-clause-agree
+returns-clause-agree c =
+    all_agree c.args.interface.now c.args.names.now c.args.modules.now c.requires
+    (ends (PropagateTurn c.args.interface.now) c.args.names.now c.args.modules.now c.loop-verified.verified-index c.requires c.loop-verified-test.false c.loop-verified.invariant.1)

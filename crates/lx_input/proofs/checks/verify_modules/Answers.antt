@@ -1,10 +1,10 @@
-use Rattle.std.proofs.Common.{◌≡◌, ◌∙◌, sym, ap, subst, ℕ, ◌+◌, ◌<◌, List, [], ◌∷◌, ◌++◌, length, slice_get, arith}
+use Rattle.std.proofs.Common.{◌≡◌, ◌∙◌, sym, ap, subst, ℕ, ◌<◌, List, [], ◌∷◌, ◌++◌, length, slice_get, arith}
 use Rattle.std.proofs.lemmas.Result.{err_from_is_err_and}
 use Rattle.std.proofs.lemmas.Iterator.Consumers.{YieldsList-turn, YieldsList-end}
 use Rattle.std.proofs.lemmas.Iterator.Adapters.{YieldsList-from_vec}
 use Rattle.lx_ir.specs.declared.module.Module.{Module}
 use Rattle.lx_link.specs.Answers.{module_file}
-use Rattle.lx_input.specs.Checks.{EachModule, VerifyTurn}
+use Rattle.lx_input.specs.Checks.{VerifyTurn}
 use Rattle.lx_input.proofs.Each.{HasPassed, goes_on, ends_early, ends, grown}
 use Rattle.lx_input.proofs.checks.verify_modules.Goals as goal
 

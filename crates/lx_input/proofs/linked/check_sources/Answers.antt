@@ -1,6 +1,7 @@
-use Rattle.std.proofs.Common.{◌≡◌, ◌∙◌, sym, ap, refl, List, Ok, Err}
+use Rattle.std.proofs.Common.{◌≡◌, ◌∙◌, ap, Result, Ok, Err, IfOk}
+use Rattle.lx_input.specs.Files.InputStop.{InputStop}
+use Rattle.lx_input.specs.declared.input.Input.{Input}
 use Rattle.std.proofs.lemmas.Result.{err_from_is_err_and}
-use Rattle.lx_ir.specs.declared.module.Module.{Module}
 use Rattle.lx_script.specs.Case.{Case}
 use Rattle.lx_link.specs.Answers.{origin_name}
 use Rattle.lx_input.proofs.Parts.{kernel_stops, kernel_passed, modules_stop, modules_passed, slots_stop, slots_passed, link_stops, link_passed, linked_alike}
@@ -29,7 +30,7 @@ returns-in_err-annotated-clause-turn c =
     rw (p.1, p.2)
     (kernel_passed c.args.name.now c.args.sources (Err e) c.in_ok-kernel.ensures.turn
     (modules_passed c.args.name.now c.args.sources c.as_slice-names.result.now c.into_vec.result.items (Err e) listed c.into_vec.ensures c.in_ok-modules.ensures.turn
-    (slots_stop c.args.name.now c.args.sources c.as_slice-names.result.now c.deref.result.now e listed (c.deref.ensures.value ∙ same) c.in_err-annotated.ensures.turn)))
+    (slots_stop c.args.name.now c.args.sources c.as_slice-names.result.now c.as_slice-verified.result.now e listed (c.as_slice-verified.ensures.value ∙ same) c.in_err-annotated.ensures.turn)))
 
 pub returns-in_err-input-clause-turn : goal.returns-in_err-input-clause-turn
 returns-in_err-input-clause-turn c =
@@ -40,9 +41,9 @@ returns-in_err-input-clause-turn c =
     rw (p.1, p.2)
     (kernel_passed c.args.name.now c.args.sources (Err e) c.in_ok-kernel.ensures.turn
     (modules_passed c.args.name.now c.args.sources c.as_slice-names.result.now c.into_vec.result.items (Err e) listed c.into_vec.ensures c.in_ok-modules.ensures.turn
-    (slots_passed c.args.name.now c.args.sources c.as_slice-names.result.now c.deref.result.now (Err e) listed (c.deref.ensures.value ∙ same) c.in_ok-annotated.ensures.turn
+    (slots_passed c.args.name.now c.args.sources c.as_slice-names.result.now c.as_slice-verified.result.now (Err e) listed (c.as_slice-verified.ensures.value ∙ same) c.in_ok-annotated.ensures.turn
     (link_stops c.args.name.now c.args.sources e
-    (linked_alike c.args.name.now c.args.sources c.in_ok-kernel.kernel c.in_ok-modules.modules.items (Err e) c.in_ok-kernel.ensures.same same c.in_err-input.ensures.turn)))))
+    (linked_alike c.args.name.now c.args.sources c.in_ok-kernel.kernel c.as_slice-verified.result.now (Err e) c.in_ok-kernel.ensures.same (c.as_slice-verified.ensures.value ∙ same) c.in_err-input.ensures.turn)))))
 
 pub returns-clause-turn : goal.returns-clause-turn
 returns-clause-turn c =
@@ -51,7 +52,13 @@ returns-clause-turn c =
     let same = c.in_ok-modules.ensures.same ∙ c.into_vec.ensures in
     kernel_passed c.args.name.now c.args.sources answer c.in_ok-kernel.ensures.turn
     (modules_passed c.args.name.now c.args.sources c.as_slice-names.result.now c.into_vec.result.items answer listed c.into_vec.ensures c.in_ok-modules.ensures.turn
-    (slots_passed c.args.name.now c.args.sources c.as_slice-names.result.now c.deref.result.now answer listed (c.deref.ensures.value ∙ same) c.in_ok-annotated.ensures.turn
+    (slots_passed c.args.name.now c.args.sources c.as_slice-names.result.now c.as_slice-verified.result.now answer listed (c.as_slice-verified.ensures.value ∙ same) c.in_ok-annotated.ensures.turn
     (link_passed c.args.name.now c.args.sources c.in_ok-input.input answer
-    (linked_alike c.args.name.now c.args.sources c.in_ok-kernel.kernel c.in_ok-modules.modules.items (Ok c.in_ok-input.input) c.in_ok-kernel.ensures.same same c.in_ok-input.ensures.turn)
+    (linked_alike c.args.name.now c.args.sources c.in_ok-kernel.kernel c.as_slice-verified.result.now (Ok c.in_ok-input.input) c.in_ok-kernel.ensures.same (c.as_slice-verified.ensures.value ∙ same) c.in_ok-input.ensures.turn)
     c.verify_image.ensures.turn)))
+
+pub returns-clause-besides : goal.returns-clause-besides
+returns-clause-besides c = kept c.verify_image.result c.verify_image.ensures.besides where
+  kept : (r : Result Input InputStop) → IfOk r (λ i. i.besides ≡ c.in_ok-input.input.besides) → IfOk r (λ i. i.besides ≡ c.args.sources.besides)
+  kept (Ok i) same = same ∙ c.in_ok-input.ensures.besides
+  kept (Err e) same = same

@@ -5,7 +5,7 @@ use Rattle.lx_script.specs.Schedule.{Reads as SaysSchedule, FirstScheduleFault}
 use Rattle.lx_ir_read.specs.Reading.{SaysModule, FirstFault}
 use Rattle.lx_files.specs.Laws.{IsSure}
 use Rattle.lx_files.proofs.OneInput.{interface_sure, sources_one, sources_end}
-use Rattle.lx_files.proofs.sources.one_input.Goals as goal
+use Rattle.lx_files.proofs.sources.input_laws.Goals as goal
 
 pub returns : goal.returns
 returns c =

@@ -10,7 +10,7 @@ use Rattle.lx_simulation.proofs.Steps.{step_agrees}
 use Rattle.lx_simulation.proofs.ImageAsking.{image_next_within-stable}
 use Rattle.lx_simulation.proofs.ByLines.{lines_lead, pre_lines}
 use Rattle.lx_simulation.proofs.Guarding.{erased-image}
-use Rattle.lx_simulation.proofs.simulation.Goals as goal
+use Rattle.lx_simulation.proofs.simulation_laws.Goals as goal
 
 pub returns : goal.returns
 returns c = record {
