@@ -5,6 +5,7 @@ pub mod Gathered
 pub mod Numbered
 pub mod Standing
 pub mod Turns
+pub mod Wanted
 pub mod Cuts
 pub mod Mentioned
 pub mod Ranges

@@ -1,4 +1,5 @@
 pub mod Worlds
+pub mod Wants
 pub mod Parts
 pub mod Lending
 pub mod Answers

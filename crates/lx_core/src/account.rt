@@ -7,18 +7,8 @@ use crate::owners::owners;
 use crate::world::World;
 use lx_caps::CapStore;
 use lx_model::account::{Account, ImageCount};
-use lx_words::{Items, Memory};
+use lx_words::{Items, Memory, number_of};
 use std::alloc::Global;
-
-/// A count as a number of 32 bits: what a program numbers is numbered so.
-fn number_of(count: usize) -> Result<u32, Memory>
-    ensures { IfOk result (λ n. n ≡ count) }
-{
-    match u32::try_from(count) {
-        Ok(number) => Ok(number),
-        Err(_) => Err(Memory),
-    }
-}
 
 impl<C: CapStore + Drop> World<C> {
     ghost use Rattle.lx_model.specs.declared.program.Program.{Program};

@@ -10,17 +10,6 @@ use lx_principals::Principals;
 use lx_words::Memory;
 use std::alloc::Global;
 
-/// How many instances a module has.
-pub(crate) fn count_of(names: &Principals, home: u32) -> Result<u32, Memory>
-    requires { home < names.now.modules }
-    ensures { IfOk result (λ n. n ≡ instance_count names.now.names home) }
-{
-    match u32::try_from(names.count(home)) {
-        Ok(count) => Ok(count),
-        Err(_) => Err(Memory),
-    }
-}
-
 fn put_name(
     out: &mut Vec<InstanceName>,
     names: &Principals,
@@ -57,7 +46,7 @@ fn put_module(out: &mut Vec<InstanceName>, names: &Principals, home: u32) -> Res
     requires { home < names.now.modules }
     ensures { OnOk result (out.new.items ≡ out.old.items ++ instance_names names.now.names home) }
 {
-    let count = count_of(names, home)?;
+    let count = names.count(home);
     put_first_names(out, names, home, count)?;
     Ok(())
 }

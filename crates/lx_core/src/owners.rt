@@ -8,7 +8,6 @@ ghost use Rattle.lx_model.specs.State.{module_principals};
 ghost use Rattle.lx_slot_types.specs.Gets.{below};
 ghost use Rattle.lx_core.specs.Accounts.{LastIsFree, owned_as, owned_in};
 
-use crate::instances::count_of;
 use crate::owned::owned_caps;
 use lx_caps::{Cap, CapStore, Principal};
 use lx_model::account::Owned;
@@ -71,7 +70,7 @@ fn put_module<C: CapStore>(
 {
     put_owner(alloc, out, caps, Principal::Shared(home), types)?;
     put_owner(alloc, out, caps, Principal::Global(home), types)?;
-    let count = count_of(names, home)?;
+    let count = names.count(home);
     put_instances(alloc, out, caps, home, count, types)?;
     Ok(())
 }

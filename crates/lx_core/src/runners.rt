@@ -23,11 +23,11 @@ impl Runners {
     ghost use Rattle.lx_core.specs.Worlds.{AllStand, script_calls, script_events};
 
     /// A runner for each list of calls.
-    pub(crate) fn open(alloc: Global, code: &Code, script: Vec<Calls>) -> Result<Self, Memory>
-        requires { length script.items ≤ 16 }
-        ensures stand { IfOk result (λ runners. AllStand code.now 0 runners.list.items (map fresh_thread script.items)) }
-        ensures events { IfOk result (λ runners. sum_by events_left runners.list.items ≡ script_events script.items) }
-        ensures calls { IfOk result (λ runners. sum_by (λ r. length (calls_left r)) runners.list.items ≡ script_calls script.items) }
+    pub(crate) fn open(alloc: Global, code: &Code, script: &[Calls]) -> Result<Self, Memory>
+        requires { length script.now ≤ 16 }
+        ensures stand { IfOk result (λ runners. AllStand code.now 0 runners.list.items (map fresh_thread script.now)) }
+        ensures events { IfOk result (λ runners. sum_by events_left runners.list.items ≡ script_events script.now) }
+        ensures calls { IfOk result (λ runners. sum_by (λ r. length (calls_left r)) runners.list.items ≡ script_calls script.now) }
     {
         let mut list = Vec::with_capacity(alloc, script.len())?;
         for calls in script {

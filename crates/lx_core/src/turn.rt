@@ -1,13 +1,14 @@
 //! One event of a thread.
-ghost use Rattle.std.specs.Prelude.{◌≡◌, ◌<◌, ◌≤◌, ◌+◌, ◌*◌, true, length, OnOk, OnErr, IfOk, IsTrue};
+ghost use Rattle.std.specs.Prelude.{◌≡◌, ◌<◌, ◌≤◌, ◌+◌, ◌*◌, true, false, length, OnOk, OnErr, IfOk, IsTrue};
 ghost use Rattle.lx_model.specs.declared.program.Program.{Program};
 ghost use Rattle.lx_model.specs.State.{State};
 ghost use Rattle.lx_model.specs.Serve.{serve};
 ghost use Rattle.lx_model.specs.Thread.{Thread, has_call};
-ghost use Rattle.lx_interp.specs.Runner.{calls_left, events_left, is_spent};
+ghost use Rattle.lx_interp.specs.Runner.{calls_left, events_left, is_spent, request_of};
 ghost use Rattle.lx_run_laws.specs.Servable.{is_servable};
-ghost use Rattle.lx_serve.specs.Room.{journal_room, store_room, taken_by};
+ghost use Rattle.lx_serve.specs.Room.{journal_room, store_room, taken_by, takes_no_memory};
 ghost use Rattle.lx_serve.specs.Stands.{IsUndecided, Serves, StandsForState};
+ghost use Rattle.lx_core.specs.Wants.{may_want};
 ghost use Rattle.lx_core.specs.Worlds.{StandsFor, HasTurned, HasStayed};
 
 use lx_caps::CapStore;
@@ -34,6 +35,7 @@ fn answer<C: CapStore + Drop>(
     ensures store_stays { OnErr result (store_room C.spare shared.old ≤ store_room C.spare shared.new) }
     ensures undecided { OnErr result (0 < journal_room shared.old → 2 ≤ store_room C.spare shared.old → (p : Program) (s : State) → StandsForState C.stands p shared.old s
         → IsUndecided p s thread request.now.who request.now.what) }
+    ensures no_memory { OnErr result (0 < journal_room shared.old → 2 ≤ store_room C.spare shared.old → takes_no_memory request.now.what ≡ false) }
 {
     match shared.serve(thread, request) {
         Ok(reply) => Ok(reply),
@@ -41,7 +43,8 @@ fn answer<C: CapStore + Drop>(
     }
 }
 
-/// One event of a thread that has a call left: its next request is served, and it takes in the reply.
+/// One event of a thread that has a call left: its next request is served, and it takes in the reply. Where there is room for
+/// the event, serving a load, a store, a block write or the end of a call never wants memory.
 pub(crate) fn turn<C: CapStore + Drop>(
     shared: &mut SharedPart<C>,
     runner: &mut Runner,
@@ -60,6 +63,7 @@ pub(crate) fn turn<C: CapStore + Drop>(
     ensures room_stays { OnErr result (journal_room shared.old ≤ journal_room shared.new) }
     ensures ends { (s : State) (x : Thread) → StandsForState C.stands code.now shared.old s → StandsFor code.now thread runner.old x
         → 2 * length (calls_left runner.new) + store_room C.spare shared.old ≤ 2 * length (calls_left runner.old) + store_room C.spare shared.new }
+    ensures no_memory { OnErr result (0 < journal_room shared.old → 2 ≤ store_room C.spare shared.old → may_want (request_of runner.new) ≡ true) }
 {
     request_laws();
     runner.local(code)?;

@@ -67,28 +67,26 @@ fn reserve_ends<C: CapStore + Drop>(
     let Some(acts) = sum(calls, calls) else {
         return Err(Memory);
     };
-    match shared.reserve(acts) {
-        Ok(()) => Ok(()),
-        Err(_) => Err(Memory),
-    }
+    shared.reserve(acts)?;
+    Ok(())
 }
 
 /// The runners of a script, and room in the store for the ends of its calls.
 fn open_runners<C: CapStore + Drop>(
     alloc: Global,
     code: &Code,
-    script: Vec<Calls>,
+    script: &[Calls],
     shared: &mut SharedPart<C>,
 ) -> Result<Runners, Memory>
-    requires { length script.items ≤ 16 }
-    ensures stand { IfOk result (λ runners. AllStand code.now 0 runners.list.items (map fresh_thread script.items)) }
-    ensures events { IfOk result (λ runners. sum_by events_left runners.list.items ≡ script_events script.items) }
-    ensures calls { IfOk result (λ runners. sum_by (λ r. length (calls_left r)) runners.list.items ≡ script_calls script.items) }
-    ensures room { OnOk result (2 * script_calls script.items ≤ store_room C.spare shared.new) }
+    requires { length script.now ≤ 16 }
+    ensures stand { IfOk result (λ runners. AllStand code.now 0 runners.list.items (map fresh_thread script.now)) }
+    ensures events { IfOk result (λ runners. sum_by events_left runners.list.items ≡ script_events script.now) }
+    ensures calls { IfOk result (λ runners. sum_by (λ r. length (calls_left r)) runners.list.items ≡ script_calls script.now) }
+    ensures room { OnOk result (2 * script_calls script.now ≤ store_room C.spare shared.new) }
     ensures journal { journal_room shared.new ≡ journal_room shared.old }
     ensures stands { (p : Program) (s : State) → StandsForState C.stands p shared.old s → StandsForState C.stands p shared.new s }
 {
-    reserve_ends(shared, script.as_slice())?;
+    reserve_ends(shared, script)?;
     let runners = Runners::open(alloc, code, script)?;
     Ok(runners)
 }
@@ -106,6 +104,7 @@ impl<C: CapStore + Drop> World<C> {
     ghost use Rattle.lx_model.specs.Account.{schedule_of};
     ghost use Rattle.lx_model.specs.Opening.{opening_state};
     ghost use Rattle.lx_core.specs.Parts.{AreParts};
+    ghost use Rattle.lx_core.specs.Wants.{asked_at, may_want};
     ghost use Rattle.lx_core.specs.Worlds.{HasEndsRoom, HasRoom, StandsForWorld, program_of, events_in, is_idle_at, script_events};
     ghost use Rattle.lx_serve.specs.Room.{journal_room};
     ghost use Rattle.lx_serve.specs.Stands.{StandsForState};
@@ -120,15 +119,15 @@ impl<C: CapStore + Drop> World<C> {
     pub fn open(
         alloc: Global,
         code: Code,
-        script: Vec<Calls>,
+        script: &[Calls],
         shared: SharedPart<C>,
     ) -> Result<Self, Memory>
         requires opened { StandsForState C.stands code shared (opening_state code) }
-        requires threads { length script.items ≤ 16 }
-        ensures opens { IfOk result (λ world. StandsForWorld C.stands code world (opening code script.items)) }
+        requires threads { length script.now ≤ 16 }
+        ensures opens { IfOk result (λ world. StandsForWorld C.stands code world (opening code script.now)) }
         ensures program { IfOk result (λ world. program_of world ≡ code) }
-        ensures events { IfOk result (λ world. events_in world ≡ script_events script.items) }
-        ensures room { IfOk result (λ world. script_events script.items ≤ journal_room shared → HasRoom world) }
+        ensures events { IfOk result (λ world. events_in world ≡ script_events script.now) }
+        ensures room { IfOk result (λ world. script_events script.now ≤ journal_room shared → HasRoom world) }
         ensures ends { IfOk result (λ world. HasEndsRoom C.spare world) }
     {
         let mut shared = shared;
@@ -163,10 +162,14 @@ impl<C: CapStore + Drop> World<C> {
         }
     }
 
-    /// One event of a thread: its next request is served, and it takes in the reply. `NoWork` exactly where there is no
-    /// such thread or it has no call left, which changes nothing. After `Memory` only register steps of that thread may
-    /// have gone on. Room for all events stays room for all that are left, and room for the ends of all calls stays room
-    /// for the ends of those that are left.
+    /// One event of a thread: its next request is served, and it takes in the reply. Room for all events stays room for all
+    /// that are left, and room for the ends of all calls stays room for the ends of those that are left.
+    ///
+    /// # Errors
+    /// `NoWork` exactly where there is no such thread or it has no call left, which changes nothing. After `Memory` only
+    /// register steps of that thread may have gone on. Where there is room for all events and for the ends of all calls, it
+    /// came from register steps, which are still due, or from serving a request that takes memory: no load, no store, no
+    /// block write and no end of a call that the thread has come to ever wants any.
     pub fn event(&mut self, thread: u32) -> Result<(), EventFault>
         ensures event { OnOk result ((p : Program) (w : Meaning) → StandsForWorld C.stands p self.old w → StandsForWorld C.stands p self.new (event p thread w)) }
         ensures fault { OnErr result ((p : Program) (w : Meaning) → StandsForWorld C.stands p self.old w → StandsForWorld C.stands p self.new w) }
@@ -177,6 +180,7 @@ impl<C: CapStore + Drop> World<C> {
         ensures fewer { OnOk result (events_in self.new < events_in self.old) }
         ensures room { HasRoom self.old → HasRoom self.new }
         ensures ends { (p : Program) (w : Meaning) → StandsForWorld C.stands p self.old w → HasEndsRoom C.spare self.old → HasEndsRoom C.spare self.new }
+        ensures no_memory { IsErrOf result EventFault.Memory → HasRoom self.old → HasEndsRoom C.spare self.old → may_want (asked_at self.new.runners.list.items thread) ≡ true }
     {
         let place = thread as usize;
         if self.is_idle(place) {

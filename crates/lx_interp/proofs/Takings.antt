@@ -22,10 +22,10 @@ use Rattle.lx_model.specs.Next.{Step, Goes, Asks, comes_to, effect_step, has_roo
 use Rattle.lx_steps.specs.Effects.{effect_of, arrived_as}
 use Rattle.lx_steps.specs.Standing.{run_of}
 use Rattle.lx_steps.specs.declared.effect.Effect.TheVariants as effect
-use Rattle.lx_interp.specs.declared.frame.Stage.{Stage as Standing}
-use Rattle.lx_interp.specs.declared.frame.Stage.TheVariants as standing
-use Rattle.lx_interp.specs.declared.frame.Crossing.{Crossing as Gate}
-use Rattle.lx_interp.specs.declared.frame.Frame.{Frame as Place}
+use Rattle.lx_interp.specs.declared.frame.Stage.{Stage as KeptStage}
+use Rattle.lx_interp.specs.declared.frame.Stage.TheVariants as kept_stage
+use Rattle.lx_interp.specs.declared.frame.Crossing.{Crossing as KeptCrossing}
+use Rattle.lx_interp.specs.declared.frame.Frame.{Frame as KeptFrame}
 use Rattle.lx_interp.specs.declared.runner.Runner.{Runner}
 use Rattle.lx_interp.specs.Runner.{HasTaken, HasStayed, HasRoomFor, HasSpace, IsCounted, IsPrepared, IsReadyIf, IsRoomier, asked_if, crossed_on, effect_on, frame_of, frames_below, frames_of, out_if, performed_in, performed_on, poorer, post_on, principal_of, stage_on, taken, thread_of, calls_left}
 use Rattle.lx_interp.proofs.Stages.{paid_step, unpaid_step}
@@ -95,7 +95,7 @@ then_roomier p old mid new a b =
 spent : (p : Program) (old new : Runner) → new.calls ≡ old.calls → new.endings ≡ old.endings → new.fuel ≡ old.fuel - 1 → new.due ≡ old.due → new.top ≡ old.top → new.below ≡ old.below →
     thread_of p new ≡ poorer (thread_of p old)
 spent p old new e1 e2 e3 e4 e5 e6 =
-    ap (λ (o : Option Place). record (thread_of p new) { frames = frames_of p o new.below.items }) e5
+    ap (λ (o : Option KeptFrame). record (thread_of p new) { frames = frames_of p o new.below.items }) e5
     ∙ ap (λ v. record (thread_of p new) { frames = frames_of p old.top v.items }) e6
     ∙ ap (λ d. record (thread_of p new) { frames = frames_of p old.top old.below.items; due = d }) e4
     ∙ ap (λ f. record (thread_of p new) { frames = frames_of p old.top old.below.items; due = old.due; fuel = f }) e3
@@ -110,7 +110,7 @@ same_room p old new (what.Fill to byte len) e5 e6 e7 h = h
 same_room p old new (what.Alloca at size) e5 e6 e7 h = subst HasSpace (sym e5) h
 same_room p old new (what.Enter way args) e5 e6 e7 h =
     (subst (λ v. IsPrepared p args v.items) (sym e7) h.0, subst (λ v. vec_len v < vec_capacity v) (sym e6) h.1)
-same_room p old new (what.Perform n post k env source dest) e5 e6 e7 h = subst (λ (o : Option Place). IsCounted (stage_on o)) (sym e5) h
+same_room p old new (what.Perform n post k env source dest) e5 e6 e7 h = subst (λ (o : Option KeptFrame). IsCounted (stage_on o)) (sym e5) h
 same_room p old new (what.Return low high) e5 e6 e7 h = h
 same_room p old new (what.Native k args) e5 e6 e7 h = h
 same_room p old new (what.Finish o) e5 e6 e7 h = h
@@ -130,12 +130,12 @@ asked_with_room p old mid new q h room e0 e1 e2 e3 e4 e5 e6 e7 e8 =
 
 -- an action is asked
 
-ready_in : (p : Program) (new : Runner) (who : Principal) (c : Option Gate) (post : Bool) (k : ℕ) (v : Option Word) → IsCounted (stage_on new.top) → IsReadyIf p new (performed_in who c post k v)
+ready_in : (p : Program) (new : Runner) (who : Principal) (c : Option KeptCrossing) (post : Bool) (k : ℕ) (v : Option Word) → IsCounted (stage_on new.top) → IsReadyIf p new (performed_in who c post k v)
 ready_in p new who None post k v h = tt
 ready_in p new who (Some c) true k v h = h
 ready_in p new who (Some c) false k v h = h
 
-ready_on : (p : Program) (new : Runner) (top : Option Place) (post : Bool) (k : ℕ) (v : Option Word) → IsCounted (stage_on new.top) → IsReadyIf p new (performed_on top post k v)
+ready_on : (p : Program) (new : Runner) (top : Option KeptFrame) (post : Bool) (k : ℕ) (v : Option Word) → IsCounted (stage_on new.top) → IsReadyIf p new (performed_on top post k v)
 ready_on p new None post k v h = tt
 ready_on p new (Some f) post k v h = ready_in p new f.principal f.crossing post k v h
 
@@ -150,7 +150,7 @@ performs p old new post k v fuel counted e0 e1 e2 e3 e4 e5 e6 e7 =
       calls = e1;
       ended = e2;
       is = ap (λ x. taken x q) (sym (spent p old new e1 e2 e3 e4 e5 e6)) ∙ ap (taken (thread_of p new)) (sym e7);
-      ready = subst (IsReadyIf p new) (sym e7) (ready_on p new old.top post k v (subst (λ (o : Option Place). IsCounted (stage_on o)) (sym e5) counted));
+      ready = subst (IsReadyIf p new) (sym e7) (ready_on p new old.top post k v (subst (λ (o : Option KeptFrame). IsCounted (stage_on o)) (sym e5) counted));
     })
 
 pub goes_out : (p : Program) (old new : Runner) (k : ℕ) (v : Option Word) (b : Bool) (s : Step) → b ≡ has_action p (crossed_on old.top) true k →
@@ -158,23 +158,23 @@ pub goes_out : (p : Program) (old new : Runner) (k : ℕ) (v : Option Word) (b :
 goes_out p old new k v b s e f h =
     retaken p old old new _ s refl refl refl (ap (λ x. out_if x p (thread_of p old) old.top old.below.items k v) (sym e) ∙ sym f) h
 
-pub counted_at : (top : Option Place) (s : Option Standing) → s ≡ stage_on top → IsCounted s → IsCounted (stage_on top)
+pub counted_at : (top : Option KeptFrame) (s : Option KeptStage) → s ≡ stage_on top → IsCounted s → IsCounted (stage_on top)
 counted_at top s e h = subst IsCounted e h
 
 -- whether a frame more may stand
 
-same_count : (p : Program) (fs : List Place) → length (map (frame_of p) fs) ≡ length fs
+same_count : (p : Program) (fs : List KeptFrame) → length (map (frame_of p) fs) ≡ length fs
 same_count p [] = refl
 same_count p (f ∷ fs) = ap suc (same_count p fs)
 
 less_by_one : (n : ℕ) → nat_lt n 255 ≡ nat_lt (suc n) 256
 less_by_one n = grind (arith, nat_tests)
 
-pub room_above : (p : Program) (top : Option Place) (f : Place) (below : List Place) → top ≡ Some f → nat_lt (length below) 255 ≡ has_room (frames_of p top below)
+pub room_above : (p : Program) (top : Option KeptFrame) (f : KeptFrame) (below : List KeptFrame) → top ≡ Some f → nat_lt (length below) 255 ≡ has_room (frames_of p top below)
 room_above p top f below e =
     less_by_one (length below)
     ∙ ap (λ n. nat_lt (suc n) 256) (sym (same_count p (reverse below) ∙ length-reverse below))
-    ∙ ap (λ (o : Option Place). has_room (frames_of p o below)) (sym e)
+    ∙ ap (λ (o : Option KeptFrame). has_room (frames_of p o below)) (sym e)
 
 if_full : (b : Bool) (thread : Thread) (s : Step) → b ≡ false → if_room b thread s ≡ comes_to (Trapped TooDeep) thread
 if_full true thread s e = absurd (cc)
@@ -184,32 +184,32 @@ if_free : (b : Bool) (thread : Thread) (s : Step) → b ≡ true → if_room b t
 if_free true thread s e = refl
 if_free false thread s e = absurd (cc)
 
-pub entry_full : (p : Program) (t : ℕ) (thread : Thread) (top : Option Place) (below : List Place) (w : What) → IsSome top → false ≡ has_room (frames_of p top below) →
+pub entry_full : (p : Program) (t : ℕ) (thread : Thread) (top : Option KeptFrame) (below : List KeptFrame) (w : What) → IsSome top → false ≡ has_room (frames_of p top below) →
     effect_on p t thread top below (effect.Enters w) ≡ comes_to (Trapped TooDeep) thread
 entry_full p t thread None below w h e = absurd (cc)
 entry_full p t thread (Some f) below w h e = if_full (has_room (frames_of p (Some f) below)) thread _ (sym e)
 
-pub entry_free : (p : Program) (t : ℕ) (thread : Thread) (top : Option Place) (below : List Place) (w : What) → IsSome top → true ≡ has_room (frames_of p top below) →
+pub entry_free : (p : Program) (t : ℕ) (thread : Thread) (top : Option KeptFrame) (below : List KeptFrame) (w : What) → IsSome top → true ≡ has_room (frames_of p top below) →
     effect_on p t thread top below (effect.Enters w) ≡ effect_on p t thread top below (effect.Wants w)
 entry_free p t thread None below w h e = absurd (cc)
 entry_free p t thread (Some f) below w h e = if_free (has_room (frames_of p (Some f) below)) thread _ (sym e)
 
-pub call_full : (p : Program) (t : ℕ) (thread : Thread) (top : Option Place) (below : List Place) (n : ℕ) (args : List Word) → IsSome top → false ≡ has_room (frames_of p top below) →
+pub call_full : (p : Program) (t : ℕ) (thread : Thread) (top : Option KeptFrame) (below : List KeptFrame) (n : ℕ) (args : List Word) → IsSome top → false ≡ has_room (frames_of p top below) →
     effect_on p t thread top below (effect.Calls n args) ≡ comes_to (Trapped TooDeep) thread
 call_full p t thread None below n args h e = absurd (cc)
 call_full p t thread (Some f) below n args h e = if_full (has_room (frames_of p (Some f) below)) thread _ (sym e)
 
-pub wants_asks : (p : Program) (t : ℕ) (thread : Thread) (top : Option Place) (below : List Place) (w : What) → IsSome top →
+pub wants_asks : (p : Program) (t : ℕ) (thread : Thread) (top : Option KeptFrame) (below : List KeptFrame) (w : What) → IsSome top →
     effect_on p t thread top below (effect.Wants w) ≡ Asks thread (request (principal_of top) w)
 wants_asks p t thread None below w h = absurd (cc)
 wants_asks p t thread (Some f) below w h = refl
 
-pub traps_on : (p : Program) (t : ℕ) (thread : Thread) (top : Option Place) (below : List Place) (trap : Trap) → IsSome top →
+pub traps_on : (p : Program) (t : ℕ) (thread : Thread) (top : Option KeptFrame) (below : List KeptFrame) (trap : Trap) → IsSome top →
     effect_on p t thread top below (effect.Traps trap) ≡ comes_to (Trapped trap) thread
 traps_on p t thread None below trap h = absurd (cc)
 traps_on p t thread (Some f) below trap h = refl
 
-pub jump_lost : (p : Program) (t : ℕ) (thread : Thread) (top : Option Place) (f : Place) (below : List Place) (block : ℕ) (a : Activation) → top ≡ Some f →
+pub jump_lost : (p : Program) (t : ℕ) (thread : Thread) (top : Option KeptFrame) (f : KeptFrame) (below : List KeptFrame) (block : ℕ) (a : Activation) → top ≡ Some f →
     arrival p (run_of p f.run) (slice_get (run_of p f.run).blocks block) ≡ arrived_as false a → effect_on p t thread top below (effect.Jumps block) ≡ comes_to (Trapped Unreachable) thread
 jump_lost p t thread top f below block a e h =
-    ap (λ (o : Option Place). effect_on p t thread o below (effect.Jumps block)) e ∙ ap (effect_step p t thread (frame_of p f) (frames_below p below)) h
+    ap (λ (o : Option KeptFrame). effect_on p t thread o below (effect.Jumps block)) e ∙ ap (effect_step p t thread (frame_of p f) (frames_below p below)) h

@@ -20,34 +20,34 @@ use Rattle.lx_steps.specs.Standing.{run_of}
 use Rattle.lx_steps.specs.Effects.{effect_of}
 use Rattle.lx_code.specs.Reach.{HasLocals}
 use Rattle.lx_steps.specs.declared.effect.Effect.{Effect as Found}
-use Rattle.lx_interp.specs.declared.frame.Stage.{Stage as Standing}
-use Rattle.lx_interp.specs.declared.frame.Stage.TheVariants as standing
-use Rattle.lx_interp.specs.declared.frame.Crossing.{Crossing as Gate}
-use Rattle.lx_interp.specs.declared.frame.Frame.{Frame as Place}
+use Rattle.lx_interp.specs.declared.frame.Stage.{Stage as KeptStage}
+use Rattle.lx_interp.specs.declared.frame.Stage.TheVariants as kept_stage
+use Rattle.lx_interp.specs.declared.frame.Crossing.{Crossing as KeptCrossing}
+use Rattle.lx_interp.specs.declared.frame.Frame.{Frame as KeptFrame}
 use Rattle.lx_interp.specs.declared.runner.Runner.{Runner}
 
 -- the frames that a runner keeps
 
-abbrev pub stage_of : Standing → Stage
-stage_of (standing.Pre k) = Pre k
-stage_of standing.Body = Body
-stage_of (standing.Post k v) = Post k v
+abbrev pub stage_of : KeptStage → Stage
+stage_of (kept_stage.Pre k) = Pre k
+stage_of kept_stage.Body = Body
+stage_of (kept_stage.Post k v) = Post k v
 
-abbrev pub gate_of : Gate → Crossing
-gate_of c = record { function = c.function; source = c.source; args = c.args; stage = stage_of c.stage }
+abbrev pub one_crossing_of : KeptCrossing → Crossing
+one_crossing_of c = record { function = c.function; source = c.source; args = c.args; stage = stage_of c.stage }
 
-abbrev pub crossing_of : Option Gate → Option Crossing
+abbrev pub crossing_of : Option KeptCrossing → Option Crossing
 crossing_of None = None
-crossing_of (Some c) = Some (gate_of c)
+crossing_of (Some c) = Some (one_crossing_of c)
 
-abbrev pub frame_of : Program → Place → Frame
+abbrev pub frame_of : Program → KeptFrame → Frame
 frame_of p f = record { run = run_of p f.run; principal = f.principal; crossing = crossing_of f.crossing }
 
 -- the frames below the top one, the newest first
-abbrev pub frames_below : Program → List Place → List Frame
+abbrev pub frames_below : Program → List KeptFrame → List Frame
 frames_below p below = map (frame_of p) (reverse below)
 
-abbrev pub frames_of : Program → Option Place → List Place → List Frame
+abbrev pub frames_of : Program → Option KeptFrame → List KeptFrame → List Frame
 frames_of p None below = []
 frames_of p (Some f) below = frame_of p f ∷ frames_below p below
 
@@ -79,22 +79,22 @@ abbrev pub IsPrepared : Program → List Word → List Word → Type 0
 IsPrepared p args registers = (most : ℕ) × (registers ≡ args ++ replicate most zero_word) × HasLocals p most
 
 -- the function that runs has room for bytes of the stack more
-abbrev pub HasSpace : Option Place → Type 0
+abbrev pub HasSpace : Option KeptFrame → Type 0
 HasSpace None = ⊤
 HasSpace (Some f) = vec_len f.run.allocas < vec_capacity f.run.allocas
 
 -- where the function stands in its crossing; one that crosses nothing is in its body
-abbrev pub stage_in : Option Gate → Standing
-stage_in None = standing.Body
+abbrev pub stage_in : Option KeptCrossing → KeptStage
+stage_in None = kept_stage.Body
 stage_in (Some c) = c.stage
 
-abbrev pub stage_on : Option Place → Option Standing
+abbrev pub stage_on : Option KeptFrame → Option KeptStage
 stage_on None = None
 stage_on (Some f) = Some (stage_in f.crossing)
 
 -- a `u32` counts the actions behind the body
-abbrev pub IsCounted : Option Standing → Type 0
-IsCounted (Some (standing.Post k v)) = k < 4294967295
+abbrev pub IsCounted : Option KeptStage → Type 0
+IsCounted (Some (kept_stage.Post k v)) = k < 4294967295
 IsCounted _ = ⊤
 
 -- the runner has what the reply needs: registers and a place for the frame of an entered function, and a place for the
@@ -159,12 +159,12 @@ abbrev pub poorer : Thread → Thread
 poorer thread = record thread { fuel = thread.fuel - 1 }
 
 -- what the function that runs comes to by an effect
-abbrev pub effect_on : Program → ℕ → Thread → Option Place → List Place → Found → Step
+abbrev pub effect_on : Program → ℕ → Thread → Option KeptFrame → List KeptFrame → Found → Step
 effect_on p t thread None below e = comes_to (Trapped Unreachable) thread
 effect_on p t thread (Some f) below e = effect_step p t thread (frame_of p f) (frames_below p below) (effect_of p (run_of p f.run) e)
 
 -- whose the function is that runs
-abbrev pub principal_of : Option Place → Principal
+abbrev pub principal_of : Option KeptFrame → Principal
 principal_of None = Kernel
 principal_of (Some f) = f.principal
 
@@ -189,33 +189,33 @@ pub record IsRoomier (p : Program) (old new : Runner) : Type 0 where
   pub stage : stage_on new.top ≡ stage_on old.top
 
 -- the next instruction of the function that runs
-abbrev pub instruction_on : Program → ℕ → Thread → Option Place → List Place → Step
+abbrev pub instruction_on : Program → ℕ → Thread → Option KeptFrame → List KeptFrame → Step
 instruction_on p t thread None below = comes_to (Trapped Unreachable) thread
 instruction_on p t thread (Some f) below = instruction_step p t (frame_of p f) (frames_below p below) (run_of p f.run).code thread
 
 -- what it comes to by its effect, if it has one
-abbrev pub found_on : Program → ℕ → Thread → Option Place → List Place → Option Found → Step
+abbrev pub found_on : Program → ℕ → Thread → Option KeptFrame → List KeptFrame → Option Found → Step
 found_on p t thread top below None = comes_to (Trapped Unreachable) thread
 found_on p t thread top below (Some e) = effect_on p t thread top below e
 
 -- the function that is crossed into
-abbrev pub crossed_in : Option Gate → ℕ
+abbrev pub crossed_in : Option KeptCrossing → ℕ
 crossed_in None = 0
 crossed_in (Some c) = c.function
 
-abbrev pub crossed_on : Option Place → ℕ
+abbrev pub crossed_on : Option KeptFrame → ℕ
 crossed_on None = 0
 crossed_on (Some f) = crossed_in f.crossing
 
 -- the request for an action of the crossing, behind its body or before it
-abbrev pub performed_in : Principal → Option Gate → Bool → ℕ → Option Word → Option Request
+abbrev pub performed_in : Principal → Option KeptCrossing → Bool → ℕ → Option Word → Option Request
 performed_in who None post k v = None
 performed_in who (Some c) true k v =
     Some (request who (what.Perform c.function true k (record { args = c.args; ret = v }) who c.source))
 performed_in who (Some c) false k v =
     Some (request c.source (what.Perform c.function false k (record { args = c.args; ret = None }) c.source who))
 
-abbrev pub performed_on : Option Place → Bool → ℕ → Option Word → Option Request
+abbrev pub performed_on : Option KeptFrame → Bool → ℕ → Option Word → Option Request
 performed_on None post k v = None
 performed_on (Some f) post k v = performed_in f.principal f.crossing post k v
 
@@ -224,15 +224,15 @@ abbrev pub asked_if : Thread → Option Request → Step
 asked_if thread q = if_paid thread (λ less. taken less q)
 
 -- the function that runs takes its next instruction
-abbrev pub body_on : Program → ℕ → Thread → Option Place → List Place → Step
+abbrev pub body_on : Program → ℕ → Thread → Option KeptFrame → List KeptFrame → Step
 body_on p t thread top below = if_paid thread (λ less. instruction_on p t less top below)
 
 -- behind the body, before an action
-abbrev pub out_if : Bool → Program → Thread → Option Place → List Place → ℕ → Option Word → Step
+abbrev pub out_if : Bool → Program → Thread → Option KeptFrame → List KeptFrame → ℕ → Option Word → Step
 out_if true p thread top below k v = asked_if thread (performed_on top true k v)
 out_if false p thread top below k v = Goes (after_leaving v (frames_below p below) thread)
 
-abbrev pub post_on : Program → Thread → Option Place → List Place → ℕ → Option Word → Step
+abbrev pub post_on : Program → Thread → Option KeptFrame → List KeptFrame → ℕ → Option Word → Step
 post_on p thread top below k v = out_if (has_action p (crossed_on top) true k) p thread top below k v
 
 -- the runner has taken this step

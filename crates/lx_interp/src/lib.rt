@@ -1,6 +1,7 @@
 //! The runner: register steps of one thread of a program, up to its next request.
 #![tactic(auto)]
 
+mod copies;
 mod ending;
 mod frame;
 mod runner;

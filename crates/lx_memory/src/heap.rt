@@ -4,14 +4,12 @@ ghost use Rattle.std.specs.List.{insert, remove, filter};
 ghost use Rattle.lx_caps.specs.Regions.{heap_start, align_up};
 ghost use Rattle.lx_memory.specs.Heaps.{IsAscending, first_gap, heap_end};
 
-use lx_caps::{Block, Memory, heap_laws};
+use lx_caps::{Block, HEAP_START, Memory, REGION_SIZE, heap_laws};
 use std::alloc::{AllocError, Global};
 use std::marker::Model;
 use thiserror::Error;
 
-const HEAP_START: u64 = 0x200_0000;
-
-const HEAP_END: u64 = 0x210_0000;
+const HEAP_END: u64 = HEAP_START + REGION_SIZE;
 
 /// No live block starts there.
 #[derive(Clone, Copy, Debug, PartialEq, Eq, Error)]

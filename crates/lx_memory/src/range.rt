@@ -1,21 +1,13 @@
 //! Ranges of addresses, and which of them lie in memory.
 ghost use Rattle.std.specs.Prelude.{◌≡◌, ◌<◌, true};
-ghost use Rattle.lx_caps.specs.Regions.{covers, mapped, first_unmapped, region_size};
+ghost use Rattle.lx_caps.specs.Regions.{mapped};
 ghost use Rattle.lx_memory.specs.Ranges.{place_of, range_fault, IsFault};
 
-use lx_caps::mapped;
+use lx_caps::{GLOBALS_START, HEAP_START, REGION_SIZE, STACKS_START, first_unmapped, mapped};
 use thiserror::Error;
 
 /// How many bytes the three regions have.
 pub const MEMORY_SIZE: usize = 0x30_0000;
-
-const REGION_SIZE: u64 = 0x10_0000;
-
-const GLOBALS_START: u64 = 0x100_0000;
-
-const HEAP_START: u64 = 0x200_0000;
-
-const STACKS_START: u64 = 0x300_0000;
 
 /// A range that does not lie in memory.
 #[derive(Clone, Copy, Debug, PartialEq, Eq, Error)]
@@ -23,28 +15,6 @@ const STACKS_START: u64 = 0x300_0000;
 pub struct Unmapped {
     /// Its first byte that lies in no region.
     pub at: u64,
-}
-
-/// Whether the address lies in the region that starts there.
-fn covers(start: u64, at: u64) -> bool
-    ensures { result ≡ covers start region_size at }
-{
-    at >= start && at - start < REGION_SIZE
-}
-
-/// The first byte, from this one on, that lies in no region.
-fn first_unmapped(at: u64) -> u64
-    ensures { result ≡ first_unmapped at }
-{
-    if covers(GLOBALS_START, at) {
-        GLOBALS_START + REGION_SIZE
-    } else if covers(HEAP_START, at) {
-        HEAP_START + REGION_SIZE
-    } else if covers(STACKS_START, at) {
-        STACKS_START + REGION_SIZE
-    } else {
-        at
-    }
 }
 
 /// Answers Ok exactly where the range lies in memory.

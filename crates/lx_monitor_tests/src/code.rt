@@ -4,10 +4,10 @@ ghost use Rattle.lx_monitor_tests.specs.Programs.{function_with, import_with, na
 
 use crate::common::{function_with, interface_with, module_with, modules_with, owned, slot_with};
 use lx_annot::interface::Slot;
-use lx_code::{Code, Target, cut};
+use lx_code::{Code, Target};
 use lx_ir::module::Function;
 use lx_model::program::{Program, ProgramFunction};
-use lx_words::{Items, Memory, Name, Width};
+use lx_words::{Items, Memory, Name, Width, Word};
 use std::alloc::Global;
 
 static CUT: [(Width, u64, u64); 5] = [
@@ -21,7 +21,7 @@ static CUT: [(Width, u64, u64); 5] = [
 #[test]
 fn numbers_are_cut_to_their_width(rt: HostRuntime) {
     for (width, number, wanted) in CUT.as_slice() {
-        assert_eq!(rt; cut(*width, *number).bits, *wanted);
+        assert_eq!(rt; Word::new(*width, *number).bits, *wanted);
     }
 }
 

@@ -95,7 +95,7 @@ fn code_of(alloc: Global) -> Result<Code, Memory> {
 /// A runner of thread 1 before one call of function 0, with this fuel.
 fn runner_of(alloc: Global, fuel: u32) -> Result<Runner, Memory> {
     let calls = vec![in alloc; call_with(alloc, fuel)]?;
-    Runner::open(alloc, 1, Items::from_vec(calls))
+    Runner::open(alloc, 1, &Items::from_vec(calls))
 }
 
 /// Enters the function of the call, and goes on to what ends it.

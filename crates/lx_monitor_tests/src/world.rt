@@ -94,7 +94,7 @@ pub fn world<C: CapStore + Drop>(alloc: Global, caps: C) -> Result<World<C>, Fai
     let code = code(alloc, first)?;
     match shared(alloc, second, caps) {
         Ok(shared) => {
-            let world = World::open(alloc, code, script, shared)?;
+            let world = World::open(alloc, code, script.as_slice(), shared)?;
             Ok(world)
         }
         Err(fault) => {
@@ -195,4 +195,12 @@ fn events_make_the_account(rt: HostRuntime) -> Result<(), Fail> {
     let ended = run_and_report(&rt, alloc, &mut world);
     drop(world);
     ended
+}
+
+#[test]
+fn an_event_that_does_not_come_says_why(rt: HostRuntime) -> Result<(), Fail> {
+    let fault = EventFault::NoWork { thread: 3 };
+    let text = format!(in rt.alloc(); "{fault}")?;
+    assert_eq!(rt; text.as_str(), "thread 3 has no work");
+    Ok(())
 }

@@ -1,5 +1,5 @@
 //! What each module owns before the first call.
-ghost use Rattle.std.specs.Prelude.{◌≡◌, true, IfOk, OnOk, Some, length, if◌then◌else◌};
+ghost use Rattle.std.specs.Prelude.{◌≡◌, ◌≤◌, true, OnOk, Some, length, if◌then◌else◌};
 ghost use Rattle.lx_caps.specs.History.{History};
 ghost use Rattle.lx_code.specs.Targets.{target_of};
 ghost use Rattle.lx_ir.specs.Layout.{size_of};
@@ -10,11 +10,12 @@ ghost use Rattle.lx_opening.specs.Placed.{IsGlobalPlaced};
 ghost use Rattle.lx_slot_types.specs.Gets.{below};
 
 use crate::inits::global_of;
-use lx_caps::{Cap, CapStore, Memory, Principal, cells};
+use lx_caps::{Cap, CapStore, Principal, cells};
 use lx_code::{Code, Target};
 use lx_ir::module::GlobalVar;
 use lx_ir::size_of;
 use lx_model::program::ProgramGlobal;
+use lx_words::{Memory, number_of};
 
 /// How many bytes a global takes.
 fn global_size(code: &Code, global: &ProgramGlobal, variable: &GlobalVar) -> u64
@@ -23,6 +24,17 @@ fn global_size(code: &Code, global: &ProgramGlobal, variable: &GlobalVar) -> u64
     ensures { result ≡ size_of (module_of code.now global.now.«module»).types variable.now.ty }
 {
     size_of(code.text(global.module), &variable.ty)
+}
+
+/// Makes room for so many acts.
+fn reserve<C: CapStore>(caps: &mut C, acts: u64) -> Result<(), Memory>
+    ensures room { OnOk result (acts ≤ C.spare caps.new) }
+    ensures stays { (h : History) → C.stands caps.old h → C.stands caps.new h }
+{
+    match caps.reserve(acts) {
+        Ok(()) => Ok(()),
+        Err(_) => Err(Memory),
+    }
 }
 
 /// Gives a module its global, and takes it again where it is constant.
@@ -42,7 +54,7 @@ fn grant_global<C: CapStore>(
             at: global.at,
             size: global_size(code, global, variable),
         };
-        caps.reserve(cells(cap) + 1)?;
+        reserve(caps, cells(cap) + 1)?;
         caps.grant(Principal::Shared(home), cap);
         if variable.constant {
             caps.strip(cap);
@@ -94,7 +106,7 @@ fn grant_target<C: CapStore>(caps: &mut C, home: u32, target: Target) -> Result<
 {
     match target {
         Target::Import(number) | Target::Own(number) => {
-            caps.reserve(1)?;
+            reserve(caps, 1)?;
             caps.grant(
                 Principal::Shared(home),
                 Cap::Call {
@@ -105,16 +117,6 @@ fn grant_target<C: CapStore>(caps: &mut C, home: u32, target: Target) -> Result<
         Target::Native(_) | Target::Slot(_) | Target::Nowhere => {}
     }
     Ok(())
-}
-
-/// A count as a number of 32 bits: what a program numbers is numbered so.
-fn number_of(count: usize) -> Result<u32, Memory>
-    ensures { IfOk result (λ n. n ≡ count) }
-{
-    match u32::try_from(count) {
-        Ok(number) => Ok(number),
-        Err(_) => Err(Memory),
-    }
 }
 
 /// Gives a module the calls of the functions of the kernel that it declares, and of those that it defines.

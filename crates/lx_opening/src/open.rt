@@ -130,30 +130,26 @@ fn open_parts<C: CapStore + Drop>(
 pub fn open_world<C: CapStore + Drop>(
     alloc: Global,
     program: Program,
-    script: Vec<Calls>,
+    script: &[Calls],
     annotated: &[Annotated],
     caps: C,
 ) -> Result<World<C>, Memory>
     requires well_formed { IsWellFormed program }
     requires annotated { annotated.now ≡ all_annotated program }
-    requires threads { length script.items ≤ 16 }
+    requires threads { length script.now ≤ 16 }
     requires new { C.stands caps [] }
-    ensures opens { IfOk result (λ world. StandsForWorld C.stands program world (opening program script.items)) }
+    ensures opens { IfOk result (λ world. StandsForWorld C.stands program world (opening program script.now)) }
     ensures program { IfOk result (λ world. program_of world ≡ program) }
     ensures room { IfOk result (λ world. HasRoom world) }
     ensures ends { IfOk result (λ world. HasEndsRoom C.spare world) }
 {
-    match reckoned(alloc, &program, script.as_slice(), annotated) {
+    match reckoned(alloc, &program, script, annotated) {
         Ok(reckoning) => match open_parts(alloc, program, reckoning, caps) {
             Ok((code, shared)) => World::open(alloc, code, script, shared),
-            Err(why) => {
-                drop(script);
-                Err(why)
-            }
+            Err(why) => Err(why),
         },
         Err(why) => {
             drop(program);
-            drop(script);
             drop(caps);
             Err(why)
         }

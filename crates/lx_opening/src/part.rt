@@ -34,18 +34,21 @@ fn owned_space<C: CapStore + Drop>(
     ensures written { IfOk result (λ x. IsShownBy x.0 (with_globals code.now code.now.globals [])) }
     ensures owned { IfOk result (λ x. StandsRecorded C.stands x.1 (opening_history code.now)) }
 {
-    let Ok(mut space) = blank(alloc) else {
-        drop(caps);
-        return Err(Memory);
+    let mut space = match blank(alloc) {
+        Ok(space) => space,
+        Err(why) => {
+            drop(caps);
+            return Err(why);
+        }
     };
     put_globals(&mut space, code);
     let mut caps = Recorded::new(alloc, caps);
     match open_modules(&mut caps, code) {
         Ok(()) => Ok((space, caps)),
-        Err(_) => {
+        Err(why) => {
             drop(space);
             drop(caps);
-            Err(Memory)
+            Err(why)
         }
     }
 }

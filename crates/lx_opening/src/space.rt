@@ -5,32 +5,19 @@ ghost use Rattle.lx_caps.specs.Memory.{Memory as Writes, Put, put_number};
 ghost use Rattle.lx_caps.specs.Regions.{mapped};
 ghost use Rattle.lx_words.specs.Width.{byte_count};
 
-use lx_caps::Memory;
 use lx_memory::Space;
-use lx_words::{Width, Word};
+use lx_words::{Memory, Word};
 use std::alloc::Global;
-
-/// How many bytes a word takes in memory.
-fn byte_count(width: Width) -> u8
-    ensures count { result ≡ byte_count width }
-    ensures some { 0 < result }
-    ensures small { result < 9 }
-{
-    match width {
-        Width::W1 | Width::W8 => 1,
-        Width::W16 => 2,
-        Width::W32 => 4,
-        Width::W64 => 8,
-    }
-}
 
 /// Memory in which each byte is 0.
 #[tactic(auto, unfolding(lx_actions::specs::Shown::IsShownBy))]
 pub(crate) fn blank(alloc: Global) -> Result<Space, Memory>
     ensures { IfOk result (λ space. IsShownBy space []) }
 {
-    let space = Space::new(alloc)?;
-    Ok(space)
+    match Space::new(alloc) {
+        Ok(space) => Ok(space),
+        Err(_) => Err(Memory),
+    }
 }
 
 /// Puts a word at a mapped address.
@@ -39,7 +26,7 @@ pub(crate) fn write(space: &mut Space, at: u64, value: Word)
     requires { mapped at (byte_count value.width) ≡ true }
     ensures { (m : Writes) → IsShownBy space.old m → IsShownBy space.new (put_number at (byte_count value.width) value.bits m) }
 {
-    match space.write(at, byte_count(value.width), value.bits) {
+    match space.write(at, value.width.byte_count(), value.bits) {
         Ok(()) => {}
         Err(_) => unreachable!(),
     }

@@ -3,12 +3,12 @@
 ghost use Rattle.std.specs.Prelude.{◌≡◌, nat_abs, negsuc, option_map, option_copied, slice_get, true};
 ghost use Rattle.lx_ir.specs.declared.module.Constant.TheVariants as constant;
 ghost use Rattle.lx_ir.specs.declared.module.Value.TheVariants as value;
-ghost use Rattle.lx_words.specs.Word.{is_negative, signed};
+ghost use Rattle.lx_words.specs.Word.{signed};
 ghost use Rattle.lx_slot_types.specs.Sites.{function_in, function_init, function_value, index_number, index_of_value};
 
 use lx_ir::instr::Argument;
 use lx_ir::module::{Constant, Init, InitNode, Pointer, Symbol, Value};
-use lx_words::Word;
+use lx_words::{Word, below_minus_one, is_negative};
 
 fn function_at(pointer: Pointer) -> Option<u32>
     ensures { result ≡ function_in (constant.Pointer pointer) }
@@ -47,20 +47,6 @@ pub fn function_init(init: &Init) -> Option<u32>
         InitNode::Plain(constant) => function_in(*constant),
         _ => None,
     }
-}
-
-fn is_negative(word: Word) -> bool
-    ensures { result ≡ is_negative word }
-{
-    word.bits > word.width.mask() >> 1
-}
-
-/// How far a negative word lies below -1.
-fn below_minus_one(word: Word) -> u64
-    requires { is_negative word ≡ true }
-    ensures { signed word ≡ negsuc result }
-{
-    word.width.mask() - word.bits
 }
 
 /// How far a word lies from 0.

@@ -14,7 +14,7 @@ use crate::halt::Halt;
 use crate::monitor::Monitor;
 use crate::rights::{give, unless_copied, unless_writable};
 use crate::space::{copy, fill, read, write};
-use crate::terms::{byte_count, cut, unless_mapped, unless_room};
+use crate::terms::{unless_mapped, unless_room};
 use lx_caps::{Cap, CapStore, Principal, cells};
 use lx_model::request::Reply;
 use lx_words::{Width, Word};
@@ -27,11 +27,11 @@ impl<C: CapStore + Drop> Monitor<C> {
             → Tries C.stands p self.now s t by (what.Load at width) result }
         ensures no_memory { lacks_memory result ≡ false }
     {
-        let size = byte_count(width);
+        let size = width.byte_count();
         if let Some(outcome) = unless_mapped(at, u64::from(size)) {
             return Err(Halt::Ended(outcome));
         }
-        Ok(Reply::Value(cut(width, read(&self.space, at, size))))
+        Ok(Reply::Value(Word::new(width, read(&self.space, at, size))))
     }
 
     pub(crate) fn store(&mut self, who: Principal, at: u64, value: Word) -> Result<Reply, Halt>
@@ -40,7 +40,7 @@ impl<C: CapStore + Drop> Monitor<C> {
         ensures spare { spare_of C.spare self.new.caps ≡ spare_of C.spare self.old.caps }
         ensures no_memory { lacks_memory result ≡ false }
     {
-        let size = byte_count(value.width);
+        let size = value.width.byte_count();
         if let Some(outcome) = unless_writable(&self.caps, who, at, u64::from(size)) {
             return Err(Halt::Ended(outcome));
         }

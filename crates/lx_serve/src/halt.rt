@@ -1,6 +1,7 @@
 //! Why a request is not done.
-use lx_caps::Memory as WantOfMemory;
+use lx_caps::Memory as WantOfCaps;
 use lx_model::request::Outcome;
+use lx_words::Memory as WantOfMemory;
 
 /// Why a request is not done.
 #[derive(Clone, Copy)]
@@ -9,6 +10,17 @@ pub(crate) enum Halt {
     Ended(Outcome),
     /// There was not enough memory.
     Memory,
+}
+
+impl From<WantOfCaps> for Halt {
+    ghost use Rattle.std.specs.Prelude.{◌≡◌};
+    ghost use Rattle.lx_serve.specs.declared.halt.Halt.TheVariants.{Memory};
+
+    ghost from_gives = { λ _ e. e ≡ Memory };
+
+    fn from(_: WantOfCaps) -> Self {
+        Halt::Memory
+    }
 }
 
 impl From<WantOfMemory> for Halt {

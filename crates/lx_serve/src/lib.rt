@@ -24,4 +24,4 @@ mod texts;
 
 pub use lx_words::Memory;
 pub use shared::SharedPart;
-pub use source::Source;
+pub use source::{Source, annotation_at};

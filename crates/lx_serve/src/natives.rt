@@ -13,7 +13,7 @@ use crate::halt::Halt;
 use crate::heap::{give_out, take_back};
 use crate::monitor::Monitor;
 use crate::space::{fill, read, write};
-use crate::terms::{arg, cut, unless_mapped};
+use crate::terms::{arg, unless_mapped};
 use lx_caps::{CapStore, Principal};
 use lx_model::account::Note;
 use lx_model::request::{Outcome, Refusal, Reply, Trap};
@@ -29,7 +29,7 @@ impl<C: CapStore + Drop> Monitor<C> {
         ensures spare { spare_of C.spare self.new.caps ≡ spare_of C.spare self.old.caps }
     {
         let at = give_out(&mut self.heap, arg(args, 0))?;
-        Ok(Reply::Value(cut(Width::W64, at)))
+        Ok(Reply::Value(Word::new(Width::W64, at)))
     }
 
     fn free(&mut self, args: &[Word]) -> Result<Reply, Halt>
@@ -70,9 +70,9 @@ impl<C: CapStore + Drop> Monitor<C> {
         }
         if read(&self.space, at, 4) == 0 {
             write(&mut self.space, at, 4, 1);
-            Ok(Reply::Value(cut(Width::W32, 1)))
+            Ok(Reply::Value(Word::new(Width::W32, 1)))
         } else {
-            Ok(Reply::Value(cut(Width::W32, 0)))
+            Ok(Reply::Value(Word::new(Width::W32, 0)))
         }
     }
 

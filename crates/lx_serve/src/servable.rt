@@ -4,6 +4,7 @@ ghost use Rattle.lx_caps.specs.Regions.{stack_start};
 ghost use Rattle.lx_run_laws.specs.Servable.{is_on_stack, is_servable, is_servable_way, is_servable_what};
 
 use lx_call_targets::is_in;
+use lx_caps::{STACK_SIZE, stack_start};
 use lx_model::program::Program;
 use lx_model::request::{Request, Way, What};
 
@@ -12,8 +13,8 @@ fn is_on_stack(thread: u32, low: u64, high: u64) -> bool
     requires { thread < 16 }
     ensures { result ≡ is_on_stack thread low high }
 {
-    let start = 0x3000000 + 0x10000 * thread as u64;
-    start <= low && low <= high && high <= start + 0x10000
+    let start = stack_start(thread);
+    start <= low && low <= high && high <= start + STACK_SIZE
 }
 
 /// Whether the address lies at or above the start of the thread's stack.
@@ -21,7 +22,7 @@ fn is_above_start(thread: u32, at: u64) -> bool
     requires { thread < 16 }
     ensures { result ≡ nat_le (stack_start thread) at }
 {
-    0x3000000 + 0x10000 * thread as u64 <= at
+    stack_start(thread) <= at
 }
 
 fn is_servable_way(program: &Program, way: &Way) -> bool

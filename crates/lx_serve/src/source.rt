@@ -48,7 +48,8 @@ fn export_annotation(i: &Interface, export: u32) -> Option<&Annotation>
     }
 }
 
-fn annotation_at(i: &Interface, source: Option<Source>) -> Option<&Annotation>
+/// The annotation that stands in an interface where a source says; none where there is no source.
+pub fn annotation_at(i: &Interface, source: Option<Source>) -> Option<&Annotation>
     ensures { option_copied result ≡ option_and_then (annotation_at i.now) source }
 {
     match source {

@@ -1,21 +1,10 @@
 //! What is done to memory, where the ranges are known to lie in it.
-ghost use Rattle.std.specs.Prelude.{◌≡◌, ◌<◌, ◌≤◌, true, [], ◌∷◌, IfOk};
+ghost use Rattle.std.specs.Prelude.{◌≡◌, ◌<◌, ◌≤◌, true, ◌∷◌};
 ghost use Rattle.lx_caps.specs.Memory.{Memory as Writes, Put, Repeat, bytes_at, number_at, put_number};
 ghost use Rattle.lx_caps.specs.Regions.{mapped};
 ghost use Rattle.lx_actions.specs.Shown.{IsShownBy};
 
-use lx_caps::Memory;
 use lx_memory::Space;
-use std::alloc::Global;
-
-/// Memory in which each byte is 0.
-#[tactic(auto, unfolding(lx_actions::specs::Shown::IsShownBy))]
-pub(crate) fn blank(alloc: Global) -> Result<Space, Memory>
-    ensures { IfOk result (λ space. IsShownBy space []) }
-{
-    let space = Space::new(alloc)?;
-    Ok(space)
-}
 
 /// The number in so many bytes.
 #[tactic(auto, unfolding(lx_actions::specs::Shown::IsShownBy))]

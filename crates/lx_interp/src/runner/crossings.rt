@@ -2,7 +2,7 @@
 ghost use Rattle.std.specs.Prelude.{◌≡◌, ◌≤◌, OnOk, OnErr, IfOk, Some, None};
 ghost use Rattle.lx_model.specs.declared.program.Program.{Program};
 ghost use Rattle.lx_model.specs.Next.{after_leaving};
-ghost use Rattle.lx_interp.specs.declared.frame.Stage.TheVariants as standing;
+ghost use Rattle.lx_interp.specs.declared.frame.Stage.TheVariants as kept_stage;
 ghost use Rattle.lx_interp.specs.Runner.{HasTaken, HasStayed, IsCounted, asked_if, crossed_on, events_left, frames_below, performed_in, performed_on, post_on, stage_on, thread_of};
 
 use super::Runner;
@@ -151,7 +151,7 @@ impl Runner {
         value: &Option<Word>,
     ) -> Result<(), Memory>
         requires request { self.old.request ≡ None }
-        requires stage { Some (standing.Post index value.now) ≡ stage_on self.old.top }
+        requires stage { Some (kept_stage.Post index value.now) ≡ stage_on self.old.top }
         ensures steps { OnOk result (HasTaken code.now self.old self.new (post_on code.now (thread_of code.now self.old) self.old.top self.old.below.items index value.now)) }
         ensures stays { OnErr result (HasStayed code.now self.old self.new) }
         ensures spares { events_left self.new ≤ events_left self.old }

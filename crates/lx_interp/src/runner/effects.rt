@@ -8,7 +8,7 @@ ghost use Rattle.lx_steps.specs.declared.effect.Effect.TheVariants as effect;
 
 use super::Runner;
 use crate::frame::Frame;
-use lx_caps::Principal;
+use lx_caps::{Principal, stack_start};
 use lx_code::Code;
 use lx_model::request::{Outcome, Request, Trap, What};
 use lx_steps::{Activation, Effect, registers_of};
@@ -249,7 +249,7 @@ impl Runner {
     {
         match &self.top {
             Some(frame) => frame.run.high,
-            None => 0x300_0000 + 0x1_0000 * u64::from(self.thread),
+            None => stack_start(self.thread),
         }
     }
 

@@ -128,7 +128,7 @@ impl Runner {
     }
 
     // The function goes past its instruction, with a value or none.
-    fn pass(&mut self, code: &Code, value: &Option<Word>)
+    fn go_past(&mut self, code: &Code, value: &Option<Word>)
         ensures becomes { Becomes code.now self.old self.new (thread_behind value.now (thread_of code.now self.old)) }
         ensures rest { KeepsFuel self.old self.new }
     {
@@ -140,7 +140,7 @@ impl Runner {
     }
 
     // The function has the bytes of the stack that it asked for, and goes on with their address.
-    fn lodge(&mut self, code: &Code, at: u64, size: u64)
+    fn take_stack_bytes(&mut self, code: &Code, at: u64, size: u64)
         ensures becomes { HasSpace self.old.top → at + size ≤ 9223372036854775808 → Becomes code.now self.old self.new (thread_behind (Some (word W64 at)) (with_stack_bytes at size (thread_of code.now self.old))) }
         ensures rest { KeepsFuel self.old self.new }
     {
@@ -152,7 +152,7 @@ impl Runner {
             width: Width::W64,
             bits: at,
         };
-        self.pass(code, &Some(address));
+        self.go_past(code, &Some(address));
     }
 
     // Whether the site of an indirect call has the function's result.
@@ -211,7 +211,7 @@ impl Runner {
     }
 
     // The function that was entered has another signature than its call.
-    fn differ(&mut self, way: &Way)
+    fn trap_at_signature(&mut self, way: &Way)
         ensures becomes { (p : Program) → (f : Meant) → Becomes p self.old self.new (after_entry false way.now f (thread_of p self.old)) }
         ensures rest { KeepsFuel self.old self.new }
     {
@@ -223,7 +223,7 @@ impl Runner {
     }
 
     // The crossing is behind its action.
-    fn go_on(&mut self, code: &Code)
+    fn end_action(&mut self, code: &Code)
         ensures becomes { IsCounted (stage_on self.old.top) → Becomes code.now self.old self.new (after_action code.now (thread_of code.now self.old)) }
         ensures rest { KeepsFuel self.old self.new }
     {
@@ -238,7 +238,7 @@ impl Runner {
     }
 
     // The function has returned: a crossing goes on to its actions behind the body, and any other function is left.
-    fn go_back(&mut self, code: &Code)
+    fn return_from_body(&mut self, code: &Code)
         ensures becomes { Becomes code.now self.old self.new (after_ret code.now (frames_of code.now self.old.top self.old.below.items) (thread_of code.now self.old)) }
         ensures rest { KeepsFuel self.old self.new }
     {
@@ -271,10 +271,10 @@ impl Runner {
                 if self.fits(code, &way, *function) {
                     self.enter(code, who, args, *function, *principal, *crosses);
                 } else {
-                    self.differ(&way);
+                    self.trap_at_signature(&way);
                 }
             }
-            _ => self.pass(code, &value_of(reply)),
+            _ => self.go_past(code, &value_of(reply)),
         }
     }
 
@@ -284,16 +284,16 @@ impl Runner {
         ensures rest { KeepsFuel self.old self.new }
     {
         match what {
-            What::Alloca { at, size } => self.lodge(code, at, size),
+            What::Alloca { at, size } => self.take_stack_bytes(code, at, size),
             What::Enter { way, args } => self.answer_entry(code, who, way, args, reply),
-            What::Perform { .. } => self.go_on(code),
-            What::Return { .. } => self.go_back(code),
+            What::Perform { .. } => self.end_action(code),
+            What::Return { .. } => self.return_from_body(code),
             What::Load { .. }
             | What::Store { .. }
             | What::Copy { .. }
             | What::Fill { .. }
             | What::Native { .. }
-            | What::Finish { .. } => self.pass(code, &value_of(reply)),
+            | What::Finish { .. } => self.go_past(code, &value_of(reply)),
         }
     }
 

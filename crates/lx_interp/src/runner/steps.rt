@@ -9,6 +9,7 @@ ghost use Rattle.lx_interp.specs.Runner.{HasTaken, HasStayed, GoesOn, IsAsking, 
 
 use super::Runner;
 use super::effects::finishing;
+use crate::copies::copies_of;
 use crate::ending::Ending;
 use crate::frame::Stage;
 use lx_caps::Principal;
@@ -42,14 +43,17 @@ fn entry(alloc: Global, call: &ScriptCall) -> Result<What, Memory>
 }
 
 impl Runner {
-    /// The runner of the thread with this number before its first call. `Memory` where there is no room for the
-    /// endings of its calls.
-    pub fn open(alloc: Global, thread: u32, calls: Calls) -> Result<Runner, Memory>
-        ensures fresh { IfOk result (λ r. (p : Program) → StandsFor p thread r (fresh_thread calls)) }
+    /// The runner of the thread with this number before its first call. It keeps copies of the calls.
+    ///
+    /// # Errors
+    /// Want of memory for the copies and for the endings of the calls.
+    pub fn open(alloc: Global, thread: u32, calls: &Calls) -> Result<Runner, Memory>
+        ensures fresh { IfOk result (λ r. (p : Program) → StandsFor p thread r (fresh_thread calls.now)) }
         ensures idle { IfOk result (λ r. request_of r ≡ None) }
-        ensures events { IfOk result (λ r. events_left r ≡ events_of calls) }
+        ensures events { IfOk result (λ r. events_left r ≡ events_of calls.now) }
     {
-        let endings = Vec::with_capacity(alloc, calls.items.len())?;
+        let calls = copies_of(alloc, calls.as_slice())?;
+        let endings = Vec::with_capacity(alloc, calls.len())?;
         let fuel = fuel_at(&calls, 0);
         Ok(Runner {
             alloc,
@@ -199,6 +203,7 @@ impl Runner {
         requires request { self.old.request ≡ None }
         ensures goes_on { GoesOn code.now self.old self.new }
         ensures asks { OnOk result (IsSome self.new.request) }
+        ensures asks_nothing { OnErr result (self.new.request ≡ None) }
         ensures spares { events_left self.new ≤ events_left self.old }
     {
         model_laws();
@@ -208,14 +213,15 @@ impl Runner {
         Ok(())
     }
 
-    /// Takes register steps up to the next request, and makes the room that its reply needs. After `Memory` a
-    /// further call goes on from where this one stood.
+    /// Takes register steps up to the next request, and makes the room that its reply needs. After `Memory` the runner asks
+    /// nothing yet, and a further call goes on from where this one stood.
     pub fn local(&mut self, code: &Code) -> Result<(), Memory>
         ensures stands { (t : ℕ) → (thread : Thread) → StandsFor code.now t self.old thread → StandsFor code.now t self.new thread }
         ensures asks { OnOk result ((t : ℕ) → (thread : Thread) → StandsFor code.now t self.old thread → IsTrue (has_work thread) → IsAsking code.now t self.new (next code.now t thread)) }
         ensures calls { calls_left self.new ≡ calls_left self.old }
         ensures events { events_left self.new ≤ events_left self.old }
         ensures waits { OnOk result (IsTrue (has_call (calls_left self.old)) → IsSome (request_of self.new)) }
+        ensures asks_nothing { OnErr result (request_of self.new ≡ None) }
     {
         if self.request.is_some() || self.done() {
             return Ok(());

@@ -10,4 +10,4 @@ pub returns : goal.returns
 returns g c = λ h stands free.
     module_whole (owned_in c.args.types h) c.args.home _ _ _ _ _ (c.in_ok-put_owner.ensures h stands free) (c.in_ok-put_owner-2.ensures h stands free)
     (c.in_ok-put_instances.ensures h stands free
-    ∙ ap (λ n. c.put_owner-2.new.out.items ++ flat_map (owned_in c.args.types h) (map (Inst c.args.home) (below n))) c.in_ok-count.ensures)
+    ∙ ap (λ n. c.put_owner-2.new.out.items ++ flat_map (owned_in c.args.types h) (map (Inst c.args.home) (below n))) c.count-count.ensures)

@@ -1,7 +1,10 @@
 use Rattle.std.proofs.lemmas.Result.{err_from_is_err_and}
+use Rattle.std.proofs.Common.{ap, not, sym}
 use Rattle.lx_interp.specs.Runner.{calls_left}
 use Rattle.lx_serve.specs.Room.{store_room}
 use Rattle.lx_model.specs.Next.{next}
+use Rattle.lx_core.specs.Wants.{may_want}
+use Rattle.lx_core.proofs.Wanted.{wants_asked}
 use Rattle.lx_core.proofs.Turns.{turned, turned_ends, has_work_of}
 use Rattle.lx_core.proofs.turn.turn.Goals as goal
 
@@ -29,3 +32,14 @@ returns-clause-ends g c = λ s x st r.
     st c.requires.thread r.stack asks (c.in-Some.ensures.asked p t (next p t x) asks)
     (c.in_ok-reply-in-Some.ensures.served p s st) (c.absorb.ensures.stands t (next p t x) asks)
     (calls_left c.args.runner.now) (store_room g.C.CapStore.spare c.args.shared.now) (store_room g.C.CapStore.spare c.answer.new.shared) c.requires.work c.local.ensures.calls c.in_ok-reply-in-Some.ensures.leaves
+
+pub returns-in_err-local-clause-no_memory : goal.returns-in_err-local-clause-no_memory
+returns-in_err-local-clause-no_memory g c =
+    let p = err_from_is_err_and c.from_residual.result c.from_residual.ensures.1 in
+    rw p.1 (λ journal store. ap may_want c.in_err-local.ensures.asks_nothing)
+
+pub returns-in_err-reply-in-Some-clause-no_memory : goal.returns-in_err-reply-in-Some-clause-no_memory
+returns-in_err-reply-in-Some-clause-no_memory g c =
+    let p = err_from_is_err_and c.from_residual-in_err-reply-in-Some.result c.from_residual-in_err-reply-in-Some.ensures.1 in
+    rw p.1
+    (λ journal store. wants_asked _ c.in-Some.request.now (sym c.in-Some.ensures.value) (ap not (c.in_err-reply-in-Some.ensures.no_memory journal store)))

@@ -1,4 +1,4 @@
-use Rattle.std.proofs.Common.{◌≡◌, length, map}
+use Rattle.std.proofs.Common.{◌≡◌, length, map, take}
 use Rattle.std.specs.List.{sum_by}
 use Rattle.lx_model.specs.Thread.{fresh_thread}
 use Rattle.lx_interp.specs.Runner.{calls_left, events_left}
@@ -7,8 +7,8 @@ use Rattle.lx_core.proofs.runners.Runners.open.Given as goal
 
 abbrev pub invariant-loop-calls : goal.invariant-loop-calls
 invariant-loop-calls l = record {
-  as_many : length l.list.items ≡ length l.yielded;
-  stand : AllStand l.code 0 l.list.items (map fresh_thread l.yielded);
-  events : sum_by events_left l.list.items ≡ script_events l.yielded;
-  calls : sum_by (λ r. length (calls_left r)) l.list.items ≡ script_calls l.yielded;
+  as_many : length l.list.items ≡ l.calls-index;
+  stand : AllStand l.code 0 l.list.items (map fresh_thread (take l.calls-index l.script));
+  events : sum_by events_left l.list.items ≡ script_events (take l.calls-index l.script);
+  calls : sum_by (λ r. length (calls_left r)) l.list.items ≡ script_calls (take l.calls-index l.script);
 }

@@ -1,8 +1,10 @@
-use Rattle.std.proofs.Common.{◌≡◌, Bool, true, false, not, refl, sym, ◌∙◌}
+use Rattle.std.proofs.Common.{◌≡◌, Bool, true, false, not, refl, sym, ap, ◌∙◌}
 use Rattle.std.proofs.lemmas.Result.{err_from_is_err_and}
 use Rattle.lx_serve.specs.Room.{journal_room, store_room}
 use Rattle.lx_core.proofs.Counted.{ends_behind, room_behind, room_still}
+use Rattle.lx_core.specs.Wants.{may_want}
 use Rattle.lx_core.proofs.Standing.{at_thread, busy, event_stands, fault_stands, idle_is}
+use Rattle.lx_core.proofs.Wanted.{asked_after, end_room, event_room}
 use Rattle.lx_core.proofs.world.World.event.Goals as goal
 
 idle_off : (x y : Bool) → x ≡ not y → x ≡ true → y ≡ false
@@ -76,3 +78,13 @@ returns-in_err-turn-clause-ends g c = λ p w st room.
     ends_behind c.args.self.now.runners.list.items _ c.args.thread c.at.result.now c.turn.new.runner (store_room g.C.CapStore.spare c.args.self.now.shared)
     (store_room g.C.CapStore.spare c.turn.new.shared) refl is there
     (at_thread g.C.CapStore.stands c.args.self.now p w c.args.thread c.at.result.now _ is there c.turn.ensures.ends st) room
+
+pub returns-in_err-turn-clause-no_memory : goal.returns-in_err-turn-clause-no_memory
+returns-in_err-turn-clause-no_memory g c = λ wants room ends.
+    let rs = c.args.self.now.runners.list.items in
+    let is = c.at.ensures.value in
+    let there = c.is_idle.ensures.there c.if-is_idle.false in
+    let work = busy rs c.args.thread c.at.result.now (sym c.is_idle.ensures.idle ∙ c.if-is_idle.false) is in
+    ap may_want (asked_after rs c.args.thread c.turn.new.runner there)
+    ∙ c.in_err-turn.ensures.no_memory (event_room rs c.args.thread c.at.result.now (journal_room c.args.self.now.shared) is there work room)
+    (end_room rs c.args.thread c.at.result.now (store_room g.C.CapStore.spare c.args.self.now.shared) is there work ends)

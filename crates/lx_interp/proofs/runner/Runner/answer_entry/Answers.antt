@@ -18,6 +18,6 @@ returns-else-fits-clause-becomes c = λ room.
     let p = c.args.code.now in
     let old = c.args.self.now in
     let e = c.in-Entered in
-    subst (Becomes p old c.differ.new.self)
+    subst (Becomes p old c.trap_at_signature.new.self)
     (entry_answered p old.thread (thread_of p old) c.args.who c.args.way c.args.args e.function e.principal e.crosses false c.args.reply.now e.is (sym c.if-fits.false ∙ c.fits.ensures))
-    (c.differ.ensures.becomes p (entered_frame p old.thread c.args.who c.args.args (frames_of p old.top old.below.items) e.function e.principal e.crosses))
+    (c.trap_at_signature.ensures.becomes p (entered_frame p old.thread c.args.who c.args.args (frames_of p old.top old.below.items) e.function e.principal e.crosses))

@@ -1,18 +1,18 @@
 use Rattle.std.proofs.Common.{Some, None, false, refl, ap, sym, ◌∙◌}
-use Rattle.lx_interp.specs.declared.frame.Stage.TheVariants as standing
+use Rattle.lx_interp.specs.declared.frame.Stage.TheVariants as kept_stage
 use Rattle.lx_interp.specs.Runner.{thread_of}
 use Rattle.lx_interp.proofs.Stages.{before_body, in_body, behind_body, some_frame}
 use Rattle.lx_interp.proofs.Takings.{retaken, counted_at}
 use Rattle.lx_interp.proofs.runner.Runner.go_in.Goals as goal
 
 pub perform-requires-clause-counted : goal.perform-requires-clause-counted
-perform-requires-clause-counted c = counted_at c.args.self.now.top (Some (standing.Pre c.in-Pre.index)) (ap Some (sym c.in-Pre.is) ∙ c.requires.stage) tt
+perform-requires-clause-counted c = counted_at c.args.self.now.top (Some (kept_stage.Pre c.in-Pre.index)) (ap Some (sym c.in-Pre.is) ∙ c.requires.stage) tt
 
 pub run-requires-clause-top : goal.run-requires-clause-top
-run-requires-clause-top c = some_frame c.args.self.now.top standing.Body (ap Some (sym c.in-Body.is) ∙ c.requires.stage)
+run-requires-clause-top c = some_frame c.args.self.now.top kept_stage.Body (ap Some (sym c.in-Body.is) ∙ c.requires.stage)
 
 pub run-requires-clause-counted : goal.run-requires-clause-counted
-run-requires-clause-counted c = counted_at c.args.self.now.top (Some standing.Body) (ap Some (sym c.in-Body.is) ∙ c.requires.stage) tt
+run-requires-clause-counted c = counted_at c.args.self.now.top (Some kept_stage.Body) (ap Some (sym c.in-Body.is) ∙ c.requires.stage) tt
 
 pub go_out-requires-clause-stage : goal.go_out-requires-clause-stage
 go_out-requires-clause-stage c = ap Some (sym c.in-Post.is) ∙ c.requires.stage
