@@ -117,10 +117,10 @@ pub record {cap} : Type 0 where
   pub account_is : account program (run program schedule (opening program script)) ≡ told
   pub is_whole_is : is_whole program schedule (opening program script) ≡ true
 ''')
-    os.makedirs(f'{C}/proofs/{name}', exist_ok=True)
-    open(f'{C}/proofs/{name}/Answers.antt', 'w').write(f'''-- The row computes.
+    os.makedirs(f'{C}/proofs/programs/{name}', exist_ok=True)
+    open(f'{C}/proofs/programs/{name}/Answers.antt', 'w').write(f'''-- The row computes.
 use Rattle.std.proofs.Common.{{refl}}
-use Rattle.lx_worked_programs.proofs.{name}.Goals as goal
+use Rattle.lx_worked_programs.proofs.programs.{name}.Goals as goal
 
 pub returns : goal.returns
 returns c = record {{ account_is = refl; is_whole_is = refl }}
@@ -223,8 +223,10 @@ rows.append(row('generated', 'Twenty generated calls on four threads.', 'gen', [
     [('s', 'call', 0x10060), ('s', 'call', 0x10080), ('s', 'call', 0x10130), ('s', 'call', 0x10140)], []))
 os.makedirs(C + '/src', exist_ok=True)
 only = [r for r in rows if r[0] in sys.argv[1:]] if sys.argv[1:] else rows
-open(C + '/specs/Lib.antt', 'w').write('pub mod RowTexts\npub mod Rows\npub mod RowsOfThreads\npub mod Kernel\n' + ''.join(f'pub mod {c}\n' for n, c, t in only))
-open(C + '/src/lib.rt', 'w').write('//! Worked rows: programs written out, and the accounts that the monitor gives of their runs.\n#![tactic(auto)]\n\n'
+# the modules of linking and of images are written by hand, behind those of the programs
+others = ''.join(f'pub mod {c}\n' for c in ('Calls', 'Faults', 'Orders', 'Programs', 'ImageFaults', 'Images', 'Texts', 'Wrappers'))
+open(C + '/specs/Lib.antt', 'w').write('pub mod RowTexts\npub mod Rows\npub mod RowsOfThreads\npub mod Kernel\n' + ''.join(f'pub mod {c}\n' for n, c, t in only) + others)
+open(C + '/src/programs.rt', 'w').write('//! Worked rows: programs written out, and the accounts that the monitor gives of their runs.\n'
     + 'ghost use Rattle.lx_worked_programs.specs.Rows.{WorkedRows};\nghost use Rattle.lx_worked_programs.specs.RowsOfThreads.{WorkedThreads};\n'
     + ''.join(f'ghost use Rattle.lx_worked_programs.specs.{c}.{{{c}}};\n' for n, c, t in only)
     + '\n/// One function: with enough fuel, with too little, and a store past the end of a global.\npub fn worked_rows()\n    ensures { WorkedRows }\n{\n}\n'
