@@ -1,5 +1,5 @@
 -- The journal tells the schedule.
-use Rattle.std.proofs.Common.{◌≡◌, ◌∙◌, sym, ap, subst, refl, ℕ, zero, suc, Bool, true, false, ◌&&◌, List, [], ◌∷◌, ◌++◌, append_assoc, map, Option, Some, None, Ok, Err, slice_get}
+use Rattle.std.proofs.Common.{◌≡◌, ◌∙◌, sym, ap, refl, ℕ, zero, suc, Bool, true, false, List, [], ◌∷◌, ◌++◌, append_assoc, map, Option, Some, None, Ok, Err, slice_get}
 use mathlib.Core.List.{append-nil}
 use Rattle.lx_words.specs.Word.{Word}
 use Rattle.lx_caps.specs.declared.Principal.{Principal}

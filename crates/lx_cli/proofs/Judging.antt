@@ -34,7 +34,7 @@ judged i x (answer.Fault f) there j = absurd j
 judged i x (answer.Unread file) there j = absurd j
 judged i x (answer.Broken entry) there j = absurd j
 judged i x (answer.Report text well) there j = absurd j
-judged i x (answer.Image text) there j = absurd j
+judged i x (answer.Text text) there j = absurd j
 
 -- the image behind a reference to it
 pub present : (o : Option ImageFile) (r : Bor ImageFile) (lent : Option (Bor ImageFile)) → option_copied lent ≡ o → lent ≡ Some r → o ≡ Some r.now

@@ -1,6 +1,5 @@
 -- When each status comes.
-use Rattle.std.proofs.Common.{◌≡◌, ◌≢◌, ◌∙◌, sym, ap, subst, refl, ◌⊎◌, inl, inr, ℕ, ◌<◌, Bool, true, false, List, [], ◌∷◌, ◌++◌, length, Option, Some, None, Result, Ok, Err, arith}
-use Rattle.std.specs.List.{Contains}
+use Rattle.std.proofs.Common.{◌≡◌, ◌≢◌, ◌∙◌, sym, ap, subst, refl, ◌⊎◌, inl, inr, ℕ, ◌≤◌, Bool, true, false, List, [], ◌∷◌, ◌++◌, Option, Some, None, Result, Ok, Err, if◌then◌else◌, arith}
 use Rattle.std.proofs.lemmas.Bool.{cases_lt}
 use Rattle.lx_model.specs.World.{opening, is_whole}
 use Rattle.lx_outside.specs.declared.file_text.FileText.{FileText}
@@ -12,16 +11,16 @@ use Rattle.lx_input.specs.Files.Laws.{IsOne, EndsAt}
 use Rattle.lx_input.specs.declared.input.Input.{Input}
 use Rattle.lx_input.specs.Laws.{OneInput, MissingFilesEnd}
 use Rattle.lx_input.specs.Files.ImageFile.{ImageFile}
-use Rattle.lx_cli.specs.Answer.{IsAsked, IsBroken, IsReportOf, IsAccepted, IsRefusedBy, HasProgram, MadeBy, BrokenBy, RefusedBy, EndedBy, accepted_line, broken_at}
-use Rattle.lx_cli.specs.Command.{Command, Run, Replay, Instrument, Check, CommandTurn, ComesTo, IsRun, asked_of, case_of, command_of}
+use Rattle.lx_cli.specs.Answer.{IsAsked, IsBroken, IsReportOf, IsAccepted, IsRefusedBy, HasProgram, MadeBy, BrokenBy, RefusedBy, EndedBy, HasEnded, accepted_line, unread_line}
+use Rattle.lx_cli.specs.Command.{Command, Run, Replay, Instrument, Check, Generate, CommandTurn, ComesTo, IsRun, IsGenerated, asked_of, case_of, command_of, files_by, files_of}
 use Rattle.lx_cli.specs.declared.answer.Answer.{Answer}
 use Rattle.lx_cli.specs.declared.answer.Answer.TheVariants as answer
-use Rattle.lx_cli.specs.Rows.{NoNewFault, status_of}
+use Rattle.lx_cli.specs.Rows.{NoNewFault, answer_text, status_of}
 use Rattle.lx_cli.specs.Told.{TellsInput}
 use Rattle.lx_cli.proofs.Replays.{whole_unbroken}
 
 -- a status that a sink took whole, or 5
-five_or : (r s : ℕ) → (r ≢ 5 → r ≡ s) → (r ≡ 5) ⊎ (r ≡ s)
+pub five_or : (r s : ℕ) → (r ≢ 5 → r ≡ s) → (r ≡ 5) ⊎ (r ≡ s)
 five_or r s is = elim (cases_lt r 5) [
   | inl below ↦ inr (is (λ e. omega (arith, e, below)))
   | inr least ↦ elim (cases_lt 5 r) [
@@ -58,6 +57,7 @@ made_not_broken (Some (Run case)) i well text entry made broken = broken
 made_not_broken (Some (Replay case schedule)) i well text entry made broken = report_is_whole i well text entry made broken
 made_not_broken (Some (Instrument case part)) i well text entry made broken = broken
 made_not_broken (Some (Check case part image)) i well text entry made broken = broken
+made_not_broken (Some (Generate count)) i well text entry made broken = broken
 
 refused_not_broken : (o : Option Command) (i : Input) (line : FaultLine) (entry : ℕ) → RefusedBy o i line → BrokenBy o i entry → ⊥
 refused_not_broken None i line entry refused broken = broken
@@ -65,6 +65,7 @@ refused_not_broken (Some (Run case)) i line entry refused broken = broken
 refused_not_broken (Some (Replay case schedule)) i line entry refused broken = refused
 refused_not_broken (Some (Instrument case part)) i line entry refused broken = broken
 refused_not_broken (Some (Check case part image)) i line entry refused broken = broken
+refused_not_broken (Some (Generate count)) i line entry refused broken = broken
 
 accepted_not_refused : (i : Input) (line : FaultLine) → IsAccepted i → IsRefusedBy i line → ⊥
 accepted_not_refused i line (x, there, has, none) (y, f, same, lacks, some, is) =
@@ -78,29 +79,41 @@ made_not_refused (Some (Replay case schedule)) i well text line made refused = r
 made_not_refused (Some (Instrument case part)) i well text line made refused = refused
 made_not_refused (Some (Check case part image)) i true text line made refused = accepted_not_refused i line made.0 refused
 made_not_refused (Some (Check case part image)) i false text line made refused = made
+made_not_refused (Some (Generate count)) i well text line made refused = refused
 
 -- how a command ends
 
+ended : (i : Input) (returned : Bool) (text : List ℕ) (result : ℕ) → IsReportOf i returned text → result ≡ (if returned then 0 else 1) → HasEnded i result
+ended i returned text result made is = record {
+  schedule = made.report.schedule;
+  asked = made.asked;
+  whole = made.report.whole;
+  is_status = is ∙ sym (ap (λ b. if b then 0 else 1) made.report.status);
+}
+
 ended_well : (o : Option Command) (i : Input) (text : List ℕ) (result : ℕ) → MadeBy o i true text → result ≡ 0 → EndedBy o i result
 ended_well None i text result made is = made
-ended_well (Some (Run case)) i text result made is = inl is
-ended_well (Some (Replay case schedule)) i text result made is = inl is
+ended_well (Some (Run case)) i text result made is = ended i true text result made is
+ended_well (Some (Replay case schedule)) i text result made is = inl (ended i true text result made is)
 ended_well (Some (Instrument case part)) i text result made is = is
 ended_well (Some (Check case part image)) i text result made is = inl (is, made.0)
+ended_well (Some (Generate count)) i text result made is = is
 
 ended_else : (o : Option Command) (i : Input) (text : List ℕ) (result : ℕ) → MadeBy o i false text → result ≡ 1 → EndedBy o i result
 ended_else None i text result made is = made
-ended_else (Some (Run case)) i text result made is = inr is
-ended_else (Some (Replay case schedule)) i text result made is = inr (inl is)
+ended_else (Some (Run case)) i text result made is = ended i false text result made is
+ended_else (Some (Replay case schedule)) i text result made is = inl (ended i false text result made is)
 ended_else (Some (Instrument case part)) i text result made is = absurd made
 ended_else (Some (Check case part image)) i text result made is = absurd made
+ended_else (Some (Generate count)) i text result made is = absurd made
 
 ended_broken : (o : Option Command) (i : Input) (entry : ℕ) (result : ℕ) → BrokenBy o i entry → result ≡ 7 → EndedBy o i result
 ended_broken None i entry result broken is = broken
 ended_broken (Some (Run case)) i entry result broken is = absurd broken
-ended_broken (Some (Replay case schedule)) i entry result broken is = inr (inr (is, entry, broken))
+ended_broken (Some (Replay case schedule)) i entry result broken is = inr (is, entry, broken)
 ended_broken (Some (Instrument case part)) i entry result broken is = absurd broken
 ended_broken (Some (Check case part image)) i entry result broken is = absurd broken
+ended_broken (Some (Generate count)) i entry result broken is = absurd broken
 
 ended_refused : (o : Option Command) (i : Input) (line : FaultLine) (result : ℕ) → RefusedBy o i line → result ≡ 8 → EndedBy o i result
 ended_refused None i line result refused is = refused
@@ -108,19 +121,20 @@ ended_refused (Some (Run case)) i line result refused is = absurd refused
 ended_refused (Some (Replay case schedule)) i line result refused is = absurd refused
 ended_refused (Some (Instrument case part)) i line result refused is = absurd refused
 ended_refused (Some (Check case part image)) i line result refused is = inr (is, line, refused)
+ended_refused (Some (Generate count)) i line result refused is = absurd refused
 
-module _ (one_input : OneInput) (missing_end : MissingFilesEnd) (words : List (List ℕ)) (files : List FileText) where
+module _ (input_laws : OneInput) (missing_end : MissingFilesEnd) (words : List (List ℕ)) (files : List FileText) where
   one : IsOne (ComesTo words files)
   one = by_command (command_of words) where
     by_command : (o : Option Command) → IsOne (λ r. CommandTurn files o r)
     by_command None = λ a b is_a is_b settled_a settled_b. absurd is_a
-    by_command (Some c) = one_input files (case_of c) (asked_of c)
+    by_command (Some c) = input_laws (files_of files c) (case_of c) (asked_of c)
 
-  ends : EndsAt files (ComesTo words files)
+  ends : EndsAt (files_by files (command_of words)) (ComesTo words files)
   ends = by_command (command_of words) where
-    by_command : (o : Option Command) → EndsAt files (λ r. CommandTurn files o r)
+    by_command : (o : Option Command) → EndsAt (files_by files o) (λ r. CommandTurn files o r)
     by_command None = λ file a is missing is_a settled. is
-    by_command (Some c) = missing_end files (case_of c) (asked_of c)
+    by_command (Some c) = missing_end (files_of files c) (case_of c) (asked_of c)
 
   -- the answer is told of what the files come to
   module _ (a : Answer) (is : TellsInput (command_of words) (ComesTo words files) a) (result : ℕ) (status : result ≢ 5 → result ≡ status_of a) where
@@ -145,11 +159,11 @@ module _ (one_input : OneInput) (missing_end : MissingFilesEnd) (words : List (L
       on (answer.Unread file) is same = inr (inl same)
       on (answer.Broken entry) is same = no_fault_in is.0 f is.1 comes
       on (answer.Report text returned) is same = no_fault_in is.0 f is.1 comes
-      on (answer.Image text) is same = no_fault_in is.0 f is.1 comes
+      on (answer.Text text) is same = no_fault_in is.0 f is.1 comes
       on answer.Accepted is same = no_fault_in is.0 f is.1 comes
       on (answer.Refused g) is same = no_fault_in is.0 f is.1 comes
 
-    pub missing_comes : (file : List ℕ) → ComesTo words files (Err (stops.Unread file)) → file_at files file ≡ None → (result ≡ 4) ⊎ (result ≡ 5) ⊎ (result ≡ 6)
+    pub missing_comes : (file : List ℕ) → ComesTo words files (Err (stops.Unread file)) → file_at (files_by files (command_of words)) file ≡ None → (result ≡ 4) ⊎ (result ≡ 5) ⊎ (result ≡ 6)
     missing_comes file comes gone = elim (five_or result (status_of a) status) [
       | inl five ↦ inr (inl five)
       | inr same ↦ on a is same
@@ -159,7 +173,7 @@ module _ (one_input : OneInput) (missing_end : MissingFilesEnd) (words : List (L
       on (answer.Unread file) is same = inl same
       on (answer.Broken entry) is same = absurd (ends file (Ok is.0) comes gone is.1 tt)
       on (answer.Report text returned) is same = absurd (ends file (Ok is.0) comes gone is.1 tt)
-      on (answer.Image text) is same = absurd (ends file (Ok is.0) comes gone is.1 tt)
+      on (answer.Text text) is same = absurd (ends file (Ok is.0) comes gone is.1 tt)
       on answer.Accepted is same = absurd (ends file (Ok is.0) comes gone is.1 tt)
       on (answer.Refused g) is same = absurd (ends file (Ok is.0) comes gone is.1 tt)
 
@@ -176,7 +190,7 @@ module _ (one_input : OneInput) (missing_end : MissingFilesEnd) (words : List (L
       on (answer.Unread file) is same = inr (inl same)
       on (answer.Broken other) is same = inl same
       on (answer.Report text well) is same = absurd (made_not_broken (command_of words) is.0 well text entry is.2 (there is.0 is.1))
-      on (answer.Image text) is same = absurd (made_not_broken (command_of words) is.0 true text entry is.2 (there is.0 is.1))
+      on (answer.Text text) is same = absurd (made_not_broken (command_of words) is.0 true text entry is.2 (there is.0 is.1))
       on answer.Accepted is same = absurd (made_not_broken (command_of words) is.0 true accepted_line entry is.2 (there is.0 is.1))
       on (answer.Refused g) is same = absurd (refused_not_broken (command_of words) is.0 g entry is.2 (there is.0 is.1))
 
@@ -193,7 +207,7 @@ module _ (one_input : OneInput) (missing_end : MissingFilesEnd) (words : List (L
       on (answer.Unread file) is same = inr (inl same)
       on (answer.Broken entry) is same = absurd (refused_not_broken (command_of words) is.0 line entry (there is.0 is.1) is.2)
       on (answer.Report text well) is same = absurd (made_not_refused (command_of words) is.0 well text line is.2 (there is.0 is.1))
-      on (answer.Image text) is same = absurd (made_not_refused (command_of words) is.0 true text line is.2 (there is.0 is.1))
+      on (answer.Text text) is same = absurd (made_not_refused (command_of words) is.0 true text line is.2 (there is.0 is.1))
       on answer.Accepted is same = absurd (made_not_refused (command_of words) is.0 true accepted_line line is.2 (there is.0 is.1))
       on (answer.Refused g) is same = inl same
 
@@ -209,7 +223,7 @@ module _ (one_input : OneInput) (missing_end : MissingFilesEnd) (words : List (L
       on (answer.Broken entry) is grew same = here is.0 is.1 (ended_broken (command_of words) is.0 entry result is.2 same)
       on (answer.Report text true) is grew same = here is.0 is.1 (ended_well (command_of words) is.0 text result is.2 same)
       on (answer.Report text false) is grew same = here is.0 is.1 (ended_else (command_of words) is.0 text result is.2 same)
-      on (answer.Image text) is grew same = here is.0 is.1 (ended_well (command_of words) is.0 text result is.2 same)
+      on (answer.Text text) is grew same = here is.0 is.1 (ended_well (command_of words) is.0 text result is.2 same)
       on answer.Accepted is grew same = here is.0 is.1 (ended_well (command_of words) is.0 accepted_line result is.2 same)
       on (answer.Refused g) is grew same = here is.0 is.1 (ended_refused (command_of words) is.0 g result is.2 same)
 
@@ -224,7 +238,7 @@ module _ (words : List (List ℕ)) (files : List FileText) where
   fault_told (answer.Broken entry) is status = absurd cc
   fault_told (answer.Report text true) is status = absurd cc
   fault_told (answer.Report text false) is status = absurd cc
-  fault_told (answer.Image text) is status = absurd cc
+  fault_told (answer.Text text) is status = absurd cc
   fault_told answer.Accepted is status = absurd cc
   fault_told (answer.Refused f) is status = absurd cc
 
@@ -234,7 +248,7 @@ module _ (words : List (List ℕ)) (files : List FileText) where
   broken_told (answer.Broken entry) is status = (is.0, entry, is.1, is.2)
   broken_told (answer.Report text true) is status = absurd cc
   broken_told (answer.Report text false) is status = absurd cc
-  broken_told (answer.Image text) is status = absurd cc
+  broken_told (answer.Text text) is status = absurd cc
   broken_told answer.Accepted is status = absurd cc
   broken_told (answer.Refused f) is status = absurd cc
 
@@ -244,7 +258,7 @@ module _ (words : List (List ℕ)) (files : List FileText) where
   refused_told (answer.Broken entry) is status = absurd cc
   refused_told (answer.Report text true) is status = absurd cc
   refused_told (answer.Report text false) is status = absurd cc
-  refused_told (answer.Image text) is status = absurd cc
+  refused_told (answer.Text text) is status = absurd cc
   refused_told answer.Accepted is status = absurd cc
   refused_told (answer.Refused f) is status = (is.0, f, is.1, is.2)
 
@@ -258,6 +272,45 @@ unread_of (answer.Unread file) status = (file, refl)
 unread_of (answer.Broken entry) status = absurd cc
 unread_of (answer.Report text true) status = absurd cc
 unread_of (answer.Report text false) status = absurd cc
-unread_of (answer.Image text) status = absurd cc
+unread_of (answer.Text text) status = absurd cc
 unread_of answer.Accepted status = absurd cc
 unread_of (answer.Refused f) status = absurd cc
+
+-- and the line about it
+pub line_of : (a : Answer) (file : List ℕ) → a ≡ answer.Unread file → answer_text a ≡ unread_line file
+line_of a file is = ap answer_text is
+
+-- no status is above 8
+pub few_statuses : (a : Answer) (result : ℕ) → (result ≢ 5 → result ≡ status_of a) → result ≤ 8
+few_statuses a result status = elim (five_or result (status_of a) status) [
+  | inl five ↦ omega (arith, five)
+  | inr same ↦ on a same
+] where
+  on : (b : Answer) → result ≡ status_of b → result ≤ 8
+  on (answer.Fault f) same = omega (arith, same)
+  on (answer.Unread file) same = omega (arith, same)
+  on (answer.Broken entry) same = omega (arith, same)
+  on (answer.Report text true) same = omega (arith, same)
+  on (answer.Report text false) same = omega (arith, same)
+  on (answer.Text text) same = omega (arith, same)
+  on answer.Accepted same = omega (arith, same)
+  on (answer.Refused f) same = omega (arith, same)
+
+-- an answer has no status 2
+pub no_two : (a : Answer) → status_of a ≡ 2 → ⊥
+no_two (answer.Fault f) status = cc
+no_two (answer.Unread file) status = cc
+no_two (answer.Broken entry) status = cc
+no_two (answer.Report text true) status = cc
+no_two (answer.Report text false) status = cc
+no_two (answer.Text text) status = cc
+no_two answer.Accepted status = cc
+no_two (answer.Refused f) status = cc
+
+-- words that are no command generate nothing
+pub no_command : (words : List (List ℕ)) → command_of words ≡ None → IsGenerated words → ⊥
+no_command words none (count, is) = let no : None ≡ Some (Generate count) = sym none ∙ is in absurd cc
+
+-- what is said is one command
+pub said_is : {c d : Command} → Some c ≡ Some d → c ≡ d
+said_is is = cc

@@ -1,5 +1,5 @@
 -- What an answer tells of the files' input.
-use Rattle.std.proofs.Common.{◌≡◌, refl, sym, subst, inl, inr, ℕ, Bool, false, is_some, List, [], ◌∷◌, ◌++◌, Option, Some, None, Result, IfOk, Ok, Err}
+use Rattle.std.proofs.Common.{◌≡◌, refl, sym, ap, subst, inl, inr, ℕ, false, is_some, List, [], ◌∷◌, ◌++◌, Option, Some, None, Result, IfOk, Ok, Err}
 use Rattle.lx_input.specs.Files.InputStop.{InputStop}
 use Rattle.lx_input.specs.Files.InputStop.TheVariants as stops
 use Rattle.lx_input.specs.Files.Turns.{HasNoted}
@@ -7,7 +7,7 @@ use Rattle.lx_outside.specs.declared.file_text.FileText.{FileText}
 use Rattle.lx_input.specs.Files.Asked.{Asked, AreThere}
 use Rattle.lx_input.specs.Inputs.{InputTurn}
 use Rattle.lx_input.specs.declared.input.Input.{Input}
-use Rattle.lx_cli.specs.Command.{Command, Run, Replay, Instrument, Check, asked_of}
+use Rattle.lx_cli.specs.Command.{Command, Run, Replay, Instrument, Check, Generate, CommandTurn, asked_of, case_of, count_asked, generated_files}
 use Rattle.lx_cli.specs.declared.answer.Answer.{Answer}
 use Rattle.lx_cli.specs.declared.answer.Answer.TheVariants as answer
 use Rattle.lx_cli.specs.Told.{TellsInput, TellsOf, TellsRun}
@@ -23,7 +23,7 @@ told_run case turn i (answer.Fault f) none comes is = absurd is
 told_run case turn i (answer.Unread file) none comes is = absurd is
 told_run case turn i (answer.Broken entry) none comes is = absurd (scheduled i.besides.schedule is.0 none is.1)
 told_run case turn i (answer.Report text returned) none comes is = (i, comes, record { report = is.0; asked = is.1 })
-told_run case turn i (answer.Image text) none comes is = absurd is
+told_run case turn i (answer.Text text) none comes is = absurd is
 told_run case turn i answer.Accepted none comes is = absurd is
 told_run case turn i (answer.Refused f) none comes is = absurd is
 
@@ -32,7 +32,7 @@ told_replay case schedule turn i (answer.Fault f) comes is = absurd is
 told_replay case schedule turn i (answer.Unread file) comes is = absurd is
 told_replay case schedule turn i (answer.Broken entry) comes is = (i, comes, is)
 told_replay case schedule turn i (answer.Report text returned) comes is = (i, comes, record { report = is.0; asked = is.1 })
-told_replay case schedule turn i (answer.Image text) comes is = absurd is
+told_replay case schedule turn i (answer.Text text) comes is = absurd is
 told_replay case schedule turn i answer.Accepted comes is = absurd is
 told_replay case schedule turn i (answer.Refused f) comes is = absurd is
 
@@ -42,6 +42,7 @@ told_input (Replay case schedule) turn i a there comes is = told_replay case sch
 told_input (Instrument case part) turn i a there comes (text, same, is) = subst (TellsInput (Some (Instrument case part)) turn) (sym same) (i, comes, is)
 told_input (Check case part image) turn i a there comes (inl (same, is)) = subst (TellsInput (Some (Check case part image)) turn) (sym same) (i, comes, (is, refl))
 told_input (Check case part image) turn i a there comes (inr (line, same, is)) = subst (TellsInput (Some (Check case part image)) turn) (sym same) (i, comes, is)
+told_input (Generate count) turn i a there comes (text, same, is) = subst (TellsInput (Some (Generate count)) turn) (sym same) (i, comes, is)
 
 -- an answer to an input names no file that was not read
 pub names_none : (c : Command) (i : Input) (file : List ℕ) → TellsOf c i (answer.Unread file) → ⊥
@@ -50,6 +51,7 @@ names_none (Replay case schedule) i file is = is
 names_none (Instrument case part) i file (text, same, is) = absurd cc
 names_none (Check case part image) i file (inl (same, is)) = absurd cc
 names_none (Check case part image) i file (inr (line, same, is)) = absurd cc
+names_none (Generate count) i file (text, same, is) = absurd cc
 
 -- and to one that ended
 pub told_stop : (c : Option Command) (turn : Result Input InputStop → Type 0) (stop : InputStop) (a : Answer) → turn (Err stop)
@@ -58,7 +60,7 @@ told_stop c turn stop (answer.Fault f) comes is = subst turn (sym is) comes
 told_stop c turn stop (answer.Unread file) comes is = subst turn (sym is) comes
 told_stop c turn stop (answer.Broken entry) comes is = let no = is.1 in absurd cc
 told_stop c turn stop (answer.Report text returned) comes is = let no = is.1 in absurd cc
-told_stop c turn stop (answer.Image text) comes is = let no = is.1 in absurd cc
+told_stop c turn stop (answer.Text text) comes is = let no = is.1 in absurd cc
 told_stop c turn stop answer.Accepted comes is = let no = is.1 in absurd cc
 told_stop c turn stop (answer.Refused f) comes is = let no = is.1 in absurd cc
 
@@ -79,7 +81,7 @@ NamesNewest before now (answer.Fault f) = Unit {0}
 NamesNewest before now (answer.Unread file) = now ≡ before ++ file ∷ []
 NamesNewest before now (answer.Broken entry) = Unit {0}
 NamesNewest before now (answer.Report text returned) = Unit {0}
-NamesNewest before now (answer.Image text) = Unit {0}
+NamesNewest before now (answer.Text text) = Unit {0}
 NamesNewest before now answer.Accepted = Unit {0}
 NamesNewest before now (answer.Refused f) = Unit {0}
 
@@ -91,6 +93,31 @@ noted_stop before now stop (answer.Unread other) file noted is same =
     subst (λ (b : Answer). NamesNewest before now b) same named
 noted_stop before now stop (answer.Broken entry) file noted is same = absurd cc
 noted_stop before now stop (answer.Report text returned) file noted is same = absurd cc
-noted_stop before now stop (answer.Image text) file noted is same = absurd cc
+noted_stop before now stop (answer.Text text) file noted is same = absurd cc
 noted_stop before now stop answer.Accepted file noted is same = absurd cc
 noted_stop before now stop (answer.Refused f) file noted is same = absurd cc
+
+-- the files of a command: its own where it generates a case, and else those of the shelf
+
+generated_is : (c : Command) (count : ℕ) → count_asked c ≡ Some count → c ≡ Generate count
+generated_is (Run case) count is = absurd cc
+generated_is (Replay case schedule) count is = absurd cc
+generated_is (Instrument case part) count is = absurd cc
+generated_is (Check case part image) count is = absurd cc
+generated_is (Generate n) count is = let same : n ≡ count = cc in ap Generate same
+
+pub generated_turn : (files : List FileText) (c : Command) (count : ℕ) (a : Answer) → count_asked c ≡ Some count → TellsInput (Some c) (InputTurn (generated_files count) (case_of c) (asked_of c)) a
+    → TellsInput (Some c) (CommandTurn files (Some c)) a
+generated_turn files c count a is tells = moved c (generated_is c count is) tells where
+  moved : (d : Command) → d ≡ Generate count → TellsInput (Some d) (InputTurn (generated_files count) (case_of d) (asked_of d)) a → TellsInput (Some d) (CommandTurn files (Some d)) a
+  moved d same = subst (λ (e : Command). TellsInput (Some e) (InputTurn (generated_files count) (case_of e) (asked_of e)) a → TellsInput (Some e) (CommandTurn files (Some e)) a) (sym same) (λ t. t)
+
+pub shelf_turn : (files : List FileText) (c : Command) (a : Answer) → count_asked c ≡ None → TellsInput (Some c) (InputTurn files (case_of c) (asked_of c)) a → TellsInput (Some c) (CommandTurn files (Some c)) a
+shelf_turn files (Run case) a is tells = tells
+shelf_turn files (Replay case schedule) a is tells = tells
+shelf_turn files (Instrument case part) a is tells = tells
+shelf_turn files (Check case part image) a is tells = tells
+shelf_turn files (Generate count) a is tells = absurd cc
+
+pub not_generated : (c : Command) (count : ℕ) → count_asked c ≡ None → c ≡ Generate count → ⊥
+not_generated c count none is = let some : count_asked c ≡ Some count = ap count_asked is in absurd cc

@@ -1,11 +1,10 @@
 -- What was written for an answer.
-use Rattle.std.proofs.Common.{◌≡◌, ◌≢◌, ◌⊎◌, inl, inr, ◌∙◌, sym, ap, subst, refl, arith, ℕ, ◌<◌, Bool, true, false, List, [], ◌∷◌, ◌++◌, length, take, Option, Some, None, Result}
+use Rattle.std.proofs.Common.{◌≡◌, ◌⊎◌, inl, inr, ◌∙◌, sym, ap, subst, refl, arith, ℕ, ◌<◌, true, false, List, [], ◌∷◌, ◌++◌, length, take, Option, Some, None, Result}
 use Rattle.lx_outside.specs.declared.file_text.FileText.{FileText}
 use Rattle.lx_input.specs.Files.InputStop.{InputStop}
 use Rattle.lx_input.specs.declared.input.Input.{Input}
-use Rattle.lx_input.specs.Inputs.{InputTurn}
 use Rattle.lx_cli.specs.Answer.{usage_line, accepted_line}
-use Rattle.lx_cli.specs.Command.{Command, CommandTurn, ComesTo, asked_of, case_of, command_of}
+use Rattle.lx_cli.specs.Command.{Command, CommandTurn, ComesTo, command_of}
 use Rattle.lx_cli.specs.declared.answer.Answer.{Answer}
 use Rattle.lx_cli.specs.declared.answer.Answer.TheVariants as answer
 use Rattle.lx_cli.specs.Rows.{RowText, Wrote, FellShort, Headline, answer_text, status_of}
@@ -13,7 +12,7 @@ use Rattle.lx_cli.specs.Told.{TellsInput}
 
 -- what is told of a command's files is told of the words'
 pub by_words : (words : List (List ℕ)) (files : List FileText) (c : Command) (a : Answer) → command_of words ≡ Some c
-    → TellsInput (Some c) (InputTurn files (case_of c) (asked_of c)) a → TellsInput (command_of words) (ComesTo words files) a
+    → TellsInput (Some c) (CommandTurn files (Some c)) a → TellsInput (command_of words) (ComesTo words files) a
 by_words words files c a command is = subst (λ (o : Option Command). TellsInput o (λ (r : Result Input InputStop). CommandTurn files o r) a) (sym command) is
 
 -- The shelf's faults are `before` and `now`, and the sink told `told` and tells `new`.
@@ -37,7 +36,7 @@ module _ (words : List (List ℕ)) (files : List FileText) (before : List (List 
       row (answer.Broken entry) is grew = (is.0, entry, is.1, is.2, refl)
       row (answer.Report text true) is grew = is
       row (answer.Report text false) is grew = is
-      row (answer.Image text) is grew = is
+      row (answer.Text text) is grew = is
       row answer.Accepted is grew = is
       row (answer.Refused f) is grew = (is.0, f, is.1, is.2, refl)
 
@@ -59,7 +58,7 @@ module _ (words : List (List ℕ)) (files : List FileText) (before : List (List 
         on (answer.Broken entry) is which same gained = other 7 which same (omega arith)
         on (answer.Report text true) is which same gained = record { input = is.0; read = is.1; text = text; returned = true; report = is.2; is_status = same; gained = gained }
         on (answer.Report text false) is which same gained = record { input = is.0; read = is.1; text = text; returned = false; report = is.2; is_status = same; gained = gained }
-        on (answer.Image text) is which same gained = record { input = is.0; read = is.1; text = text; returned = true; report = is.2; is_status = same; gained = gained }
+        on (answer.Text text) is which same gained = record { input = is.0; read = is.1; text = text; returned = true; report = is.2; is_status = same; gained = gained }
         on answer.Accepted is which same gained = record { input = is.0; read = is.1; text = accepted_line; returned = true; report = is.2; is_status = same; gained = gained }
         on (answer.Refused f) is which same gained = other 8 which same (omega arith)
 

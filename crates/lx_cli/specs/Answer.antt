@@ -1,6 +1,6 @@
 -- What the program writes for each status.
-use Rattle.std.specs.Prelude.{◌≡◌, ◌⊎◌, ℕ, suc, Bool, true, false, List, [], ◌∷◌, ◌++◌, codes, slice_get, Option, Some, None, option_map, if◌then◌else◌}
-use Rattle.std.specs.List.{list_all}
+use Rattle.std.specs.Prelude.{◌≡◌, ◌⊎◌, ℕ, suc, Bool, true, false, List, [], ◌∷◌, ◌++◌, codes, slice_get, length, Option, Some, None, option_map, if◌then◌else◌}
+use Rattle.std.specs.List.{list_all, sum_by}
 use Rattle.lx_words.specs.Text.{decimal_text}
 use Rattle.lx_ir.specs.declared.module.Module.{Module}
 use Rattle.lx_ir.specs.Text.{module_text}
@@ -12,9 +12,10 @@ use Rattle.lx_image_marks.specs.Told.{kind_number}
 use Rattle.lx_model.specs.declared.program.Program.{Program}
 use Rattle.lx_model.specs.declared.program.ProgramModule.{ProgramModule}
 use Rattle.lx_model.specs.declared.program.ScriptCall.{ScriptCall}
+use Rattle.lx_model.specs.declared.account.Account.{Account}
 use Rattle.lx_model.specs.declared.account.CallOutcome.{CallOutcome}
 use Rattle.lx_model.specs.declared.request.Outcome.{Outcome}
-use Rattle.lx_model.specs.declared.request.Outcome.TheVariants.{Returned}
+use Rattle.lx_model.specs.declared.request.Outcome.TheVariants.{Returned, Refused}
 use Rattle.lx_model.specs.World.{World, opening, run, event, can_act, is_done, is_whole}
 use Rattle.lx_model.specs.Account.{account, schedule_of}
 use Rattle.lx_report.specs.Report.{report_text, schedule_line}
@@ -24,7 +25,7 @@ use Rattle.lx_input.specs.Files.FaultLine.{FaultLine}
 use Rattle.lx_files.specs.Faults.{fault_at}
 use Rattle.lx_input.specs.Files.ImageFile.{ImageFile}
 use Rattle.lx_input.specs.declared.input.Input.{Input}
-use Rattle.lx_cli.specs.Command.{Command, Run, Replay, Instrument, Check}
+use Rattle.lx_cli.specs.Command.{Command, Run, Replay, Instrument, Check, Generate}
 use Rattle.lx_run_laws.specs.Authorised.{AreAuthorised}
 use Rattle.lx_run_laws.specs.PlainRuns.{IsPlainRun}
 
@@ -69,6 +70,13 @@ pub record IsReportOf (i : Input) (returned : Bool) (text : List ℕ) : Type 0 w
   pub report : IsReport i.program i.script returned text
   pub asked : IsAsked i.besides.schedule report.schedule
 
+-- the input was run under a whole schedule, the one that is replayed where one is, and the status says whether every call returned
+pub record HasEnded (i : Input) (status : ℕ) : Type 0 where
+  pub schedule : List ℕ
+  pub asked : IsAsked i.besides.schedule schedule
+  pub whole : is_whole i.program schedule (opening i.program i.script) ≡ true
+  pub is_status : status ≡ (if all_returned (account i.program (run i.program schedule (opening i.program i.script))).outcomes then 0 else 1)
+
 -- the first entry of a schedule, counted from 0, that names a thread without work, or the number of entries where work remains behind the last
 abbrev pub broken_at : Program → List ℕ → World → Option ℕ
 broken_at p [] w = if is_done w then None else Some 0
@@ -112,6 +120,54 @@ IsRefusedBy i line =
     (x : ImageFile) × (f : ImageFault) × (i.besides.image ≡ Some x) × (HasProgram i.program.interface x.text → ⊥)
     × (first_image_fault i.program.interface x.text ≡ Some f) × (line ≡ image_line x.file f)
 
+-- what a summary counts of a call: whether it returned, whether it was refused, and the number that it returned
+
+abbrev pub one_returned : Outcome → ℕ
+one_returned (Returned v) = 1
+one_returned _ = 0
+
+abbrev pub one_refused : Outcome → ℕ
+one_refused (Refused r) = 1
+one_refused _ = 0
+
+abbrev pub number_returned : Outcome → ℕ
+number_returned (Returned (Some v)) = v.bits
+number_returned _ = 0
+
+abbrev pub count_returned : List CallOutcome → ℕ
+count_returned calls = sum_by (λ c. one_returned c.outcome) calls
+
+abbrev pub count_refused : List CallOutcome → ℕ
+count_refused calls = sum_by (λ c. one_refused c.outcome) calls
+
+abbrev pub sum_returned : List CallOutcome → ℕ
+sum_returned calls = sum_by (λ c. number_returned c.outcome) calls
+
+-- words, and a number behind them
+unfoldable pub counted : List ℕ → ℕ → List ℕ
+counted label n = label ++ decimal_text n
+
+-- the summary of n generated calls on four threads
+
+unfoldable pub summary_head : ℕ → List ℕ
+summary_head n = counted (codes "generate ") n ++ counted (codes " threads 4 calls ") n
+
+unfoldable pub summary_counts : List CallOutcome → List ℕ
+summary_counts calls =
+    counted (codes " returned ") (count_returned calls) ++ (counted (codes " refused ") (count_refused calls) ++ counted (codes " sum ") (sum_returned calls))
+
+unfoldable pub summary_end : ℕ → List ℕ
+summary_end events = counted (codes " events ") events ++ codes "\n"
+
+abbrev pub summary_text : ℕ → Account → List ℕ
+summary_text n a = summary_head n ++ (summary_counts a.outcomes ++ summary_end (length a.schedule))
+
+-- the text is the summary of the monitor's run of a program under a whole schedule
+pub record IsSummary (n : ℕ) (p : Program) (script : List (List ScriptCall)) (text : List ℕ) : Type 0 where
+  pub schedule : List ℕ
+  pub whole : is_whole p schedule (opening p script) ≡ true
+  pub summed : text ≡ summary_text n (account p (run p schedule (opening p script)))
+
 -- What each command makes of its input: with status 0 (true) or 1 (false),
 
 abbrev pub Makes : Command → Input → Bool → List ℕ → Type 0
@@ -121,6 +177,8 @@ Makes (Instrument case part) i true text = IsImageText i text
 Makes (Instrument case part) i false text = ⊥
 Makes (Check case part image) i true text = IsAccepted i × (text ≡ accepted_line)
 Makes (Check case part image) i false text = ⊥
+Makes (Generate count) i true text = IsSummary count i.program i.script text
+Makes (Generate count) i false text = ⊥
 
 -- with status 7,
 abbrev pub Breaks : Command → Input → ℕ → Type 0
@@ -134,9 +192,10 @@ Refuses _ i line = ⊥
 
 -- the statuses with which it can end, where nothing keeps it from its end
 abbrev pub EndsWith : Command → Input → ℕ → Type 0
-EndsWith (Run case) i status = (status ≡ 0) ⊎ (status ≡ 1)
-EndsWith (Replay case schedule) i status = (status ≡ 0) ⊎ (status ≡ 1) ⊎ ((status ≡ 7) × (entry : ℕ) × IsBroken i entry)
+EndsWith (Run case) i status = HasEnded i status
+EndsWith (Replay case schedule) i status = HasEnded i status ⊎ ((status ≡ 7) × (entry : ℕ) × IsBroken i entry)
 EndsWith (Instrument case part) i status = status ≡ 0
+EndsWith (Generate count) i status = status ≡ 0
 EndsWith (Check case part image) i status = ((status ≡ 0) × IsAccepted i) ⊎ ((status ≡ 8) × (line : FaultLine) × IsRefusedBy i line)
 
 -- the same of words, which may be no command

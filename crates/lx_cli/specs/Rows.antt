@@ -86,7 +86,7 @@ answer_text (answer.Fault f) = fault_text f
 answer_text (answer.Unread file) = unread_line file
 answer_text (answer.Broken entry) = broken_line entry
 answer_text (answer.Report text returned) = text
-answer_text (answer.Image text) = text
+answer_text (answer.Text text) = text
 answer_text answer.Accepted = accepted_line
 answer_text (answer.Refused f) = fault_text f
 
@@ -96,6 +96,6 @@ status_of (answer.Unread file) = 4
 status_of (answer.Broken entry) = 7
 status_of (answer.Report text true) = 0
 status_of (answer.Report text false) = 1
-status_of (answer.Image text) = 0
+status_of (answer.Text text) = 0
 status_of answer.Accepted = 0
 status_of (answer.Refused f) = 8

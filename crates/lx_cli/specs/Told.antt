@@ -10,8 +10,8 @@ use Rattle.lx_input.specs.Files.ImageFile.{ImageFile}
 use Rattle.lx_input.specs.Files.InputStop.{InputStop}
 use Rattle.lx_input.specs.Files.InputStop.TheVariants as stops
 use Rattle.lx_input.specs.declared.input.Input.{Input}
-use Rattle.lx_cli.specs.Answer.{IsReport, IsAsked, IsImageText, IsAccepted, IsRefusedBy, HasProgram, image_line, MadeBy, BrokenBy, RefusedBy, accepted_line, broken_at}
-use Rattle.lx_cli.specs.Command.{Command, Run, Replay, Instrument, Check}
+use Rattle.lx_cli.specs.Answer.{IsReport, IsAsked, IsImageText, IsSummary, IsAccepted, IsRefusedBy, HasProgram, image_line, MadeBy, BrokenBy, RefusedBy, accepted_line, broken_at}
+use Rattle.lx_cli.specs.Command.{Command, Run, Replay, Instrument, Check, Generate}
 use Rattle.lx_cli.specs.declared.answer.Answer.{Answer}
 use Rattle.lx_cli.specs.declared.answer.Answer.TheVariants as answer
 
@@ -21,7 +21,7 @@ TellsRun p script asked (answer.Fault f) = ⊥
 TellsRun p script asked (answer.Unread file) = ⊥
 TellsRun p script asked (answer.Broken entry) = (s : List ℕ) × (asked ≡ Some s) × (broken_at p s (opening p script) ≡ Some entry)
 TellsRun p script asked (answer.Report text returned) = (r : IsReport p script returned text) × IsAsked asked r.schedule
-TellsRun p script asked (answer.Image text) = ⊥
+TellsRun p script asked (answer.Text text) = ⊥
 TellsRun p script asked answer.Accepted = ⊥
 TellsRun p script asked (answer.Refused f) = ⊥
 
@@ -31,7 +31,7 @@ TellsInput c turn (answer.Fault f) = turn (Err (stops.Fault f))
 TellsInput c turn (answer.Unread file) = turn (Err (stops.Unread file))
 TellsInput c turn (answer.Broken entry) = (i : Input) × turn (Ok i) × BrokenBy c i entry
 TellsInput c turn (answer.Report text returned) = (i : Input) × turn (Ok i) × MadeBy c i returned text
-TellsInput c turn (answer.Image text) = (i : Input) × turn (Ok i) × MadeBy c i true text
+TellsInput c turn (answer.Text text) = (i : Input) × turn (Ok i) × MadeBy c i true text
 TellsInput c turn answer.Accepted = (i : Input) × turn (Ok i) × MadeBy c i true accepted_line
 TellsInput c turn (answer.Refused f) = (i : Input) × turn (Ok i) × RefusedBy c i f
 
@@ -45,5 +45,6 @@ Judges i x a = ⊥
 abbrev pub TellsOf : Command → Input → Answer → Type 0
 TellsOf (Run case) i a = TellsRun i.program i.script i.besides.schedule a
 TellsOf (Replay case schedule) i a = TellsRun i.program i.script i.besides.schedule a
-TellsOf (Instrument case part) i a = (text : List ℕ) × (a ≡ answer.Image text) × IsImageText i text
+TellsOf (Instrument case part) i a = (text : List ℕ) × (a ≡ answer.Text text) × IsImageText i text
 TellsOf (Check case part image) i a = ((a ≡ answer.Accepted) × IsAccepted i) ⊎ ((line : FaultLine) × (a ≡ answer.Refused line) × IsRefusedBy i line)
+TellsOf (Generate count) i a = (text : List ℕ) × (a ≡ answer.Text text) × IsSummary count i.program i.script text

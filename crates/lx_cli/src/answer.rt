@@ -19,8 +19,8 @@ pub enum Answer {
     Broken(u64),
     /// The report, and whether every call returned.
     Report(Name, bool),
-    /// The text of the module's image.
-    Image(Name),
+    /// The text of the module's image, or the summary of a case that was generated.
+    Text(Name),
     /// Some program has the image.
     Accepted,
     /// No program has the image: its first fault.
@@ -32,7 +32,7 @@ pub(crate) fn status_of(answer: &Answer) -> u8
     ensures { result ≡ status_of answer.now }
 {
     match answer {
-        Answer::Report(_, true) | Answer::Image(_) | Answer::Accepted => 0,
+        Answer::Report(_, true) | Answer::Text(_) | Answer::Accepted => 0,
         Answer::Report(_, false) => 1,
         Answer::Fault(_) => 3,
         Answer::Unread(_) => 4,
@@ -80,7 +80,7 @@ pub(crate) fn answer_text(alloc: Global, answer: Answer) -> Result<Name, Memory>
         Answer::Fault(fault) | Answer::Refused(fault) => fault_text(alloc, &fault),
         Answer::Unread(file) => unread_line(alloc, file.as_slice()),
         Answer::Broken(entry) => broken_line(alloc, entry),
-        Answer::Report(text, _) | Answer::Image(text) => Ok(text),
+        Answer::Report(text, _) | Answer::Text(text) => Ok(text),
         Answer::Accepted => accepted_line(alloc),
     }
 }

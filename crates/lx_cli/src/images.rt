@@ -1,8 +1,8 @@
 //! What the commands on images answer.
-ghost use Rattle.std.specs.Prelude.{◌≡◌, ◌⊎◌, ◌++◌, List, ℕ, IfOk, codes, is_some, true};
-ghost use Rattle.lx_ir.specs.Lawful.{IsLawful};
+ghost use Rattle.std.specs.Prelude.{◌≡◌, ◌⊎◌, ◌++◌, List, ℕ, IfOk, None, codes, is_some, true};
+ghost use Rattle.lx_ir.specs.Lawful.{IsPlain};
 ghost use Rattle.lx_ir.specs.Verified.{IsVerified};
-ghost use Rattle.lx_propagate.specs.Slots.{annotated_of};
+ghost use Rattle.lx_propagate.specs.Slots.{annotated_of, conflict_of};
 ghost use Rattle.lx_image_marks.specs.Told.{told};
 ghost use Rattle.lx_input.specs.Files.FaultLine.{FaultLine};
 ghost use Rattle.lx_input.specs.Laws.{IsReady};
@@ -15,7 +15,7 @@ use lx_image_check::first_fault;
 use lx_image_marks::ImageFault;
 use lx_image_texts::image_laws;
 use lx_input::{FaultKind, FaultLine, ImageFile, Input};
-use lx_instrument::instrument;
+use lx_instrument::instrument_module;
 use lx_ir::module::Module;
 use lx_ir::print;
 use lx_slot_types::Annotated;
@@ -29,20 +29,22 @@ fn image_text(
     module: &Module,
     annotated: &Annotated,
 ) -> Result<Answer, Memory>
+    requires verified { IsVerified module.now }
+    requires plain { IsPlain module.now }
     requires annotated { annotated.now ≡ annotated_of i.now module.now }
-    requires lawful { IsLawful module.now }
-    ensures { IfOk result (λ a. (text : List ℕ) × (a ≡ Answer.Image text) × IsImageOf i.now module.now text) }
+    requires agrees { conflict_of i.now module.now ≡ None }
+    ensures { IfOk result (λ a. (text : List ℕ) × (a ≡ Answer.Text text) × IsImageOf i.now module.now text) }
 {
-    let image = instrument(alloc, i, module, annotated)?;
-    let text = print(alloc, &image)?;
-    Ok(Answer::Image(Name::from_vec(text)))
+    let image = instrument_module(alloc, i, module, annotated)?;
+    let text = print(alloc, image.module())?;
+    Ok(Answer::Text(Name::from_vec(text)))
 }
 
 /// The image of the module that is named.
 pub(crate) fn instrument_input(alloc: Global, input: &Input) -> Result<Answer, Memory>
     requires ready { IsReady input.now }
     requires number { is_some input.now.besides.number ≡ true }
-    ensures { IfOk result (λ a. (text : List ℕ) × (a ≡ Answer.Image text) × IsImageText input.now text) }
+    ensures { IfOk result (λ a. (text : List ℕ) × (a ≡ Answer.Text text) × IsImageText input.now text) }
 {
     let number = input.besides.number.unwrap();
     let program = &input.program;

@@ -3,6 +3,7 @@
 
 mod answer;
 mod command;
+mod generate;
 mod images;
 mod run;
 mod top;

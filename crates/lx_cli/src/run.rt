@@ -165,15 +165,24 @@ fn run_opened<C: CapStore + Drop + Send, R: Threads + Wait + Sync, G: Gate + Syn
     }
 }
 
-/// Runs an input over a store of capabilities, and reports.
-fn run_over<C: CapStore + Drop + Send, R: Threads + Wait + Sync, G: Gate + Sync>(
-    host: &Host<'_, R, G>,
+/// The world of an input, the schedule that is asked for, and what the images of its modules have.
+pub(crate) struct Opened<C: CapStore + Drop> {
+    pub(crate) world: World<C>,
+    pub(crate) schedule: Option<Schedule>,
+    pub(crate) images: Items<ImageCount>,
+}
+
+/// Opens an input over a store of capabilities.
+pub(crate) fn open_input<C: CapStore + Drop>(
+    alloc: Global,
     input: Input,
     caps: C,
-) -> Result<Answer, Memory>
+) -> Result<Opened<C>, Memory>
     requires ready { IsReady input }
     requires new { C.stands caps [] }
-    ensures { IfOk result (TellsRun input.program input.script input.besides.schedule) }
+    ensures stands { IfOk result (λ opened. StandsForWorld C.stands input.program opened.world (opening input.program input.script)) }
+    ensures schedule { IfOk result (λ opened. opened.schedule ≡ input.besides.schedule) }
+    ensures images { IfOk result (λ opened. opened.images ≡ images_of input.program) }
 {
     let Input {
         program,
@@ -188,8 +197,32 @@ fn run_over<C: CapStore + Drop + Send, R: Threads + Wait + Sync, G: Gate + Sync>
     } = besides;
     drop(image);
     let annotated = annotated.as_slice();
-    let images = image_counts(host.alloc, &program, annotated)?;
-    let world = open_world(host.alloc, program, script.into_vec(), annotated, caps)?;
+    let images = image_counts(alloc, &program, annotated)?;
+    let opened = open_world(alloc, program, script.as_slice(), annotated, caps);
+    drop(script);
+    let world = opened?;
+    Ok(Opened {
+        world,
+        schedule,
+        images,
+    })
+}
+
+/// Runs an input over a store of capabilities, and reports.
+fn run_over<C: CapStore + Drop + Send, R: Threads + Wait + Sync, G: Gate + Sync>(
+    host: &Host<'_, R, G>,
+    input: Input,
+    caps: C,
+) -> Result<Answer, Memory>
+    requires ready { IsReady input }
+    requires new { C.stands caps [] }
+    ensures { IfOk result (TellsRun input.program input.script input.besides.schedule) }
+{
+    let Opened {
+        world,
+        schedule,
+        images,
+    } = open_input(host.alloc, input, caps)?;
     run_opened(host, world, schedule, images)
 }
 

@@ -1,5 +1,5 @@
 //! The whole program.
-ghost use Rattle.std.specs.Prelude.{◌≡◌, ◌≢◌, ◌⊎◌, ◌++◌, ◌∷◌, ◌<◌, [], List, ℕ, Some, None, Ok, Err, IfOk, length, option_copied, take};
+ghost use Rattle.std.specs.Prelude.{◌≡◌, ◌≢◌, ◌⊎◌, ◌++◌, ◌∷◌, ◌<◌, ◌≤◌, [], List, ℕ, Some, None, Ok, Err, IfOk, length, option_copied, take};
 ghost use Rattle.lx_outside.specs.declared.file_text.FileText.{FileText};
 ghost use Rattle.lx_outside.specs.Counts.{HasRisen};
 ghost use Rattle.lx_outside.specs.Files.{file_at};
@@ -9,16 +9,17 @@ ghost use Rattle.lx_input.specs.declared.input.Input.{Input};
 ghost use Rattle.lx_input.specs.Files.Asked.{AreThere};
 ghost use Rattle.lx_input.specs.Inputs.{InputTurn};
 ghost use Rattle.lx_input.specs.Laws.{IsReady};
-ghost use Rattle.lx_cli.specs.Answer.{BrokenBy, EndedBy, RefusedBy};
-ghost use Rattle.lx_cli.specs.Command.{ComesTo, IsRun, asked_of, case_of, command_of, said, texts};
+ghost use Rattle.lx_cli.specs.Answer.{BrokenBy, EndedBy, RefusedBy, unread_line, usage_line};
+ghost use Rattle.lx_cli.specs.Command.{CommandTurn, ComesTo, Generate, IsGenerated, IsRun, asked_of, case_of, command_of, files_by, generated_files, said, texts};
 ghost use Rattle.lx_cli.specs.Rows.{Wrote, FellShort, Headline, NoNewFault};
 ghost use Rattle.lx_cli.specs.Told.{TellsInput, TellsOf};
 
 use crate::answer::{Answer, answer_text, status_of};
 use crate::command::{Command, command_of};
+use crate::generate::{generated_shelf, sum_up_input};
 use crate::images::{check_input, instrument_input};
 use crate::run::{Host, run_input};
-use lx_input::{Input, InputStop, one_input, read_input};
+use lx_input::{Input, InputStop, input_laws, read_input};
 use lx_outside::{Gate, Shelf, Sink, put_all};
 use lx_words::Memory;
 use std::alloc::Global;
@@ -75,6 +76,7 @@ fn answer_input<R: Threads + Wait + Sync, G: Gate + Sync>(
         Command::Run { .. } | Command::Replay { .. } => run_input(host, input),
         Command::Instrument { .. } => instrument_input(host.alloc, &input),
         Command::Check { .. } => check_input(host.alloc, &input),
+        Command::Generate { count } => sum_up_input(host, input, count),
     }
 }
 
@@ -91,6 +93,43 @@ fn answer_to<R: Threads + Wait + Sync, S: Shelf, G: Gate + Sync>(
     match read_input(host.alloc, shelf, command.case(), command.asked()) {
         Ok(input) => answer_input(host, command, input),
         Err(stop) => stopped(stop),
+    }
+}
+
+/// The answer to a command over a case that it generates. A shelf in memory gives all the files that it has: one that stays unread is
+/// want of memory.
+fn answer_generated<R: Threads + Wait + Sync, G: Gate + Sync>(
+    host: &Host<'_, R, G>,
+    command: Command<'_>,
+    count: u32,
+) -> Result<Answer, Memory>
+    ensures answer { IfOk result (TellsInput (Some (said command.entry)) (InputTurn (generated_files count) (case_of (said command.entry)) (asked_of (said command.entry)))) }
+    ensures read { (file : List ℕ) → result ≡ Ok (Answer.Unread file) → ⊥ }
+{
+    let mut shelf = generated_shelf(host.alloc, count)?;
+    match answer_to(host, &mut shelf, command)? {
+        Answer::Unread(file) => {
+            drop(file);
+            Err(Memory)
+        }
+        answer => Ok(answer),
+    }
+}
+
+/// The answer to a command, over the files that it reads: those of the shelf, or its own.
+fn answer_of<R: Threads + Wait + Sync, S: Shelf, G: Gate + Sync>(
+    host: &Host<'_, R, G>,
+    shelf: &mut S,
+    command: Command<'_>,
+) -> Result<Answer, Memory>
+    ensures answer { IfOk result (λ a. (files : List FileText) → S.files shelf.old ≡ Some files
+        → TellsInput (Some (said command.entry)) (CommandTurn files (Some (said command.entry))) a) }
+    ensures unread { (file : List ℕ) → result ≡ Ok (Answer.Unread file) → S.faults shelf.new ≡ S.faults shelf.old ++ file ∷ [] }
+    ensures generated { (count : ℕ) → said command.entry ≡ Generate count → shelf.new ≡ shelf.old }
+{
+    match command.generated() {
+        Some(count) => answer_generated(host, command, count),
+        None => answer_to(host, shelf, command),
     }
 }
 
@@ -117,17 +156,22 @@ pub fn lxfi<R: Threads + Wait + Sync, S: Shelf, K: Sink, G: Gate + Sync>(
         → FellShort (texts words.now) files (S.faults shelf.old) (S.faults shelf.new) told (K.bytes sink.new) }
     ensures nothing { result ≡ 6 → K.bytes sink.new ≡ K.bytes sink.old }
 
-    // When each status comes. No command takes no memory.
+    // When each status comes, and there are no others. No command takes no memory, whatever the shelf has.
+    ensures statuses { result ≤ 8 }
     ensures usage { command_of (texts words.now) ≡ None → (result ≡ 2) ⊎ (result ≡ 5) }
-    ensures usage_only { result ≡ 2 → command_of (texts words.now) ≡ None }
+    ensures usage_only { result ≡ 2 → (command_of (texts words.now) ≡ None)
+        × ((told : List ℕ) → K.bytes sink.old ≡ Some told → K.bytes sink.new ≡ Some (told ++ usage_line)) }
     ensures fault { (files : List FileText) (f : FaultLine) → S.files shelf.old ≡ Some files → ComesTo (texts words.now) files (Err (stops.Fault f))
         → (result ≡ 3) ⊎ (result ≡ 4) ⊎ (result ≡ 5) ⊎ (result ≡ 6) }
     ensures fault_only { result ≡ 3 → (files : List FileText) → S.files shelf.old ≡ Some files
         → (f : FaultLine) × ComesTo (texts words.now) files (Err (stops.Fault f)) }
     ensures missing { (files : List FileText) (file : List ℕ) → S.files shelf.old ≡ Some files → ComesTo (texts words.now) files (Err (stops.Unread file))
-        → file_at files file ≡ None → (result ≡ 4) ⊎ (result ≡ 5) ⊎ (result ≡ 6) }
+        → file_at (files_by files (command_of (texts words.now))) file ≡ None → (result ≡ 4) ⊎ (result ≡ 5) ⊎ (result ≡ 6) }
     ensures unread_only { result ≡ 4 → (file : List ℕ) × (S.faults shelf.new ≡ S.faults shelf.old ++ file ∷ [])
-        × ((files : List FileText) → S.files shelf.old ≡ Some files → ComesTo (texts words.now) files (Err (stops.Unread file))) }
+        × ((files : List FileText) → S.files shelf.old ≡ Some files → ComesTo (texts words.now) files (Err (stops.Unread file)))
+        × ((told : List ℕ) → K.bytes sink.old ≡ Some told → K.bytes sink.new ≡ Some (told ++ unread_line file)) }
+    // The shelf is not read for a case that is generated.
+    ensures generated { IsGenerated (texts words.now) → shelf.new ≡ shelf.old }
     ensures not_taken_only { result ≡ 5 → HasRisen (K.faults sink.old) (K.faults sink.new) }
 
     // A schedule that is replayed and is not whole; a run makes its own, which is.
@@ -150,12 +194,12 @@ pub fn lxfi<R: Threads + Wait + Sync, S: Shelf, K: Sink, G: Gate + Sync>(
         → (HasRisen (K.faults sink.old) (K.faults sink.new) → ⊥)
         → EndedBy (command_of (texts words.now)) i result ⊎ (result ≡ 6) }
 {
-    one_input();
+    input_laws();
     let Some(command) = command_of(words) else {
         return put(sink, USAGE.as_bytes(), 2);
     };
     let host = Host { rt, alloc, gate };
-    let Ok(answer) = answer_to(&host, shelf, command) else {
+    let Ok(answer) = answer_of(&host, shelf, command) else {
         return WANT_OF_MEMORY;
     };
     let status = status_of(&answer);

@@ -4,7 +4,11 @@
 #[cfg(test)]
 mod c_files;
 #[cfg(test)]
+mod fault_texts;
+#[cfg(test)]
 mod files;
+#[cfg(test)]
+mod generated;
 #[cfg(test)]
 mod image_calls;
 #[cfg(test)]

@@ -2,6 +2,7 @@
 
 use crate::c_files::c_files;
 use crate::files::ONE_CASE;
+use crate::generated::generated;
 use crate::image_calls::image_calls;
 use crate::image_spared::image_spared;
 use crate::image_wrappers::image_wrappers;
@@ -51,11 +52,12 @@ fn cases(number: u32) -> &'static str {
         19 => image_wrappers(),
         20 => image_calls(),
         21 => image_spared(),
+        22 => generated(),
         _ => texts(),
     }
 }
 
-const TABLES: u32 = 23;
+const TABLES: u32 = 24;
 
 #[test]
 fn cases_write_what_is_wanted(rt: HostRuntime) -> Result<(), Fail> {
@@ -182,11 +184,17 @@ fn a_file_past_the_limit(rt: HostRuntime) -> Result<(), Fail> {
 
 #[test]
 fn words_that_are_no_command(rt: HostRuntime) -> Result<(), Fail> {
-    let rows: [&[&str]; 8] = [
+    let rows: [&[&str]; 14] = [
         &[],
         &["run"],
         &["run", "--x"],
+        &["generate"],
         &["generate", "4097"],
+        &["generate", "18446744073709551617"],
+        &["generate", "007"],
+        &["generate", "-1"],
+        &["generate", ""],
+        &["generate", "1", "2"],
         &["run", "one.case", "one.case"],
         &["replay", "one.case"],
         &["replay", "one.case", "-"],

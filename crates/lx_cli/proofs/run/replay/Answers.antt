@@ -1,4 +1,4 @@
-use Rattle.std.proofs.Common.{◌≡◌, ◌∙◌, sym, ap, subst, ◌+◌, ◌≤◌, Some, false, true, length, drop, get_or, arith}
+use Rattle.std.proofs.Common.{◌≡◌, ◌∙◌, sym, ap, subst, ◌+◌, Some, false, length, drop, get_or, arith}
 use Rattle.lx_model.specs.World.{World as Meaning, event, can_act}
 use Rattle.lx_core.specs.Worlds.{StandsForWorld}
 use Rattle.lx_cli.proofs.Replays.{at_entry, at_last, broken_here, broken_at_end, broken_nowhere, one_less}

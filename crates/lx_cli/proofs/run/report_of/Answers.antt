@@ -1,4 +1,4 @@
-use Rattle.std.proofs.Common.{◌≡◌, ◌∙◌, refl, subst, sym, ap}
+use Rattle.std.proofs.Common.{◌∙◌, refl, subst, sym, ap}
 use Rattle.lx_report.specs.Lawful.{HasLawfulModules}
 use Rattle.lx_cli.specs.Runs.{images_of}
 use Rattle.lx_cli.proofs.Formed.{lawful_modules}

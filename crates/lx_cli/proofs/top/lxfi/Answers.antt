@@ -1,9 +1,9 @@
-use Rattle.std.proofs.Common.{◌≡◌, ◌∙◌, ◌⊎◌, inl, inr, ℕ, sym, arith, [], None, Ok, Err}
+use Rattle.std.proofs.Common.{◌≡◌, ◌∙◌, ◌≢◌, ◌⊎◌, inl, inr, ℕ, ◌≤◌, sym, arith, Ok, Err}
 use Rattle.lx_input.specs.Files.InputStop.TheVariants as stops
 use Rattle.lx_cli.specs.Command.{texts}
 use Rattle.lx_cli.specs.Rows.{status_of}
 use Rattle.lx_cli.proofs.Written.{by_words, usage_wrote, usage_short, answer_wrote, answer_short, answer_headline}
-use Rattle.lx_cli.proofs.Statuses.{none_comes, fault_comes, missing_comes, broken_comes, all_comes, refused_comes, fault_told, broken_told, refused_told, unread_of, run_is_whole, status_is, unread_told}
+use Rattle.lx_cli.proofs.Statuses.{none_comes, fault_comes, missing_comes, broken_comes, all_comes, refused_comes, fault_told, broken_told, refused_told, unread_of, run_is_whole, status_is, unread_told, five_or, few_statuses, line_of, no_two, no_command, said_is}
 use Rattle.lx_cli.proofs.top.lxfi.Goals as goal
 
 -- no command
@@ -18,12 +18,27 @@ returns-in_default-clause-short g c = λ is_5 files told files_told sink_told.
     usage_short (texts c.args.words.now) files (g.S.Shelf.faults c.args.shelf.now) told (g.K.Sink.bytes c.put.new.sink) (sym c.in_default.ensures)
     (rw c.as_bytes.ensures.value at (c.put.ensures.prefix is_5 told sink_told))
 
+pub returns-in_default-clause-usage_only : goal.returns-in_default-clause-usage_only
+returns-in_default-clause-usage_only g c = λ is_2.
+    (sym c.in_default.ensures, λ told sink_told. rw c.as_bytes.ensures.value at (c.put.ensures.all (λ e. omega (arith, is_2, e)) told sink_told))
+
+pub returns-in_default-clause-statuses : goal.returns-in_default-clause-statuses
+returns-in_default-clause-statuses g c = at_most c.put.result c.put.ensures.status where
+  at_most : (r : ℕ) → (r ≢ 5 → r ≡ 2) → r ≤ 8
+  at_most r is = elim (five_or r 2 is) [
+    | inl five ↦ omega (arith, five)
+    | inr two ↦ omega (arith, two)
+  ]
+
 pub returns-in_default-clause-fault : goal.returns-in_default-clause-fault
 returns-in_default-clause-fault g c = λ files f files_told is. absurd (none_comes (texts c.args.words.now) files (Err (stops.Fault f)) (sym c.in_default.ensures) is)
 
 pub returns-in_default-clause-missing : goal.returns-in_default-clause-missing
 returns-in_default-clause-missing g c = λ files file files_told is gone.
     absurd (none_comes (texts c.args.words.now) files (Err (stops.Unread file)) (sym c.in_default.ensures) is)
+
+pub returns-in_default-clause-generated : goal.returns-in_default-clause-generated
+returns-in_default-clause-generated g c = λ is. absurd (no_command (texts c.args.words.now) (sym c.in_default.ensures) is)
 
 pub returns-in_default-clause-broken : goal.returns-in_default-clause-broken
 returns-in_default-clause-broken g c = λ files i entry files_told is at. absurd (none_comes (texts c.args.words.now) files (Ok i) (sym c.in_default.ensures) is)
@@ -43,7 +58,7 @@ not_five r (inr is) five = omega (arith, is, five)
 
 pub returns-clause-headline : goal.returns-clause-headline
 returns-clause-headline g c = λ which files told files_told sink_told.
-    answer_headline (texts c.args.words.now) files (g.S.Shelf.faults c.args.shelf.now) told (g.K.Sink.bytes c.put-2.new.sink) (g.S.Shelf.faults c.answer_to.new.shelf)
+    answer_headline (texts c.args.words.now) files (g.S.Shelf.faults c.args.shelf.now) told (g.K.Sink.bytes c.put-2.new.sink) (g.S.Shelf.faults c.answer_of.new.shelf)
     c.in-Ok.answer (by_words (texts c.args.words.now) files _ c.in-Ok.answer (sym c.in-Some.ensures) (c.in-Ok.ensures.answer files files_told))
     (λ file is. c.in-Ok.ensures.unread file (cc))
     c.put-2.result c.as_slice.result.now which (c.put-2.ensures.status (not_five c.put-2.result which) ∙ c.status_of-status.ensures) (c.as_slice.ensures ∙ c.in-Ok-answer_text.ensures)
@@ -51,7 +66,7 @@ returns-clause-headline g c = λ which files told files_told sink_told.
 
 pub returns-clause-wrote : goal.returns-clause-wrote
 returns-clause-wrote g c = λ not_5 not_6 files told files_told sink_told.
-    answer_wrote (texts c.args.words.now) files (g.S.Shelf.faults c.args.shelf.now) told (g.K.Sink.bytes c.put-2.new.sink) (g.S.Shelf.faults c.answer_to.new.shelf)
+    answer_wrote (texts c.args.words.now) files (g.S.Shelf.faults c.args.shelf.now) told (g.K.Sink.bytes c.put-2.new.sink) (g.S.Shelf.faults c.answer_of.new.shelf)
     c.in-Ok.answer (by_words (texts c.args.words.now) files _ c.in-Ok.answer (sym c.in-Some.ensures) (c.in-Ok.ensures.answer files files_told))
     (λ file is. c.in-Ok.ensures.unread file (cc))
     c.put-2.result c.as_slice.result.now (c.put-2.ensures.status not_5 ∙ c.status_of-status.ensures) (c.as_slice.ensures ∙ c.in-Ok-answer_text.ensures)
@@ -59,14 +74,21 @@ returns-clause-wrote g c = λ not_5 not_6 files told files_told sink_told.
 
 pub returns-clause-short : goal.returns-clause-short
 returns-clause-short g c = λ is_5 files told files_told sink_told.
-    answer_short (texts c.args.words.now) files (g.S.Shelf.faults c.args.shelf.now) told (g.K.Sink.bytes c.put-2.new.sink) (g.S.Shelf.faults c.answer_to.new.shelf)
+    answer_short (texts c.args.words.now) files (g.S.Shelf.faults c.args.shelf.now) told (g.K.Sink.bytes c.put-2.new.sink) (g.S.Shelf.faults c.answer_of.new.shelf)
     c.in-Ok.answer (by_words (texts c.args.words.now) files _ c.in-Ok.answer (sym c.in-Some.ensures) (c.in-Ok.ensures.answer files files_told))
     (λ file is. c.in-Ok.ensures.unread file (cc))
     c.as_slice.result.now (c.as_slice.ensures ∙ c.in-Ok-answer_text.ensures) (c.put-2.ensures.prefix is_5 told sink_told)
 
+pub returns-clause-statuses : goal.returns-clause-statuses
+returns-clause-statuses g c = few_statuses c.in-Ok.answer c.put-2.result (λ not_5. c.put-2.ensures.status not_5 ∙ c.status_of-status.ensures)
+
+pub returns-clause-usage_only : goal.returns-clause-usage_only
+returns-clause-usage_only g c = λ is_2. absurd (no_two c.in-Ok.answer
+    (status_is c.put-2.result 2 (status_of c.in-Ok.answer) (λ not_5. c.put-2.ensures.status not_5 ∙ c.status_of-status.ensures) is_2 (λ e. cc)))
+
 pub returns-clause-fault : goal.returns-clause-fault
 returns-clause-fault g c = λ files f files_told is.
-    fault_comes c.one_input.ensures.one c.one_input.ensures.missing (texts c.args.words.now) files c.in-Ok.answer
+    fault_comes c.input_laws.ensures.one c.input_laws.ensures.missing (texts c.args.words.now) files c.in-Ok.answer
     (by_words (texts c.args.words.now) files _ c.in-Ok.answer (sym c.in-Some.ensures) (c.in-Ok.ensures.answer files files_told))
     c.put-2.result (λ not_5. c.put-2.ensures.status not_5 ∙ c.status_of-status.ensures) f is
 
@@ -78,9 +100,12 @@ returns-clause-fault_only g c = λ is_3 files files_told.
 
 pub returns-clause-missing : goal.returns-clause-missing
 returns-clause-missing g c = λ files file files_told is gone.
-    missing_comes c.one_input.ensures.one c.one_input.ensures.missing (texts c.args.words.now) files c.in-Ok.answer
+    missing_comes c.input_laws.ensures.one c.input_laws.ensures.missing (texts c.args.words.now) files c.in-Ok.answer
     (by_words (texts c.args.words.now) files _ c.in-Ok.answer (sym c.in-Some.ensures) (c.in-Ok.ensures.answer files files_told))
     c.put-2.result (λ not_5. c.put-2.ensures.status not_5 ∙ c.status_of-status.ensures) file is gone
+
+pub returns-clause-generated : goal.returns-clause-generated
+returns-clause-generated g c = λ is. c.in-Ok.ensures.generated is.0 (said_is (c.in-Some.ensures ∙ is.1))
 
 pub returns-clause-unread_only : goal.returns-clause-unread_only
 returns-clause-unread_only g c = λ is_4.
@@ -92,11 +117,14 @@ returns-clause-unread_only g c = λ is_4.
       λ files files_told.
           unread_told (texts c.args.words.now) files c.in-Ok.answer unread.0 is
           (by_words (texts c.args.words.now) files _ c.in-Ok.answer (sym c.in-Some.ensures) (c.in-Ok.ensures.answer files files_told)),
+      λ told sink_told.
+          let text_is = c.as_slice.ensures ∙ c.in-Ok-answer_text.ensures ∙ line_of c.in-Ok.answer unread.0 is in
+          rw text_is at (c.put-2.ensures.all (λ e. omega (arith, is_4, e)) told sink_told),
     )
 
 pub returns-clause-broken : goal.returns-clause-broken
 returns-clause-broken g c = λ files i entry files_told is at.
-    broken_comes c.one_input.ensures.one c.one_input.ensures.missing (texts c.args.words.now) files c.in-Ok.answer
+    broken_comes c.input_laws.ensures.one c.input_laws.ensures.missing (texts c.args.words.now) files c.in-Ok.answer
     (by_words (texts c.args.words.now) files _ c.in-Ok.answer (sym c.in-Some.ensures) (c.in-Ok.ensures.answer files files_told))
     c.put-2.result (λ not_5. c.put-2.ensures.status not_5 ∙ c.status_of-status.ensures) i entry is at
 
@@ -114,7 +142,7 @@ returns-clause-run_whole g c = λ is_run files files_told is_7.
 
 pub returns-clause-refused : goal.returns-clause-refused
 returns-clause-refused g c = λ files i line files_told is at.
-    refused_comes c.one_input.ensures.one c.one_input.ensures.missing (texts c.args.words.now) files c.in-Ok.answer
+    refused_comes c.input_laws.ensures.one c.input_laws.ensures.missing (texts c.args.words.now) files c.in-Ok.answer
     (by_words (texts c.args.words.now) files _ c.in-Ok.answer (sym c.in-Some.ensures) (c.in-Ok.ensures.answer files files_told))
     c.put-2.result (λ not_5. c.put-2.ensures.status not_5 ∙ c.status_of-status.ensures) i line is at
 
@@ -126,8 +154,8 @@ returns-clause-refused_only g c = λ is_8 files files_told.
 
 pub returns-clause-complete : goal.returns-clause-complete
 returns-clause-complete g c = λ files i files_told is no_fault no_rise.
-    all_comes c.one_input.ensures.one c.one_input.ensures.missing (texts c.args.words.now) files c.in-Ok.answer
+    all_comes c.input_laws.ensures.one c.input_laws.ensures.missing (texts c.args.words.now) files c.in-Ok.answer
     (by_words (texts c.args.words.now) files _ c.in-Ok.answer (sym c.in-Some.ensures) (c.in-Ok.ensures.answer files files_told))
     c.put-2.result (λ not_5. c.put-2.ensures.status not_5 ∙ c.status_of-status.ensures)
-    (g.S.Shelf.faults c.args.shelf.now) (g.S.Shelf.faults c.answer_to.new.shelf) i (λ file is. c.in-Ok.ensures.unread file (cc))
+    (g.S.Shelf.faults c.args.shelf.now) (g.S.Shelf.faults c.answer_of.new.shelf) i (λ file is. c.in-Ok.ensures.unread file (cc))
     is no_fault (λ is_5. no_rise (c.put-2.ensures.failed is_5))

@@ -1,0 +1,19 @@
+use Rattle.std.proofs.Common.{sym}
+use Rattle.lx_cli.specs.Command.{said}
+use Rattle.lx_cli.proofs.Reported.{if_ok}
+use Rattle.lx_cli.proofs.Telling.{generated_turn, shelf_turn, not_generated}
+use Rattle.lx_cli.proofs.top.answer_of.Goals as goal
+
+pub returns-in-Some-clause-answer : goal.returns-in-Some-clause-answer
+returns-in-Some-clause-answer g c =
+    if_ok c.answer_generated.result (λ a tells. λ files told. generated_turn files (said c.args.command) c.in-Some.count a (sym c.in-Some.ensures) tells) c.answer_generated.ensures.answer
+
+pub returns-in-Some-clause-unread : goal.returns-in-Some-clause-unread
+returns-in-Some-clause-unread g c = λ file is. absurd (c.answer_generated.ensures.read file is)
+
+pub returns-in-None-clause-answer : goal.returns-in-None-clause-answer
+returns-in-None-clause-answer g c =
+    if_ok c.answer_to.result (λ a tells. λ files told. shelf_turn files (said c.args.command) a (sym c.in-None.ensures) (tells files told)) c.answer_to.ensures.answer
+
+pub returns-in-None-clause-generated : goal.returns-in-None-clause-generated
+returns-in-None-clause-generated g c = λ count is. absurd (not_generated (said c.args.command) count (sym c.in-None.ensures) is)

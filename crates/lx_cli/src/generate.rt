@@ -1,0 +1,280 @@
+//! Cases that are generated, and the summary of their run.
+ghost use Rattle.std.specs.Prelude.{◌≡◌, ◌++◌, List, ℕ, [], IfOk, IfSome, OnOk};
+ghost use Rattle.lx_cli.specs.Answer.{IsSummary, count_refused, count_returned, counted, number_returned, one_refused, one_returned, sum_returned, summary_counts, summary_end, summary_head, summary_text};
+ghost use Rattle.lx_cli.specs.Command.{generated_files};
+ghost use Rattle.lx_cli.specs.Runs.{images_of};
+ghost use Rattle.lx_core.specs.Worlds.{StandsForWorld};
+ghost use Rattle.lx_input.specs.Laws.{IsReady};
+ghost use Rattle.lx_link_texts.specs.WellFormed.{IsWellFormed};
+ghost use Rattle.lx_model.specs.Account.{account};
+ghost use Rattle.lx_model.specs.World.{World as Meaning, opening};
+ghost use Rattle.lx_model.specs.declared.program.Program.{Program};
+ghost use Rattle.lx_model.specs.declared.program.ScriptCall.{ScriptCall};
+
+use crate::answer::Answer;
+use crate::command::GENERATED_CASE;
+use crate::run::{Host, Opened, open_input};
+use lx_cap_tables::CapTables;
+use lx_caps::CapStore;
+use lx_core::World;
+use lx_generate::{Generated, generate};
+use lx_input::Input;
+use lx_model::account::{Account, CallOutcome, ImageCount};
+use lx_model::request::Outcome;
+use lx_outside::{Bytes, CallNumbers, FileText, Files, Gate, MemShelf, Name as FileName, Names};
+use lx_threads::run_threads;
+use lx_words::{Items, Memory, Name, put_decimal};
+use std::alloc::Global;
+use std::sync::Wait;
+use std::thread::Threads;
+
+/// A file of this name.
+fn file_of(alloc: Global, name: &str, bytes: Vec<u8>) -> Result<FileText, Memory>
+    ensures named { IfOk result (λ f. f.name ≡ name.now) }
+    ensures holds { IfOk result (λ f. f.bytes ≡ bytes.items) }
+{
+    match FileName::new(alloc, name) {
+        Ok(name) => Ok(FileText {
+            name,
+            bytes: Bytes::from_vec(bytes),
+        }),
+        Err(_) => {
+            drop(bytes);
+            Err(Memory)
+        }
+    }
+}
+
+/// The files of the case of so many calls.
+fn generated_files(alloc: Global, count: u32) -> Result<Files, Memory>
+    ensures { IfOk result (λ files. files ≡ generated_files count) }
+{
+    let Generated { case, module } = generate(alloc, count)?;
+    let case = file_of(alloc, GENERATED_CASE, case)?;
+    let module = file_of(alloc, "gen.ll", module)?;
+    let mut files = Files::new(alloc);
+    let Ok(()) = files.push(case) else {
+        return Err(Memory);
+    };
+    let Ok(()) = files.push(module) else {
+        return Err(Memory);
+    };
+    Ok(files)
+}
+
+/// A shelf in memory with the files of the case of so many calls, and nothing else.
+pub(crate) fn generated_shelf(alloc: Global, count: u32) -> Result<MemShelf, Memory>
+    ensures { IfOk result (λ shelf. shelf.files ≡ generated_files count) }
+{
+    let files = generated_files(alloc, count)?;
+    Ok(MemShelf {
+        files,
+        fails: CallNumbers::new(alloc),
+        calls: 0,
+        faults: Names::new(alloc),
+    })
+}
+
+/// 1 for a call that returned, and else 0.
+fn one_returned(outcome: Outcome) -> u64
+    ensures { result ≡ one_returned outcome }
+{
+    match outcome {
+        Outcome::Returned(_) => 1,
+        _ => 0,
+    }
+}
+
+/// 1 for a call that was refused, and else 0.
+fn one_refused(outcome: Outcome) -> u64
+    ensures { result ≡ one_refused outcome }
+{
+    match outcome {
+        Outcome::Refused(_) => 1,
+        _ => 0,
+    }
+}
+
+/// The number that a call returned, and else 0.
+fn number_returned(outcome: Outcome) -> u64
+    ensures { result ≡ number_returned outcome }
+{
+    match outcome {
+        Outcome::Returned(Some(word)) => word.bits,
+        _ => 0,
+    }
+}
+
+/// How many calls returned, if a number can tell it.
+fn count_returned(calls: &[CallOutcome]) -> Option<u64>
+    ensures { IfSome result (λ n. n ≡ count_returned calls.now) }
+{
+    let mut count = 0u64;
+    for call in calls {
+        count = count.checked_add(one_returned(call.outcome))?;
+    }
+    Some(count)
+}
+
+/// How many calls were refused, if a number can tell it.
+fn count_refused(calls: &[CallOutcome]) -> Option<u64>
+    ensures { IfSome result (λ n. n ≡ count_refused calls.now) }
+{
+    let mut count = 0u64;
+    for call in calls {
+        count = count.checked_add(one_refused(call.outcome))?;
+    }
+    Some(count)
+}
+
+/// The sum of what calls returned, if a number can tell it.
+fn sum_returned(calls: &[CallOutcome]) -> Option<u64>
+    ensures { IfSome result (λ n. n ≡ sum_returned calls.now) }
+{
+    let mut sum = 0u64;
+    for call in calls {
+        sum = sum.checked_add(number_returned(call.outcome))?;
+    }
+    Some(sum)
+}
+
+/// Adds words and a number behind them.
+#[tactic(auto, unfolding(crate::specs::Answer::counted))]
+fn put_counted(text: &mut Vec<u8>, label: &str, number: u64) -> Result<(), Memory>
+    ensures { OnOk result (text.new.items ≡ text.old.items ++ counted label.now number) }
+{
+    text.extend_from_slice(label.as_bytes())?;
+    put_decimal(text, i128::from(number))
+}
+
+/// What a summary counts of the calls.
+#[derive(Clone, Copy)]
+struct Counts {
+    returned: u64,
+    refused: u64,
+    sum: u64,
+}
+
+fn counts_of(calls: &[CallOutcome]) -> Option<Counts>
+    ensures returned { IfSome result (λ c. c.returned ≡ count_returned calls.now) }
+    ensures refused { IfSome result (λ c. c.refused ≡ count_refused calls.now) }
+    ensures sum { IfSome result (λ c. c.sum ≡ sum_returned calls.now) }
+{
+    Some(Counts {
+        returned: count_returned(calls)?,
+        refused: count_refused(calls)?,
+        sum: sum_returned(calls)?,
+    })
+}
+
+#[tactic(auto, unfolding(crate::specs::Answer::summary_head))]
+fn put_head(text: &mut Vec<u8>, count: u32) -> Result<(), Memory>
+    ensures { OnOk result (text.new.items ≡ text.old.items ++ summary_head count) }
+{
+    put_counted(text, "generate ", u64::from(count))?;
+    put_counted(text, " threads 4 calls ", u64::from(count))?;
+    Ok(())
+}
+
+/// Adds what is counted of the calls. More than a number of 64 bits counts is want of memory.
+#[tactic(auto, unfolding(crate::specs::Answer::summary_counts))]
+fn put_counts(text: &mut Vec<u8>, calls: &[CallOutcome]) -> Result<(), Memory>
+    ensures { OnOk result (text.new.items ≡ text.old.items ++ summary_counts calls.now) }
+{
+    let Some(counts) = counts_of(calls) else {
+        return Err(Memory);
+    };
+    put_counted(text, " returned ", counts.returned)?;
+    put_counted(text, " refused ", counts.refused)?;
+    put_counted(text, " sum ", counts.sum)?;
+    Ok(())
+}
+
+#[tactic(auto, unfolding(crate::specs::Answer::summary_end))]
+fn put_end(text: &mut Vec<u8>, events: u64) -> Result<(), Memory>
+    ensures { OnOk result (text.new.items ≡ text.old.items ++ summary_end events) }
+{
+    put_counted(text, " events ", events)?;
+    text.extend_from_slice(b"\n")?;
+    Ok(())
+}
+
+/// The summary of an account of so many calls.
+fn summary_text(alloc: Global, count: u32, account: &Account) -> Result<Name, Memory>
+    ensures { IfOk result (λ text. text ≡ summary_text count account.now) }
+{
+    let mut text = Vec::new(alloc);
+    put_head(&mut text, count)?;
+    put_counts(&mut text, account.outcomes.as_slice())?;
+    put_end(&mut text, account.schedule.len() as u64)?;
+    Ok(Name::from_vec(text))
+}
+
+/// The summary of what the world did in so many calls.
+fn summary_of<C: CapStore + Drop>(
+    alloc: Global,
+    world: &World<C>,
+    images: Items<ImageCount>,
+    count: u32,
+) -> Result<Name, Memory>
+    requires { (p : Program) × (w : Meaning) × StandsForWorld C.stands p world.now w × IsWellFormed p × (images ≡ images_of p) }
+    ensures { IfOk result (λ text. (p : Program) (w : Meaning) → StandsForWorld C.stands p world.now w → text ≡ summary_text count (account p w)) }
+{
+    let account = world.account(alloc, images)?;
+    summary_text(alloc, count, &account)
+}
+
+/// Runs the threads of a world beside each other, and sums up what so many calls did.
+fn sum_up<C: CapStore + Drop + Send, R: Threads + Wait + Sync, G: Gate + Sync>(
+    host: &Host<'_, R, G>,
+    world: World<C>,
+    images: Items<ImageCount>,
+    count: u32,
+) -> Result<Answer, Memory>
+    requires { (p : Program) × (script : List (List ScriptCall)) × StandsForWorld C.stands p world (opening p script)
+        × IsWellFormed p × (images ≡ images_of p) }
+    ensures { IfOk result (λ a. (p : Program) (script : List (List ScriptCall)) → StandsForWorld C.stands p world (opening p script)
+        → (text : List ℕ) × (a ≡ Answer.Text text) × IsSummary count p script text) }
+{
+    let done = run_threads(host.rt, host.alloc, world, host.gate)?;
+    let text = summary_of(host.alloc, &done, images, count)?;
+    Ok(Answer::Text(text))
+}
+
+/// Runs an input of so many calls, and sums up.
+fn sum_up_over<C: CapStore + Drop + Send, R: Threads + Wait + Sync, G: Gate + Sync>(
+    host: &Host<'_, R, G>,
+    input: Input,
+    caps: C,
+    count: u32,
+) -> Result<Answer, Memory>
+    requires ready { IsReady input }
+    requires new { C.stands caps [] }
+    ensures { IfOk result (λ a. (text : List ℕ) × (a ≡ Answer.Text text) × IsSummary count input.program input.script text) }
+{
+    let Opened {
+        world,
+        schedule,
+        images,
+    } = open_input(host.alloc, input, caps)?;
+    drop(schedule);
+    sum_up(host, world, images, count)
+}
+
+/// The summary of an input of so many calls.
+pub(crate) fn sum_up_input<R: Threads + Wait + Sync, G: Gate + Sync>(
+    host: &Host<'_, R, G>,
+    input: Input,
+    count: u32,
+) -> Result<Answer, Memory>
+    requires { IsReady input }
+    ensures { IfOk result (λ a. (text : List ℕ) × (a ≡ Answer.Text text) × IsSummary count input.program input.script text) }
+{
+    match CapTables::new(host.alloc) {
+        Ok(caps) => sum_up_over(host, input, caps, count),
+        Err(_) => {
+            drop(input);
+            Err(Memory)
+        }
+    }
+}
