@@ -1,15 +1,15 @@
 //! Where control goes: the ends of blocks, and their labels.
-ghost use Rattle.std.specs.Prelude.{◌≡◌, bytes_eq, flat_map, map, option_copied};
-ghost use Rattle.std.specs.List.{list_any};
-ghost use Rattle.lx_ir.specs.Operands.{targets_of, labels_of};
-ghost use Rattle.lx_ir.specs.Faults.{end_fault, first_some, goes_to, has_block, is_end, label_fault, line_or};
+ghost use Rattle.std.specs.Prelude.{◌≡◌, flat_map, map, option_copied};
+ghost use Rattle.lx_ir.specs.Operands.{labels_of};
+ghost use Rattle.lx_ir.specs.Faults.{end_fault, first_some, is_end, label_fault, line_or};
 ghost use Rattle.lx_ir_verify.specs.Shown.{Gives, missing_fault};
 
 use crate::fault::VerifyFault;
 use crate::operands::is_terminator;
 use lx_ir::instr::{Edge, Instr, Op, SwitchCase};
 use lx_ir::module::{Block, Function};
-use lx_ir_walks::{blocks_of, last_of};
+use lx_ir_predecessors::Blocks;
+use lx_ir_walks::last_of;
 use lx_words::Name;
 use std::alloc::Global;
 
@@ -57,16 +57,10 @@ pub fn check_ends(alloc: Global, f: &Function, blocks: &[Block]) -> Result<(), V
     Ok(())
 }
 
-fn has_block(f: &Function, label: &[u8]) -> bool
-    ensures { result ≡ has_block f.now label.now }
-{
-    blocks_of(f).iter().any(|block| block.name.is_same(label))
-}
-
-fn check_label(alloc: Global, f: &Function, line: u32, label: &[u8]) -> Result<(), VerifyFault>
+fn check_label(alloc: Global, f: &Blocks, line: u32, label: &[u8]) -> Result<(), VerifyFault>
     ensures { Gives (missing_fault f.now line label.now) result }
 {
-    if has_block(f, label) {
+    if f.has(label) {
         return Ok(());
     }
     let what = Name::from_bytes(alloc, label)?;
@@ -74,7 +68,7 @@ fn check_label(alloc: Global, f: &Function, line: u32, label: &[u8]) -> Result<(
 }
 
 #[tactic(auto, using(crate::proofs::Passes::first_map_step, crate::proofs::Passes::first_map_end, crate::proofs::Passes::first_answer))]
-fn check_edges(alloc: Global, f: &Function, line: u32, edges: &[Edge]) -> Result<(), VerifyFault>
+fn check_edges(alloc: Global, f: &Blocks, line: u32, edges: &[Edge]) -> Result<(), VerifyFault>
     ensures { Gives (first_some (missing_fault f.now line) (map (λ e. e.label) edges.now)) result }
 {
     for edge in edges {
@@ -86,7 +80,7 @@ fn check_edges(alloc: Global, f: &Function, line: u32, edges: &[Edge]) -> Result
 #[tactic(auto, using(crate::proofs::Passes::first_map_step, crate::proofs::Passes::first_map_end, crate::proofs::Passes::first_answer))]
 fn check_cases(
     alloc: Global,
-    f: &Function,
+    f: &Blocks,
     line: u32,
     cases: &[SwitchCase],
 ) -> Result<(), VerifyFault>
@@ -99,7 +93,7 @@ fn check_cases(
 }
 
 #[tactic(auto, using(crate::proofs::Passes::first_answer))]
-fn check_instr(alloc: Global, f: &Function, line: u32, op: &Op) -> Result<(), VerifyFault>
+fn check_instr(alloc: Global, f: &Blocks, line: u32, op: &Op) -> Result<(), VerifyFault>
     ensures { Gives (first_some (missing_fault f.now line) (labels_of op.now)) result }
 {
     match op {
@@ -134,7 +128,7 @@ fn check_instr(alloc: Global, f: &Function, line: u32, op: &Op) -> Result<(), Ve
 }
 
 #[tactic(auto, using(crate::proofs::FirstLabel::label_step, crate::proofs::Passes::first_end, crate::proofs::Passes::first_answer))]
-fn check_block(alloc: Global, f: &Function, instrs: &[Instr]) -> Result<(), VerifyFault>
+fn check_block(alloc: Global, f: &Blocks, instrs: &[Instr]) -> Result<(), VerifyFault>
     ensures { Gives (first_some (label_fault f.now) instrs.now) result }
 {
     for instr in instrs {
@@ -145,49 +139,11 @@ fn check_block(alloc: Global, f: &Function, instrs: &[Instr]) -> Result<(), Veri
 
 /// Finds the first label that the function lacks.
 #[tactic(auto, using(crate::proofs::Passes::first_flat_step, crate::proofs::Passes::first_flat_end, crate::proofs::Passes::first_answer))]
-pub fn check_labels(alloc: Global, f: &Function, blocks: &[Block]) -> Result<(), VerifyFault>
+pub fn check_labels(alloc: Global, f: &Blocks, blocks: &[Block]) -> Result<(), VerifyFault>
     ensures { Gives (first_some (label_fault f.now) (flat_map (λ b. b.instrs) blocks.now)) result }
 {
     for block in blocks {
         check_block(alloc, f, block.instrs.as_slice())?;
     }
     Ok(())
-}
-
-/// Whether control may go behind an instruction to the block with this name.
-#[tactic(auto, using(crate::proofs::Passes::any_map))]
-fn targets(op: &Op, name: &[u8]) -> bool
-    ensures { result ≡ list_any (λ label. bytes_eq label name.now) (targets_of op.now) }
-{
-    match op {
-        Op::Jump { label } => label.is_same(name),
-        Op::Branch {
-            if_true,
-            if_false,
-            ..
-        } => if_true.is_same(name) || if_false.is_same(name),
-        Op::Switch {
-            otherwise,
-            cases,
-            ..
-        } => otherwise.is_same(name) || has_case(cases.as_slice(), name),
-        _ => false,
-    }
-}
-
-/// Whether a case goes to the block with this name.
-fn has_case(cases: &[SwitchCase], name: &[u8]) -> bool
-    ensures { result ≡ list_any (λ c. bytes_eq c.label name.now) cases.now }
-{
-    cases.iter().any(|case| case.label.is_same(name))
-}
-
-/// Whether control may go from a block to the block with this name.
-pub fn goes_to(block: &Block, name: &[u8]) -> bool
-    ensures { result ≡ goes_to block.now name.now }
-{
-    match last_of(block.instrs.as_slice()) {
-        None => false,
-        Some(last) => targets(&last.op, name),
-    }
 }

@@ -1,13 +1,13 @@
 //! What the instructions of a function give, and what they are called.
 ghost use Rattle.std.specs.Prelude.{◌≡◌, ◌++◌, IfOk, OnOk, map, filter_map, flat_map, option_to_list};
 ghost use Rattle.lx_ir.specs.Operands.{result_of, kept_result, is_terminator, is_phi, register_types};
-ghost use Rattle.lx_ir.specs.Text.{operator_word, conversion_word, name_at, register_name};
+ghost use Rattle.lx_ir.specs.Text.{operator_word, name_at, register_name};
 ghost use Rattle.lx_ir.specs.Faults.{op_word};
 
-use lx_ir::instr::{Conversion, Instr, Op};
+use lx_ir::instr::{Instr, Op};
 use lx_ir::module::{Block, Function, Parameter};
 use lx_ir::types::Scalar;
-use lx_ir_walks::blocks_of;
+use lx_ir_uses::blocks_of;
 use lx_words::{BinOp, Memory, Name, Width};
 use std::alloc::Global;
 
@@ -27,7 +27,7 @@ fn result_of(op: &Op) -> Option<Scalar>
 {
     match op {
         Op::Binary { ty, .. }
-        | Op::Freeze { ty, .. }
+        | Op::Unary { ty, .. }
         | Op::Select { ty, .. }
         | Op::Phi { ty, .. }
         | Op::Load { ty, .. } => Some(*ty),
@@ -127,18 +127,6 @@ fn operator_word(op: BinOp) -> &'static [u8]
     }
 }
 
-fn conversion_word(how: Conversion) -> &'static [u8]
-    ensures { result.now ≡ conversion_word how }
-{
-    match how {
-        Conversion::Trunc => b"trunc",
-        Conversion::ZExt => b"zext",
-        Conversion::SExt => b"sext",
-        Conversion::PtrToInt => b"ptrtoint",
-        Conversion::IntToPtr => b"inttoptr",
-    }
-}
-
 /// The first word of an instruction.
 pub fn op_word(op: &Op) -> &'static [u8]
     ensures { result.now ≡ op_word op.now }
@@ -146,8 +134,8 @@ pub fn op_word(op: &Op) -> &'static [u8]
     match op {
         Op::Binary { op, .. } => operator_word(*op),
         Op::Compare { .. } => b"icmp",
-        Op::Convert { how, .. } => conversion_word(*how),
-        Op::Freeze { .. } => b"freeze",
+        Op::Convert { how, .. } => how.word(),
+        Op::Unary { op, .. } => op.word(),
         Op::Select { .. } => b"select",
         Op::Phi { .. } => b"phi",
         Op::Alloca { .. } => b"alloca",

@@ -9,7 +9,8 @@ use crate::registers::check_registers;
 use crate::types::check_globals;
 use crate::typing::check_types;
 use lx_ir::module::{Function, Module};
-use lx_ir_walks::blocks_of;
+use lx_ir_predecessors::Blocks;
+use lx_ir_uses::blocks_of;
 use std::alloc::Global;
 
 /// The first four passes over a function.
@@ -19,9 +20,10 @@ fn check_earlier(alloc: Global, m: &Module, f: &Function) -> Result<(), VerifyFa
 {
     let blocks = blocks_of(f);
     check_ends(alloc, f, blocks)?;
-    check_labels(alloc, f, blocks)?;
+    let names = Blocks::of(alloc, f)?;
+    check_labels(alloc, &names, blocks)?;
     check_types(alloc, m, f)?;
-    check_phis(alloc, f, blocks)?;
+    check_phis(alloc, &names)?;
     Ok(())
 }
 

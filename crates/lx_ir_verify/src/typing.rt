@@ -16,7 +16,7 @@ use lx_ir::instr::{Argument, Callee, Conversion, Instr, Op};
 use lx_ir::module::{Block, Constant, Function, Module, Parameter, Symbol, Value};
 use lx_ir::types::{IrType, Scalar, TypeNode};
 use lx_ir::unnamed;
-use lx_ir_walks::{blocks_of, operands_of};
+use lx_ir_uses::{blocks_of, operands_of};
 use lx_words::{Memory, Name, Width, Word};
 use std::alloc::Global;
 

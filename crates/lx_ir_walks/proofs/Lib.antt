@@ -1,4 +1,5 @@
 pub mod FirstRead
+pub mod GivenBefore
 pub mod Marking
 pub mod Marks
 pub mod ReadLists

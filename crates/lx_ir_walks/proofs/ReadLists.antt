@@ -1,8 +1,7 @@
 -- Lemmas on lists of reads that a loop makes.
-use Rattle.std.proofs.Common.{◌≡◌, ℕ, ◌+◌, ◌<◌, ◌≤◌, Bool, List, [], ◌++◌, length, get_or, drop, ap, sym, ◌∙◌, add-one}
-use Rattle.std.specs.Prelude.{filter, flat_map}
+use Rattle.std.proofs.Common.{◌≡◌, ℕ, ◌+◌, ◌<◌, ◌≤◌, List, [], ◌++◌, length, get_or, drop, ap, sym, ◌∙◌, add-one}
+use Rattle.std.specs.Prelude.{flat_map}
 use Rattle.std.proofs.lemmas.List.{append_assoc, drop_all, append-nil}
-use Rattle.std.proofs.lemmas.List.Elements.{filter-append}
 use Rattle.lx_ir.specs.declared.module.Function.{Function}
 use Rattle.lx_ir.specs.declared.module.Block.{Block}
 use Rattle.lx_ir.specs.declared.instr.Instr.{Instr}
@@ -10,12 +9,11 @@ use Rattle.lx_ir.specs.Faults.{reads_of_op, reads_from, reads_of_blocks}
 use Rattle.lx_ir_walks.proofs.Rests.{rest_at}
 
 -- a piece more is appended
-pub appended : {X : Type 0} (p : X → Bool) (all old new piece rest left : List X) → all ≡ old ++ filter p left → left ≡ piece ++ rest → new ≡ old ++ filter p piece → all ≡ new ++ filter p rest
-appended p all old new piece rest left a e n =
-    a ∙ (ap (λ z. old ++ filter p z) e ∙ (ap (λ z. old ++ z) (filter-append p piece rest) ∙ (sym (append_assoc old (filter p piece) (filter p rest)) ∙ ap (λ z. z ++ filter p rest) (sym n))))
+pub appended : {X : Type 0} (all old new piece rest left : List X) → all ≡ old ++ left → left ≡ piece ++ rest → new ≡ old ++ piece → all ≡ new ++ rest
+appended all old new piece rest left a e n = a ∙ (ap (λ z. old ++ z) e ∙ (sym (append_assoc old piece rest) ∙ ap (λ z. z ++ rest) (sym n)))
 
-pub all_appended : {X : Type 0} (p : X → Bool) (all new left : List X) → all ≡ new ++ filter p left → left ≡ [] → new ≡ all
-all_appended p all new left a e = sym (a ∙ (ap (λ z. new ++ filter p z) e ∙ append-nil new))
+pub all_appended : {X : Type 0} (all new left : List X) → all ≡ new ++ left → left ≡ [] → new ≡ all
+all_appended all new left a e = sym (a ∙ (ap (λ z. new ++ z) e ∙ append-nil new))
 
 pub flat_step : {A B : Type 0} (g : A → List B) (xs : List A) (i : ℕ) (x : A) → i < length xs → x ≡ get_or xs i x → flat_map g (drop i xs) ≡ g x ++ flat_map g (drop (i + 1) xs)
 flat_step g xs i x h e = ap (flat_map g) (rest_at xs i x h e)

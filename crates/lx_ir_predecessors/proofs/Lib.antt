@@ -1,0 +1,4 @@
+pub mod Members
+pub mod FirstBlocks
+pub mod Additions
+pub mod Predecessors
