@@ -1,4 +1,5 @@
 pub mod Aside
 pub mod Bodies
+pub mod Places
 pub mod TokensSay
 pub mod Windows

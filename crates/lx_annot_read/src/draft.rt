@@ -1,14 +1,16 @@
 //! An interface as far as its statements are read.
 
-ghost use Rattle.std.specs.Prelude.{◌≡◌, ◌<◌, ◌≤◌, length, IfOk, OnOk};
+ghost use Rattle.std.specs.Prelude.{◌≡◌, ◌<◌, ◌≤◌, false, length, IfOk, OnOk};
 ghost use Rattle.std.specs.List.{list_any};
 ghost use Rattle.lx_annot_expressions.specs.Reading.{Gives, GivesBy, Leaves};
 ghost use Rattle.lx_annot_read.specs.Draft.{IsTabled};
 ghost use Rattle.lx_annot_read.specs.Head.{may_lend};
-ghost use Rattle.lx_annot_read.specs.Interfaces.{callable_at, empty, export_at, field_at, index_at, is_field, iterator_at, iterator_body_at, reftype_at, slot_at, statement_at, struct_at};
+ghost use Rattle.lx_annot_read.specs.Typed.{is_place};
+ghost use Rattle.lx_annot_read.specs.Interfaces.{callable_at, empty, export_at, field_at, index_at, is_typed, iterator_at, iterator_body_at, reftype_at, slot_at, statement_at, struct_at};
 
 use crate::head::Version;
 use crate::said::struct_of;
+use crate::typed::TypedFields;
 use lx_annot::action::Annotation;
 use lx_annot::expr::Ty;
 use lx_annot::interface::{CapIterator, Export, Field, Interface, ItemList, Parameter, Slot};
@@ -21,7 +23,8 @@ use std::marker::Model;
 /// The greatest number of a field.
 const GREATEST_INDEX: u64 = u32::MAX as u64;
 
-/// What the statements so far say, with tables of the names that they declare, in a text of this version.
+/// What the statements so far say, with tables of the names that they declare and of the fields that they type, in a
+/// text of this version.
 #[derive(Drop)]
 pub struct Draft<'a> {
     pub version: Version,
@@ -30,6 +33,7 @@ pub struct Draft<'a> {
     pub iterators: NameTable<'a>,
     pub slots: NameTable<'a>,
     pub exports: NameTable<'a>,
+    pub typed: TypedFields<'a>,
 }
 
 /// What a slot or an export takes and gives, and its annotation.
@@ -100,19 +104,6 @@ fn struct_name<'a>(reader: &mut Reader<'a>) -> Result<&'a [u8], ReadError>
     }
 }
 
-fn is_field(field: &Field, name: &[u8], index: u32) -> bool
-    ensures { result ≡ is_field name.now index field.now }
-{
-    field.index == index && field.name.is_same(name)
-}
-
-/// Whether a field of a struct is among these.
-fn is_typed(fields: &[Field], name: &[u8], index: u32) -> bool
-    ensures { result ≡ list_any (is_field name.now index) fields.now }
-{
-    fields.iter().any(|field| is_field(field, name, index))
-}
-
 /// What actions may use in a text of this version.
 fn known<'k>(
     version: Version,
@@ -155,6 +146,7 @@ impl<'a> Draft<'a> {
             iterators: NameTable::new(alloc),
             slots: NameTable::new(alloc),
             exports: NameTable::new(alloc),
+            typed: TypedFields::new(alloc),
         }
     }
 
@@ -262,18 +254,30 @@ impl<'a> Draft<'a> {
         Ok(())
     }
 
+    /// Whether the field of this number of a struct has a slot type.
+    #[tactic(auto, using(crate::proofs::Places::typed_in))]
+    fn is_typed(&self, name: &'a [u8], index: u32) -> bool
+        requires { IsTabled self.now }
+        ensures typed { result ≡ is_typed self.now.interface name.now index }
+        ensures among { result ≡ list_any (is_place name.now index) self.now.typed }
+    {
+        self.typed.has(name, index)
+    }
+
     /// The number of a field of a struct, whose name stands where `place` is.
     fn index(
         &self,
-        name: &[u8],
+        name: &'a [u8],
         place: &Reader<'_>,
         reader: &mut Reader<'_>,
     ) -> Result<u32, ReadError>
+        requires { IsTabled self.now }
         ensures reads { Gives result reader.new (index_at self.now.interface place.now name.now reader.old) }
         ensures shrinks { length reader.new ≤ length reader.old }
+        ensures fresh { IfOk result (λ n. list_any (is_place name.now n) self.now.typed ≡ false) }
     {
         let index = reader.number(GREATEST_INDEX)? as u32;
-        if is_typed(self.interface.fields.as_slice(), name, index) {
+        if self.is_typed(name, index) {
             return Err(place.fault(FaultKind::Twice));
         }
         Ok(index)
@@ -298,9 +302,10 @@ impl<'a> Draft<'a> {
         let index = self.index(name, &place, reader)?;
         reader.expect(b":")?;
         let slot = reader.known(&self.slots)?;
-        let name = Name::from_bytes(alloc, name)?;
+        let owned = Name::from_bytes(alloc, name)?;
+        self.typed.add(name, index)?;
         let field = Field {
-            name,
+            name: owned,
             index,
             slot,
             line,

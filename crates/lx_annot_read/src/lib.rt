@@ -20,6 +20,7 @@ mod fault;
 mod head;
 mod said;
 mod text;
+mod typed;
 
 pub use fault::InterfaceFault;
 pub use text::{read_interface, tokens_say_all};

@@ -1,7 +1,6 @@
 pub mod Pairs
 pub mod Natives
 pub mod Passes
-pub mod Names
 pub mod Entries
 pub mod Places
 pub mod Counts

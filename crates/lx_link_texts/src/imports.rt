@@ -4,25 +4,25 @@ ghost use Rattle.lx_ir.specs.Faults.{first_some};
 ghost use Rattle.lx_link_texts.specs.Faults.{Gives, defined, first_module, import_fault, import_fault_by, imports_fault, module_import_fault};
 
 use crate::fault::{FaultKind, Found, Source};
-use crate::lookup::{defined, is_alias, is_exported, is_kernel_name};
+use crate::lookup::{is_alias, is_kernel_name};
 use crate::signatures::{has_native_signature, have_same_signature};
-use crate::sources::Sources;
-use lx_annot::interface::Interface;
 use lx_ir::module::{Function, Module};
+use lx_model::program::ProgramModule;
+use lx_name_tables::{InterfaceNames, TextNames};
 
 /// The number of the native that modules call.
 const ALIAS: u32 = 5;
 
 /// Looks at an import that the kernel defines.
 fn check_defined<'a>(
-    interface: &Interface,
+    interface: &InterfaceNames<'_>,
     source: Source,
     import: &'a Function,
     function: &Function,
 ) -> Result<(), Found<'a>>
     ensures { Gives (import_fault_by interface.now source import.now (Some function.now)) result }
 {
-    if !is_exported(interface, import.name.as_slice()) {
+    if !interface.is_exported(import.name.as_slice()) {
         return Err(Found::at(FaultKind::Unannotated, source, import));
     }
     if !have_same_signature(import, function) {
@@ -33,14 +33,14 @@ fn check_defined<'a>(
 
 /// Looks at an import that is a function of the kernel.
 fn check_import<'a>(
-    kernel: &Module,
-    interface: &Interface,
+    kernel: &TextNames<'_>,
+    interface: &InterfaceNames<'_>,
     source: Source,
     import: &'a Function,
 ) -> Result<(), Found<'a>>
     ensures { Gives (import_fault_by interface.now source import.now (defined kernel.now import.now.name)) result }
 {
-    match defined(kernel, import.name.as_slice()) {
+    match kernel.defined(import.name.as_slice()) {
         None => Err(Found::at(FaultKind::Missing, source, import)),
         Some(function) => check_defined(interface, source, import, function),
     }
@@ -48,8 +48,8 @@ fn check_import<'a>(
 
 /// Looks at a function that a module declares.
 fn check_declared<'a>(
-    kernel: &Module,
-    interface: &Interface,
+    kernel: &TextNames<'_>,
+    interface: &InterfaceNames<'_>,
     source: Source,
     import: &'a Function,
 ) -> Result<(), Found<'a>>
@@ -69,8 +69,8 @@ fn check_declared<'a>(
 }
 
 fn check_function<'a>(
-    kernel: &Module,
-    interface: &Interface,
+    kernel: &TextNames<'_>,
+    interface: &InterfaceNames<'_>,
     source: Source,
     function: &'a Function,
 ) -> Result<(), Found<'a>>
@@ -85,8 +85,8 @@ fn check_function<'a>(
 /// Finds the first fault of the imports of a module.
 #[tactic(auto, using(crate::proofs::Passes::first_step, crate::proofs::Passes::first_end, crate::proofs::Passes::first_answer))]
 fn check_module<'a>(
-    kernel: &Module,
-    interface: &Interface,
+    kernel: &TextNames<'_>,
+    interface: &InterfaceNames<'_>,
     number: u32,
     m: &'a Module,
 ) -> Result<(), Found<'a>>
@@ -100,17 +100,16 @@ fn check_module<'a>(
 
 /// Finds the first import that is missing, is not exported, or has another signature than the kernel's function.
 #[tactic(auto, using(crate::proofs::Passes::module_step, crate::proofs::Passes::module_end, crate::proofs::Passes::first_answer))]
-pub fn check_imports(sources: &Sources) -> Result<(), Found<'_>>
-    requires { length sources.now.modules < 2 ^ 32 }
-    ensures { Gives (first_module (imports_fault sources.now.kernel sources.now.interface) 0 sources.now.modules) result }
+pub fn check_imports<'a>(
+    kernel: &TextNames<'_>,
+    interface: &InterfaceNames<'_>,
+    modules: &'a [ProgramModule],
+) -> Result<(), Found<'a>>
+    requires { length modules.now < 2 ^ 32 }
+    ensures { Gives (first_module (imports_fault kernel.now interface.now) 0 modules.now) result }
 {
-    for (number, entry) in sources.modules.as_slice().iter().enumerate() {
-        check_module(
-            &sources.kernel,
-            &sources.interface,
-            number as u32,
-            &entry.module,
-        )?;
+    for (number, entry) in modules.iter().enumerate() {
+        check_module(kernel, interface, number as u32, &entry.module)?;
     }
     Ok(())
 }

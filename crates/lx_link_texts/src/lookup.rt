@@ -1,29 +1,18 @@
 //! What names name.
-ghost use Rattle.std.specs.Prelude.{◌≡◌, ◌<◌, ◌++◌, IfSome, bytes_eq, codes, option_copied};
+ghost use Rattle.std.specs.Prelude.{◌≡◌, ◌<◌, IfSome};
 ghost use Rattle.std.specs.List.{list_any};
 ghost use Rattle.lx_ir.specs.Lookup.{is_indirect_call};
-ghost use Rattle.lx_link_texts.specs.Faults.{calls_indirectly, defined, defines, is_alias, is_exported, is_kernel_name, kernel_native, slot_called};
+ghost use Rattle.lx_link_texts.specs.Faults.{calls_indirectly, defines, is_alias, is_kernel_name, kernel_native};
 
-use lx_annot::interface::{Interface, Slot};
 use lx_ir::instr::{Callee, Instr, Op};
-use lx_ir::module::{Block, Function, Module};
-use lx_ir_walks::blocks_of;
+use lx_ir::module::{Block, Function};
+use lx_ir_uses::blocks_of;
 
 /// Whether the text defines the function, under this name.
 pub fn defines(function: &Function, name: &[u8]) -> bool
     ensures { result ≡ defines name.now function.now }
 {
     function.blocks.is_some() && function.name.is_same(name)
-}
-
-/// The function of that name that a text defines.
-pub fn defined<'a>(m: &'a Module, name: &[u8]) -> Option<&'a Function>
-    ensures { option_copied result ≡ defined m.now name.now }
-{
-    m.functions
-        .as_slice()
-        .iter()
-        .find(|function| defines(function, name))
 }
 
 /// The native of that name that the kernel may call.
@@ -46,41 +35,6 @@ pub fn kernel_native(name: &[u8]) -> Option<u32>
     }
 }
 
-fn is_same(a: &[u8], b: &[u8]) -> bool
-    ensures { result ≡ bytes_eq a.now b.now }
-{
-    a == b
-}
-
-/// Whether a name is one text behind another.
-#[tactic(auto, using(crate::proofs::Names::longer_name, crate::proofs::Names::joined_then, crate::proofs::Names::joined_else))]
-fn is_joined(front: &[u8], back: &[u8], name: &[u8]) -> bool
-    ensures { result ≡ bytes_eq (front.now ++ back.now) name.now }
-{
-    if name.len() < front.len() {
-        return false;
-    }
-    let (first, rest) = name.split_at(front.len());
-    is_same(front, first) && is_same(back, rest)
-}
-
-fn is_slot_call(slot: &Slot, name: &[u8]) -> bool
-    ensures { result ≡ bytes_eq (codes "k.slot." ++ slot.now.name) name.now }
-{
-    is_joined(b"k.slot.", slot.name.as_slice(), name)
-}
-
-/// The slot type through which a function of that name calls.
-pub fn slot_called<'a>(interface: &'a Interface, name: &[u8]) -> Option<&'a Slot>
-    ensures { option_copied result ≡ slot_called interface.now name.now }
-{
-    interface
-        .slots
-        .as_slice()
-        .iter()
-        .find(|slot| is_slot_call(slot, name))
-}
-
 /// Whether the name is that of the native that modules call.
 pub fn is_alias(name: &[u8]) -> bool
     ensures { result ≡ is_alias name.now }
@@ -93,17 +47,6 @@ pub fn is_kernel_name(name: &[u8]) -> bool
     ensures { result ≡ is_kernel_name name.now }
 {
     name.starts_with(b"k.")
-}
-
-/// Whether the interface exports a function of that name.
-pub fn is_exported(interface: &Interface, name: &[u8]) -> bool
-    ensures { result ≡ is_exported interface.now name.now }
-{
-    interface
-        .exports
-        .as_slice()
-        .iter()
-        .any(|export| export.name.is_same(name))
 }
 
 /// Whether an instruction calls what a register holds.

@@ -1,0 +1,83 @@
+-- First places in lists.
+use Rattle.std.proofs.Common.{◌≡◌, ◌∙◌, refl, sym, ap, ℕ, suc, ◌+◌, ◌<◌, ◌≤◌, Bool, true, false, not, ◌||◌, cond, nat_lt, Option, Some, None, List, [], ◌∷◌, length, drop, arith}
+use Rattle.std.specs.Prelude.{position, find, slice_get}
+use Rattle.std.specs.List.{position_from, position_or_len, list_any}
+use Rattle.std.proofs.lemmas.Bool.Decides.{nat_tests}
+use Rattle.std.proofs.lemmas.Iterator.Adapters.{position_from-zero}
+use Rattle.std.proofs.lemmas.List.Folds.{find_at}
+use Rattle.std.proofs.lemmas.Option.{slice_get_past}
+
+-- the first of the whole list
+pub first_all : {A : Type 0} (t : A → Bool) (xs : List A) (k : ℕ) (found : Option ℕ) → k ≤ 0 → found ≡ position_from t k (drop k xs) → found ≡ position t xs
+first_all t xs k found none is =
+    let zero_is : k ≡ 0 = omega (arith, none) in
+    is ∙ ap (λ n. position_from t n (drop n xs)) zero_is ∙ sym (position_from-zero t xs)
+
+-- what stands at the first place is what is found
+
+by_test : (b : Bool) (n k : ℕ) → cond b (Some n) None ≡ Some k → n ≡ k
+by_test true n k e = cc
+by_test false n k e = absurd (cc)
+
+passed : (b : Bool) (n k : ℕ) → cond b (Some n) None ≡ Some k → b ≡ true
+passed true n k e = refl
+passed false n k e = absurd (cc)
+
+failed : (b : Bool) (n : ℕ) → cond b (Some n) None ≡ None → b ≡ false
+failed true n e = absurd (cc)
+failed false n e = refl
+
+pub found_at : {A : Type 0} (t : A → Bool) (xs : List A) (k : ℕ) (x : Option A) → position t xs ≡ Some k → x ≡ slice_get xs k → x ≡ find t xs
+found_at t xs k x p e = e ∙ ap (slice_get xs) (sym (by_test (nat_lt (position_or_len t xs) (length xs)) (position_or_len t xs) k p)) ∙ sym (find_at t xs)
+
+past : (n m : ℕ) → nat_lt n m ≡ false → m ≤ n
+past n m h = grind (arith, nat_tests, h)
+
+pub not_found : {A : Type 0} (t : A → Bool) (xs : List A) → position t xs ≡ None → None ≡ find t xs
+not_found t xs p =
+    let far = past (position_or_len t xs) (length xs) (failed (nat_lt (position_or_len t xs) (length xs)) (position_or_len t xs) p) in
+    sym (find_at t xs ∙ slice_get_past xs (position_or_len t xs) far)
+
+-- something passes exactly where there is a first place
+
+first_below : (m : ℕ) → true ≡ nat_lt 0 (suc m)
+first_below m = grind (arith, nat_tests)
+
+next_below : (n m : ℕ) → nat_lt n m ≡ nat_lt (1 + n) (suc m)
+next_below n m = grind (arith, nat_tests)
+
+any_below : {A : Type 0} (t : A → Bool) (xs : List A) → list_any t xs ≡ nat_lt (position_or_len t xs) (length xs)
+any_below t [] = refl
+any_below t (x ∷ xs) = by (t x) (any_below t xs)
+  where
+    by : (b : Bool) → list_any t xs ≡ nat_lt (position_or_len t xs) (length xs) → (b || list_any t xs) ≡ nat_lt (cond (not b) (1 + position_or_len t xs) 0) (suc (length xs))
+    by true rest = first_below (length xs)
+    by false rest = rest ∙ next_below (position_or_len t xs) (length xs)
+
+pub there : {A : Type 0} (t : A → Bool) (xs : List A) (k : ℕ) → position t xs ≡ Some k → true ≡ list_any t xs
+there t xs k p = sym (any_below t xs ∙ passed (nat_lt (position_or_len t xs) (length xs)) (position_or_len t xs) k p)
+
+pub not_there : {A : Type 0} (t : A → Bool) (xs : List A) → position t xs ≡ None → false ≡ list_any t xs
+not_there t xs p = sym (any_below t xs ∙ failed (nat_lt (position_or_len t xs) (length xs)) (position_or_len t xs) p)
+
+-- a first place is one of the list's
+below : (b : Bool) (n m k : ℕ) → nat_lt n m ≡ b → cond b (Some n) None ≡ Some k → k < m
+below true n m k h e = let is : n ≡ k = cc in grind (arith, nat_tests, h, is)
+below false n m k h e = absurd (cc)
+
+pub is_within : {A : Type 0} (t : A → Bool) (xs : List A) (k : ℕ) → Some k ≡ position t xs → k < length xs
+is_within t xs k e = below (nat_lt (position_or_len t xs) (length xs)) (position_or_len t xs) (length xs) k refl (sym e)
+
+-- a test that no element passes finds nothing
+nothing : {A : Type 0} (xs : List A) → find (λ (x : A). false) xs ≡ None
+nothing [] = refl
+nothing (x ∷ xs) = nothing xs
+
+pub none_found : {A : Type 0} (t : A → Bool) (xs : List A) → ((x : A) → t x ≡ false) → find t xs ≡ None
+none_found t xs fails =
+    let p : t ≡ (λ x. false) = λ j x. fails x j in
+    ap (λ s. find s xs) p ∙ nothing xs
+
+-- tests that agree find the same
+pub same_found : {A : Type 0} (s t : A → Bool) (xs : List A) → ((x : A) → s x ≡ t x) → find s xs ≡ find t xs
+same_found s t xs same = let p : s ≡ t = λ j x. same x j in ap (λ r. find r xs) p

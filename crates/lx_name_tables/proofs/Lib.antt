@@ -1,0 +1,4 @@
+pub mod Firsts
+pub mod Join
+pub mod Same
+pub mod FirstTexts

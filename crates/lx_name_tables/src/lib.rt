@@ -1,0 +1,17 @@
+//! Names of texts, interfaces and programs in tables, so that none is searched for in a list.
+//!
+//! A table that there is no memory for is left out, and its list is searched instead: no answer waits for memory.
+#![tactic(auto)]
+
+mod behind;
+mod interfaces;
+mod keys;
+mod modules;
+mod named;
+mod places;
+mod programs;
+mod texts;
+
+pub use interfaces::InterfaceNames;
+pub use programs::ProgramNames;
+pub use texts::TextNames;
