@@ -15,10 +15,11 @@ ghost use Rattle.lx_cli.specs.Rows.{Wrote, FellShort, Headline, NoNewFault};
 ghost use Rattle.lx_cli.specs.Told.{TellsInput, TellsOf};
 
 use crate::answer::{Answer, answer_text, status_of};
-use crate::command::{Command, command_of};
+use crate::command::{asked_of, case_of, count_asked};
 use crate::generate::{generated_shelf, sum_up_input};
 use crate::images::{check_input, instrument_input};
 use crate::run::{Host, run_input};
+use lx_command::{Command, command_of};
 use lx_input::{Input, InputStop, input_laws, read_input};
 use lx_outside::{Gate, Shelf, Sink, put_all};
 use lx_words::Memory;
@@ -90,7 +91,7 @@ fn answer_to<R: Threads + Wait + Sync, S: Shelf, G: Gate + Sync>(
         → TellsInput (Some (said command.entry)) (InputTurn files (case_of (said command.entry)) (asked_of (said command.entry))) a) }
     ensures unread { (file : List ℕ) → result ≡ Ok (Answer.Unread file) → S.faults shelf.new ≡ S.faults shelf.old ++ file ∷ [] }
 {
-    match read_input(host.alloc, shelf, command.case(), command.asked()) {
+    match read_input(host.alloc, shelf, case_of(command), asked_of(command)) {
         Ok(input) => answer_input(host, command, input),
         Err(stop) => stopped(stop),
     }
@@ -127,7 +128,7 @@ fn answer_of<R: Threads + Wait + Sync, S: Shelf, G: Gate + Sync>(
     ensures unread { (file : List ℕ) → result ≡ Ok (Answer.Unread file) → S.faults shelf.new ≡ S.faults shelf.old ++ file ∷ [] }
     ensures generated { (count : ℕ) → said command.entry ≡ Generate count → shelf.new ≡ shelf.old }
 {
-    match command.generated() {
+    match count_asked(command) {
         Some(count) => answer_generated(host, command, count),
         None => answer_to(host, shelf, command),
     }
@@ -195,7 +196,7 @@ pub fn lxfi<R: Threads + Wait + Sync, S: Shelf, K: Sink, G: Gate + Sync>(
         → EndedBy (command_of (texts words.now)) i result ⊎ (result ≡ 6) }
 {
     input_laws();
-    let Some(command) = command_of(words) else {
+    let Some(command) = command_of(alloc, words) else {
         return put(sink, USAGE.as_bytes(), 2);
     };
     let host = Host { rt, alloc, gate };

@@ -11,14 +11,14 @@ use Rattle.lx_cli.proofs.Telling.{told_input, told_stop, noted_stop, names_none,
 use Rattle.lx_cli.proofs.top.answer_to.Goals as goal
 
 pub answer_input-requires-clause-there : goal.answer_input-requires-clause-there
-answer_input-requires-clause-there g c = λ _ _. subst (λ (q : Asked). AreThere q c.in-Ok.input.besides) c.asked.ensures c.in-Ok.ensures.there
+answer_input-requires-clause-there g c = λ _ _. subst (λ (q : Asked). AreThere q c.in-Ok.input.besides) c.asked_of.ensures c.in-Ok.ensures.there
 
 pub returns-in-Ok-clause-answer : goal.returns-in-Ok-clause-answer
 returns-in-Ok-clause-answer g c =
     if_ok c.answer_input.result (λ a tells. λ files files_told.
     told_input (said c.args.command) (λ (r : Result Input InputStop). InputTurn files (case_of (said c.args.command)) (asked_of (said c.args.command)) r) c.in-Ok.input a
-    (subst (λ (q : Asked). AreThere q c.in-Ok.input.besides) c.asked.ensures c.in-Ok.ensures.there)
-    (moved_turn files c.case.result.now (case_of (said c.args.command)) (asked_by c.asked.result) (asked_of (said c.args.command)) (Ok c.in-Ok.input) c.case.ensures c.asked.ensures (c.in-Ok.ensures.told files files_told))
+    (subst (λ (q : Asked). AreThere q c.in-Ok.input.besides) c.asked_of.ensures c.in-Ok.ensures.there)
+    (moved_turn files c.case_of.result.now (case_of (said c.args.command)) (asked_by c.asked_of.result) (asked_of (said c.args.command)) (Ok c.in-Ok.input) c.case_of.ensures c.asked_of.ensures (c.in-Ok.ensures.told files files_told))
     tells) c.answer_input.ensures
 
 pub returns-in-Ok-clause-unread : goal.returns-in-Ok-clause-unread
@@ -29,7 +29,7 @@ pub returns-in-Err-clause-answer : goal.returns-in-Err-clause-answer
 returns-in-Err-clause-answer g c =
     if_ok c.stopped.result (λ a tells. λ files files_told.
     told_stop (Some (said c.args.command)) (λ (r : Result Input InputStop). InputTurn files (case_of (said c.args.command)) (asked_of (said c.args.command)) r) c.in-Err.stop a
-    (moved_turn files c.case.result.now (case_of (said c.args.command)) (asked_by c.asked.result) (asked_of (said c.args.command)) (Err c.in-Err.stop) c.case.ensures c.asked.ensures (c.in-Err.ensures.told files files_told))
+    (moved_turn files c.case_of.result.now (case_of (said c.args.command)) (asked_by c.asked_of.result) (asked_of (said c.args.command)) (Err c.in-Err.stop) c.case_of.ensures c.asked_of.ensures (c.in-Err.ensures.told files files_told))
     tells) c.stopped.ensures
 
 pub returns-in-Err-clause-unread : goal.returns-in-Err-clause-unread

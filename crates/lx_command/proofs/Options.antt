@@ -1,0 +1,71 @@
+-- Words of which one is an option are no command.
+use Rattle.std.proofs.Common.{◌≡◌, ◌∙◌, ℕ, nat_eq, nat_le, Bool, true, false, not, ◌&&◌, List, [], ◌∷◌, codes, Option, Some, None, option_map, if◌then◌else◌, refl, sym, ap}
+use Rattle.std.specs.List.{list_all}
+use Rattle.std.specs.Str.{bytes_eq}
+use Rattle.std.specs.Cmp.{unsigned_Decides}
+use Rattle.std.proofs.lemmas.Slice.Eq.{bytes_eq-Decides}
+use Rattle.lx_words.specs.Text.{decimal_value}
+use Rattle.lx_command.specs.Command.{Command, Run, Replay, Instrument, Check, Generate, begins_well, is_name, is_number, if_words, count_of, command_of}
+
+on : (b : Bool) → not (b && true) ≡ false → b ≡ true
+on true dashed = refl
+on false dashed = absurd (cc)
+
+and_no : (b : Bool) → (b && false) ≡ false
+and_no true = refl
+and_no false = refl
+
+no_count : (b n : Bool) (k : ℕ) → b ≡ false → (if b && n then Some k else None) ≡ None
+no_count b n k no_b = rw no_b refl
+
+no_number : (word : List ℕ) → is_name word ≡ false → count_of word ≡ None
+no_number [] dashed = absurd (cc)
+no_number (x ∷ xs) dashed =
+    let is : x ≡ 45 = (unsigned_Decides x 45).0 (on (nat_eq x 45) dashed) in
+    ap (λ y. count_of (y ∷ xs)) is ∙ no_count (is_number (45 ∷ xs)) (nat_le (decimal_value (45 ∷ xs)) 4096) (decimal_value (45 ∷ xs)) (and_no (begins_well (45 ∷ xs)))
+
+-- the name of a command is no option
+named : (name word : List ℕ) → is_name name ≡ true → bytes_eq word name ≡ true → is_name word ≡ true
+named name word plain is = ap is_name ((bytes_eq-Decides word name).0 is) ∙ plain
+
+not_all : (n : Bool) → n ≡ true → n ≡ false → ⊥
+not_all n is isnt = let bad : true ≡ false = sym is ∙ isnt in cc
+
+and_true : (a b : Bool) → a ≡ true → (a && b) ≡ b
+and_true a b is = ap (λ x. x && b) is
+
+one_off : (r g w a : Bool) (x : Option ℕ) (c : Command) → (r ≡ true → w ≡ true) → (g ≡ true → w ≡ true) → (a ≡ false → x ≡ None) → (w && (a && true)) ≡ false
+    → (if r then if_words a c else (if g then option_map Generate x else None)) ≡ None
+one_off true g w true x c run generate none off = absurd (not_all (w && (true && true)) (and_true w (true && true) (run refl)) off)
+one_off true g w false x c run generate none off = refl
+one_off false true w true x c run generate none off = absurd (not_all (w && (true && true)) (and_true w (true && true) (generate refl)) off)
+one_off false true w false x c run generate none off = ap (option_map Generate) (none refl)
+one_off false false w a x c run generate none off = refl
+
+two_off : (p i w a b : Bool) (c d : Command) → (p ≡ true → w ≡ true) → (i ≡ true → w ≡ true) → (w && (a && (b && true))) ≡ false
+    → (if a && b then (if p then Some c else if_words i d) else None) ≡ None
+two_off p i w false b c d replay instrument off = refl
+two_off p i w true false c d replay instrument off = refl
+two_off true i w true true c d replay instrument off = absurd (not_all (w && (true && (true && true))) (and_true w (true && (true && true)) (replay refl)) off)
+two_off false true w true true c d replay instrument off = absurd (not_all (w && (true && (true && true))) (and_true w (true && (true && true)) (instrument refl)) off)
+two_off false false w true true c d replay instrument off = refl
+
+three_off : (k w a b d : Bool) (c : Command) → (k ≡ true → w ≡ true) → (w && (a && (b && (d && true)))) ≡ false → if_words (k && (a && (b && d))) c ≡ None
+three_off false w a b d c check off = refl
+three_off true w false b d c check off = refl
+three_off true w true false d c check off = refl
+three_off true w true true false c check off = refl
+three_off true w true true true c check off = absurd (not_all (w && (true && (true && (true && true)))) (and_true w (true && (true && (true && true))) (check refl)) off)
+
+pub none_with_option : (words : List (List ℕ)) → list_all is_name words ≡ false → command_of words ≡ None
+none_with_option [] off = refl
+none_with_option (w ∷ []) off = refl
+none_with_option (w ∷ a ∷ []) off =
+    one_off (bytes_eq w (codes "run")) (bytes_eq w (codes "generate")) (is_name w) (is_name a) (count_of a) (Run a)
+    (named (codes "run") w refl) (named (codes "generate") w refl) (no_number a) off
+none_with_option (w ∷ a ∷ b ∷ []) off =
+    two_off (bytes_eq w (codes "replay")) (bytes_eq w (codes "instrument")) (is_name w) (is_name a) (is_name b) (Replay a b) (Instrument a b)
+    (named (codes "replay") w refl) (named (codes "instrument") w refl) off
+none_with_option (w ∷ a ∷ b ∷ c ∷ []) off =
+    three_off (bytes_eq w (codes "check")) (is_name w) (is_name a) (is_name b) (is_name c) (Check a b c) (named (codes "check") w refl) off
+none_with_option (w ∷ a ∷ b ∷ c ∷ d ∷ rest) off = refl
