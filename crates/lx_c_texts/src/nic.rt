@@ -1,5 +1,5 @@
 //! A driver of a network card.
-//! Written by `tools/example-texts` from `examples/nic.ll`, `examples/nic.case`, `examples/nic.report`.
+//! Written by `tools/example-texts` from `examples/nic.ll`.
 
 /// The text that clang printed for `examples/nic.c`.
 pub fn nic_text() -> &'static str {
@@ -138,41 +138,5 @@ attributes #1 = { "frame-pointer"="all" "no-trapping-math"="true" "stack-protect
 !5 = !{!"Debian clang version 14.0.6"}
 !6 = distinct !{!6, !7}
 !7 = !{!"llvm.loop.mustprogress"}
-"#
-}
-
-/// Its case.
-pub fn nic_case() -> &'static str {
-    r#"lxfi case 1
-kernel builtin
-interface builtin
-module nic examples/nic.ll
-thread
-call nic:card_init fuel 100
-call kernel:do_probe 0 fuel 200
-call kernel:skb_new 4 fuel 100
-call kernel:do_xmit 0 0x2000030 fuel 400
-"#
-}
-
-/// What the case prints.
-pub fn nic_report() -> &'static str {
-    r#"schedule 0*136
-call 0.0 nic:card_init returned 0
-call 0.1 kernel:do_probe returned 0
-call 0.2 kernel:skb_new returned 0x2000030
-call 0.3 kernel:do_xmit returned 0
-note 0 4
-image nic guards 13 checks 0 wrappers 6
-owns nic.shared write 0x10000e0+16
-owns nic.shared call 0x10070
-owns nic.shared call 0x10090
-owns nic.shared call 0x100a0
-owns nic.shared call 0x100e0
-owns nic.shared call 0x10130
-owns nic.shared call 0x10140
-owns nic.shared call 0x10150
-owns nic[0x1000020] write 0x2000010+16
-owns nic[0x1000020] ref device 0x1000020
 "#
 }

@@ -1,5 +1,5 @@
 //! A driver of a network card whose table names a function that it may not call.
-//! Written by `tools/example-texts` from `examples/nic_bent.ll`, `examples/nic_bent.case`, `examples/nic_bent.report`.
+//! Written by `tools/example-texts` from `examples/nic_bent.ll`.
 
 /// The text that clang printed for `examples/nic.c` with `-DBENT`.
 pub fn nic_bent_text() -> &'static str {
@@ -144,37 +144,5 @@ attributes #1 = { "frame-pointer"="all" "no-trapping-math"="true" "stack-protect
 !5 = !{!"Debian clang version 14.0.6"}
 !6 = distinct !{!6, !7}
 !7 = !{!"llvm.loop.mustprogress"}
-"#
-}
-
-/// Its case.
-pub fn nic_bent_case() -> &'static str {
-    r#"lxfi case 1
-kernel builtin
-interface builtin
-module nic examples/nic_bent.ll
-thread
-call nic:card_init fuel 100
-call nic:card_bend fuel 100
-call kernel:do_probe 0 fuel 200
-"#
-}
-
-/// What the case prints.
-pub fn nic_bent_report() -> &'static str {
-    r#"schedule 0*21
-call 0.0 nic:card_init returned 0
-call 0.1 nic:card_bend returned
-call 0.2 kernel:do_probe refused 6 nic.shared call 0x10100 slot 0x10000e0
-image nic guards 14 checks 0 wrappers 6
-owns nic.shared write 0x10000e0+16
-owns nic.shared call 0x10070
-owns nic.shared call 0x10090
-owns nic.shared call 0x100a0
-owns nic.shared call 0x100e0
-owns nic.shared call 0x10130
-owns nic.shared call 0x10140
-owns nic.shared call 0x10150
-owns nic.shared call 0x10160
 "#
 }

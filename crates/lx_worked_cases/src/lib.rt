@@ -4,6 +4,8 @@
 #[cfg(test)]
 mod c_files;
 #[cfg(test)]
+mod examples;
+#[cfg(test)]
 mod fault_texts;
 #[cfg(test)]
 mod files;
@@ -29,8 +31,6 @@ mod loans;
 mod long;
 #[cfg(test)]
 mod many;
-#[cfg(test)]
-mod network_card;
 #[cfg(test)]
 mod over_kernels;
 #[cfg(test)]

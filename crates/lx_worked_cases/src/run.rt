@@ -35,6 +35,18 @@ fn put_c_files(alloc: Global, shelf: &mut MemShelf) -> Result<(), Fail> {
     put_texts(alloc, shelf, &files)
 }
 
+/// The same by the names that they have in `examples`.
+fn put_example_files(alloc: Global, shelf: &mut MemShelf) -> Result<(), Fail> {
+    let files = [
+        ("examples/c/ring.ll", ring_text()),
+        ("examples/c/checksum.ll", checksum_text()),
+        ("examples/c/driver.ll", driver_text()),
+        ("examples/driver_kernel.ll", kernel_text()),
+        ("examples/driver.txt", interface_text()),
+    ];
+    put_texts(alloc, shelf, &files)
+}
+
 /// The driver of a network card, as it is and with each of its bugs.
 fn put_network_card(alloc: Global, shelf: &mut MemShelf) -> Result<(), Fail> {
     let files = [
@@ -48,6 +60,7 @@ fn put_network_card(alloc: Global, shelf: &mut MemShelf) -> Result<(), Fail> {
 
 fn fill(alloc: Global, shelf: &mut MemShelf) -> Result<(), Fail> {
     put_c_files(alloc, shelf)?;
+    put_example_files(alloc, shelf)?;
     put_network_card(alloc, shelf)?;
     put_files(alloc, shelf, small_files())?;
     put_files(alloc, shelf, many_files())?;

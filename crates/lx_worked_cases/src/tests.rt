@@ -1,6 +1,7 @@
 //! The cases are run, and what they write and their status are compared.
 
 use crate::c_files::c_files;
+use crate::examples::{EXAMPLES, examples};
 use crate::files::ONE_CASE;
 use crate::generated::generated;
 use crate::image_calls::image_calls;
@@ -12,7 +13,6 @@ use crate::loan_users::{atoms, borrowed, borrowers, lent_slots, texts, threads};
 use crate::loans::{ends, nested, packets};
 use crate::long::{ALL_CALLS, LONG};
 use crate::many::many;
-use crate::network_card::first_wrong_card;
 use crate::over_kernels::{memory, own_kernels, principals, slots};
 use crate::plain::{faulty, plain};
 use crate::replayed::replayed;
@@ -84,9 +84,12 @@ fn as_many_calls_as_a_case_may_have(rt: HostRuntime) -> Result<(), Fail> {
 }
 
 #[test]
-fn a_network_card_writes_the_reports_beside_its_cases(rt: HostRuntime) -> Result<(), Fail> {
-    let wrong = first_wrong_card(&rt, rt.alloc())?;
-    assert_eq!(rt; wrong, None);
+fn examples_write_what_stands_beside_them(rt: HostRuntime) -> Result<(), Fail> {
+    let mut wrong = String::new(rt.alloc());
+    for number in 0..EXAMPLES {
+        run_cases(&rt, rt.alloc(), &mut wrong, examples(number))?;
+    }
+    assert_eq!(rt; wrong.as_str(), "");
     Ok(())
 }
 

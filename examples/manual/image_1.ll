@@ -1,0 +1,7 @@
+@g = global i32 0
+define i32 @main() {
+0:
+  store i32 7, ptr @g
+  %v = load i32, ptr @g
+  ret i32 %v
+}

@@ -1,0 +1,2 @@
+void one(void) {}
+void two(void) __attribute__((alias("one")));

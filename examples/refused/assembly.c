@@ -1,0 +1,1 @@
+void pause(void) { __asm__ volatile("pause"); }

@@ -1,0 +1,2 @@
+struct big { long a, b, c; };
+long first(struct big b) { return b.a; }

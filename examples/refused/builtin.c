@@ -1,0 +1,1 @@
+unsigned swap(unsigned n) { return __builtin_bswap32(n); }

@@ -1,0 +1,1 @@
+double half(double d) { return d / 2; }

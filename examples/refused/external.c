@@ -1,0 +1,2 @@
+extern int counter;
+int next(void) { return ++counter; }

@@ -1,0 +1,2 @@
+extern int get();
+int twice(int n) { return 2 * get(n); }

@@ -1,0 +1,1 @@
+__attribute__((section("mine"))) int place;

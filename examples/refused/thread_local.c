@@ -1,0 +1,2 @@
+__thread int mine;
+int get(void) { return mine; }

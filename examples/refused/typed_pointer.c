@@ -1,0 +1,1 @@
+int get(int *p) { return *p; }

@@ -1,0 +1,2 @@
+extern int printk(const char *format, ...);
+int hello(int n) { return printk("%d", n); }

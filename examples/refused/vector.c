@@ -1,0 +1,2 @@
+typedef int four __attribute__((vector_size(16)));
+four zero;

@@ -1,0 +1,2 @@
+volatile int ready;
+int is_ready(void) { return ready; }
