@@ -32,7 +32,7 @@ formed : (m : Module) (o : Op) → has_form m o ≡ true → is_sized m.types o 
 formed m (op.Binary to o ty a b) h = refl
 formed m (op.Compare to p ty a b) h = refl
 formed m (op.Convert to how from a into) h = refl
-formed m (op.Freeze to ty a) h = refl
+formed m (op.Unary to o ty a) h = refl
 formed m (op.Select to c ty a b) h = refl
 formed m (op.Phi to ty edges) h = refl
 formed m (op.Alloca to ty) h = h

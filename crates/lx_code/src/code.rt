@@ -9,8 +9,9 @@ ghost use Rattle.lx_code.specs.Targets.{target_of};
 use crate::tables::Tables;
 use crate::targets::Target;
 use crate::words::width_of;
+use lx_ir::NamedTypes;
 use lx_ir::module::{Block, Function, Module};
-use lx_ir_walks::blocks_of;
+use lx_ir_uses::blocks_of;
 use lx_model::program::{Program, ProgramFunction};
 use lx_words::{Items, Memory, Width};
 use std::alloc::Global;
@@ -124,7 +125,7 @@ fn no_text(alloc: Global) -> Module
     ensures { result ≡ empty_module }
 {
     Module {
-        types: Items::new(alloc),
+        types: NamedTypes::empty(alloc),
         globals: Items::new(alloc),
         functions: Items::new(alloc),
     }

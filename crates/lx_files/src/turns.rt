@@ -17,6 +17,7 @@ use crate::reading::{
 use crate::sources::ImageFile;
 use crate::stop::{InputStop, fault_at};
 use lx_annot::interface::Interface;
+use lx_ir::NamedTypes;
 use lx_ir::module::Module;
 use lx_kernel::{interface_text, kernel_text};
 use lx_outside::Shelf;
@@ -138,7 +139,7 @@ pub fn kernel_turn<S: Shelf>(
 {
     match origin {
         Origin::None => Ok(Module {
-            types: Items::new(alloc),
+            types: NamedTypes::empty(alloc),
             globals: Items::new(alloc),
             functions: Items::new(alloc),
         }),

@@ -9,7 +9,7 @@ use crate::checked::Checked;
 use lx_image_marks::{Imports, is_own_name, is_wrapper};
 use lx_ir::instr::{Callee, Instr, Op};
 use lx_ir::module::{Block, Function, Module, Symbol};
-use lx_ir_copies::{Copied, copied_call, copied_op, copies};
+use lx_ir_copies::{Copied, copied_call, copied_named_types, copied_op, copies};
 use lx_words::{Items, Memory};
 use std::alloc::Global;
 
@@ -276,7 +276,7 @@ fn erased_functions(alloc: Global, m: &Module) -> Result<Items<Function>, Memory
 fn program_of(alloc: Global, m: &Module) -> Result<Module, Memory>
     ensures { IfOk result (λ program. program ≡ program_of m.now) }
 {
-    let types = copies(alloc, m.types.as_slice())?;
+    let types = copied_named_types(alloc, &m.types)?;
     let globals = copies(alloc, m.globals.as_slice())?;
     let functions = erased_functions(alloc, m)?;
     Ok(Module {

@@ -5,8 +5,8 @@ ghost use Rattle.lx_image_texts.specs.ImageFaults.{same_head, same_names, same_p
 ghost use Rattle.lx_ir.specs.Lookup.{blocks_of, instrs_of};
 
 use lx_ir::module::{Block, Function, Parameter};
+use lx_ir_uses::blocks_of;
 use lx_ir_verify::{is_same_result, is_same_scalar};
-use lx_ir_walks::blocks_of;
 use lx_words::Name;
 
 fn is_same_parameter(a: &Parameter, b: &Parameter) -> bool

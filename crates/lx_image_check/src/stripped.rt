@@ -6,7 +6,7 @@ ghost use Rattle.lx_image_check.specs.Copies.{body_unless};
 use lx_image_marks::is_wrapper;
 use lx_ir::instr::Instr;
 use lx_ir::module::{Block, Function, Module};
-use lx_ir_copies::{Copied, copied_op, copies};
+use lx_ir_copies::{Copied, copied_named_types, copied_op, copies};
 use lx_words::{Items, Memory};
 use std::alloc::Global;
 
@@ -154,7 +154,7 @@ fn all_without(alloc: Global, functions: &[Function]) -> Result<Items<Function>,
 pub(crate) fn without_wrappers(alloc: Global, m: &Module) -> Result<Module, Memory>
     ensures { IfOk result (λ stripped. stripped ≡ without_wrappers m.now) }
 {
-    let types = copies(alloc, m.types.as_slice())?;
+    let types = copied_named_types(alloc, &m.types)?;
     let globals = copies(alloc, m.globals.as_slice())?;
     let functions = all_without(alloc, m.functions.as_slice())?;
     Ok(Module {

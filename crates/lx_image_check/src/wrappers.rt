@@ -15,7 +15,7 @@ use indexmap::IndexMap;
 use lx_image_marks::{FaultKind, Refusal, refuse};
 use lx_ir::instr::Instr;
 use lx_ir::module::{Block, Function, Module};
-use lx_ir_walks::blocks_of;
+use lx_ir_uses::blocks_of;
 use lx_words::Memory;
 use std::alloc::Global;
 

@@ -8,7 +8,7 @@ use crate::names::is_own_name;
 use crate::text::ImageText;
 use lx_ir::instr::{Argument, Op};
 use lx_ir::module::{Constant, Module, Pointer, Symbol, Value};
-use lx_ir_walks::operands_of;
+use lx_ir_uses::operands_of;
 use lx_words::Memory;
 use std::alloc::Global;
 

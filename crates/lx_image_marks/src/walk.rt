@@ -13,7 +13,7 @@ use crate::names::is_wrapper;
 use crate::text::ImageText;
 use lx_ir::instr::{Instr, Op};
 use lx_ir::module::{Block, Function};
-use lx_ir_walks::blocks_of;
+use lx_ir_uses::blocks_of;
 use lx_spared::{Rooms, rooms_of};
 use lx_words::Memory;
 use std::alloc::Global;

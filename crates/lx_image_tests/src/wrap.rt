@@ -4,8 +4,8 @@ use lx_annot::action::{Action, ActionNode, Actions, Annotation};
 use lx_annot::expr::Ty;
 use lx_annot::interface::{Export, Interface};
 use lx_ir::module::{Function, Module, Parameter};
-use lx_ir::print;
 use lx_ir::types::Scalar;
+use lx_ir::{NamedTypes, print};
 use lx_slot_types::Annotated;
 use lx_words::{Items, Memory, Name, Width};
 use lx_wrap::{Side, wrapper, wrappers};
@@ -64,7 +64,7 @@ fn module_of(alloc: Global, imports: &[(&'static [u8], Option<Scalar>)]) -> Resu
         functions.push(import(alloc, name, *ret)?)?;
     }
     Ok(Module {
-        types: Items::new(alloc),
+        types: NamedTypes::empty(alloc),
         globals: Items::new(alloc),
         functions,
     })

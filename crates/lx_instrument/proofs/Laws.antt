@@ -63,7 +63,7 @@ pub op_is : (m : Module) (o : Op) → op_by (called_numbers m) o ≡ image_op m 
 op_is m (op.Binary to o ty a b) = refl
 op_is m (op.Compare to p ty a b) = refl
 op_is m (op.Convert to how from a into) = refl
-op_is m (op.Freeze to ty a) = refl
+op_is m (op.Unary to o ty a) = refl
 op_is m (op.Select to c ty a b) = refl
 op_is m (op.Phi to ty edges) = refl
 op_is m (op.Alloca to ty) = refl
@@ -175,7 +175,7 @@ none_left : (o : Op) → spared_by [] o ≡ false
 none_left (op.Binary to o ty a b) = refl
 none_left (op.Compare to p ty a b) = refl
 none_left (op.Convert to how from a into) = refl
-none_left (op.Freeze to ty a) = refl
+none_left (op.Unary to o ty a) = refl
 none_left (op.Select to c ty a b) = refl
 none_left (op.Phi to ty edges) = refl
 none_left (op.Alloca to ty) = refl

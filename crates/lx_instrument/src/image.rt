@@ -17,7 +17,7 @@ use crate::room::has_room;
 use lx_annot::interface::Interface;
 use lx_image_programs::image_program_laws;
 use lx_ir::module::{Function, Module};
-use lx_ir_copies::copies;
+use lx_ir_copies::{copied_named_types, copies};
 use lx_ir_verify::Verified;
 use lx_slot_types::Annotated;
 use lx_spared::Rooms;
@@ -108,7 +108,7 @@ fn full_image(
     requires { annotated.now ≡ annotated_of i.now m.now }
     ensures { IfOk result (λ image. GuardsBut leaves_none i.now m.now image) }
 {
-    let types = copies(alloc, m.types.as_slice())?;
+    let types = copied_named_types(alloc, &m.types)?;
     let globals = copies(alloc, m.globals.as_slice())?;
     let functions = full_functions(alloc, i, m, annotated)?;
     Ok(Module {
@@ -199,7 +199,7 @@ fn spared_image(
     requires lawful { IsLawful m.now }
     ensures { IfOk result (λ image. GuardsBut (leaves_spared m.now) i.now m.now image) }
 {
-    let types = copies(alloc, m.types.as_slice())?;
+    let types = copied_named_types(alloc, &m.types)?;
     let globals = copies(alloc, m.globals.as_slice())?;
     let functions = spared_functions(alloc, i, m, annotated)?;
     Ok(Module {

@@ -6,6 +6,8 @@ use Rattle.lx_ir.proofs.types.IrType.TheLaws.TheKnot as IrTypeKnot
 use Rattle.lx_ir.proofs.module.Init.TheLaws.TheKnot as InitKnot
 use Rattle.lx_ir.specs.contracts.types.IrType as IrType
 use Rattle.lx_ir.specs.contracts.types.NamedType as NamedType
+use Rattle.lx_ir.specs.contracts.layout.Layout as Layout
+use Rattle.lx_ir.specs.contracts.named.NamedTypes as NamedTypes
 use Rattle.lx_ir.specs.contracts.instr.Edge as Edge
 use Rattle.lx_ir.specs.contracts.instr.SwitchCase as SwitchCase
 use Rattle.lx_ir.specs.contracts.instr.Argument as Argument
@@ -55,6 +57,18 @@ named_type_field_send = search (ir_type_field_send, crosses, sendable) depth 60 
 
 pub named_type_send : IsSend NamedType.the_row
 named_type_send = search (named_type_field_send, sendable) depth 60 fits 20000
+
+pub layout_sync : IsSync Layout.the_row
+layout_sync = search (crosses, sendable) depth 60 fits 20000
+
+pub layout_send : IsSend Layout.the_row
+layout_send = search (crosses, sendable) depth 60 fits 20000
+
+pub named_types_sync : IsSync NamedTypes.the_row
+named_types_sync = search (named_type_sync, layout_sync, crosses, sendable) depth 60 fits 20000
+
+pub named_types_send : IsSend NamedTypes.the_row
+named_types_send = search (named_type_send, layout_send, crosses, sendable) depth 60 fits 20000
 
 pub value_field_sync : IsSync (Value.the_field).row
 value_field_sync = search (crosses, sendable) depth 60 fits 20000
@@ -345,13 +359,13 @@ pub function_send : IsSend Function.the_row
 function_send = search (function_field_send, sendable) depth 60 fits 20000
 
 pub module_field_sync : IsSync (Module.the_field).row
-module_field_sync = search (named_type_sync, global_var_sync, function_sync, crosses, sendable) depth 60 fits 20000
+module_field_sync = search (named_types_sync, global_var_sync, function_sync, crosses, sendable) depth 60 fits 20000
 
 pub module_sync : IsSync Module.the_row
 module_sync = search (module_field_sync, sendable) depth 60 fits 20000
 
 pub module_field_send : IsSend (Module.the_field).row
-module_field_send = search (named_type_send, global_var_send, function_send, crosses, sendable) depth 60 fits 20000
+module_field_send = search (named_types_send, global_var_send, function_send, crosses, sendable) depth 60 fits 20000
 
 pub module_send : IsSend Module.the_row
 module_send = search (module_field_send, sendable) depth 60 fits 20000

@@ -9,43 +9,44 @@ use Rattle.lx_ir.specs.declared.instr.Argument.{Argument}
 use Rattle.lx_ir.specs.declared.instr.Callee.{Callee}
 use Rattle.lx_ir.specs.declared.instr.Conversion.{Conversion}
 use Rattle.lx_ir.specs.declared.instr.Edge.{Edge}
+use Rattle.lx_ir.specs.declared.instr.UnaryOp.{UnaryOp}
 use Rattle.lx_ir.specs.declared.instr.Op.{Op}
 use Rattle.lx_ir.specs.declared.instr.Op.TheVariants as op
 use Rattle.lx_ir.specs.declared.instr.SwitchCase.{SwitchCase}
 use Rattle.lx_ir.specs.IrType.{IrType}
 use Rattle.lx_ir.specs.Forms.{is_value, is_end}
 
-pub no_value : (x : Op) → ((to : ℕ) (o : BinOp) (ty : Scalar) (a : Value) (b : Value) → x ≡ op.Binary to o ty a b → ⊥) → ((to : ℕ) (p : Pred) (ty : Scalar) (a : Value) (b : Value) → x ≡ op.Compare to p ty a b → ⊥) → ((to : ℕ) (how : Conversion) (ty : Scalar) (a : Value) (into : Scalar) → x ≡ op.Convert to how ty a into → ⊥) → ((to : ℕ) (ty : Scalar) (a : Value) → x ≡ op.Freeze to ty a → ⊥) → ((to : ℕ) (v : Value) (ty : Scalar) (a : Value) (b : Value) → x ≡ op.Select to v ty a b → ⊥) → ((to : ℕ) (ty : Scalar) (edges : List Edge) → x ≡ op.Phi to ty edges → ⊥) → ((to : ℕ) (t : IrType) → x ≡ op.Alloca to t → ⊥) → is_value x ≡ false
-no_value (op.Binary to o ty a b) nbinary ncompare nconvert nfreeze nselect nphi nalloca = absurd (nbinary to o ty a b refl)
-no_value (op.Compare to p ty a b) nbinary ncompare nconvert nfreeze nselect nphi nalloca = absurd (ncompare to p ty a b refl)
-no_value (op.Convert to how ty a into) nbinary ncompare nconvert nfreeze nselect nphi nalloca = absurd (nconvert to how ty a into refl)
-no_value (op.Freeze to ty a) nbinary ncompare nconvert nfreeze nselect nphi nalloca = absurd (nfreeze to ty a refl)
-no_value (op.Select to v ty a b) nbinary ncompare nconvert nfreeze nselect nphi nalloca = absurd (nselect to v ty a b refl)
-no_value (op.Phi to ty edges) nbinary ncompare nconvert nfreeze nselect nphi nalloca = absurd (nphi to ty edges refl)
-no_value (op.Alloca to t) nbinary ncompare nconvert nfreeze nselect nphi nalloca = absurd (nalloca to t refl)
-no_value (op.Load to ty at) nbinary ncompare nconvert nfreeze nselect nphi nalloca = refl
-no_value (op.Store ty v at) nbinary ncompare nconvert nfreeze nselect nphi nalloca = refl
-no_value (op.GetElementPtr to t base indices) nbinary ncompare nconvert nfreeze nselect nphi nalloca = refl
-no_value (op.Call to ret callee args) nbinary ncompare nconvert nfreeze nselect nphi nalloca = refl
-no_value (op.CopyBlock moves dest source len) nbinary ncompare nconvert nfreeze nselect nphi nalloca = refl
-no_value (op.FillBlock dest byte len) nbinary ncompare nconvert nfreeze nselect nphi nalloca = refl
-no_value (op.Ret v) nbinary ncompare nconvert nfreeze nselect nphi nalloca = refl
-no_value (op.Jump label) nbinary ncompare nconvert nfreeze nselect nphi nalloca = refl
-no_value (op.Branch v first second) nbinary ncompare nconvert nfreeze nselect nphi nalloca = refl
-no_value (op.Switch ty v label cases) nbinary ncompare nconvert nfreeze nselect nphi nalloca = refl
-no_value op.Unreachable nbinary ncompare nconvert nfreeze nselect nphi nalloca = refl
-no_value (op.Guard at size narrow) nbinary ncompare nconvert nfreeze nselect nphi nalloca = refl
-no_value (op.Check v) nbinary ncompare nconvert nfreeze nselect nphi nalloca = refl
-no_value (op.Enter s) nbinary ncompare nconvert nfreeze nselect nphi nalloca = refl
-no_value (op.Pre s k) nbinary ncompare nconvert nfreeze nselect nphi nalloca = refl
-no_value (op.Post s k) nbinary ncompare nconvert nfreeze nselect nphi nalloca = refl
-no_value (op.Leave s) nbinary ncompare nconvert nfreeze nselect nphi nalloca = refl
+pub no_value : (x : Op) → ((to : ℕ) (o : BinOp) (ty : Scalar) (a : Value) (b : Value) → x ≡ op.Binary to o ty a b → ⊥) → ((to : ℕ) (p : Pred) (ty : Scalar) (a : Value) (b : Value) → x ≡ op.Compare to p ty a b → ⊥) → ((to : ℕ) (how : Conversion) (ty : Scalar) (a : Value) (into : Scalar) → x ≡ op.Convert to how ty a into → ⊥) → ((to : ℕ) (o : UnaryOp) (ty : Scalar) (a : Value) → x ≡ op.Unary to o ty a → ⊥) → ((to : ℕ) (v : Value) (ty : Scalar) (a : Value) (b : Value) → x ≡ op.Select to v ty a b → ⊥) → ((to : ℕ) (ty : Scalar) (edges : List Edge) → x ≡ op.Phi to ty edges → ⊥) → ((to : ℕ) (t : IrType) → x ≡ op.Alloca to t → ⊥) → is_value x ≡ false
+no_value (op.Binary to o ty a b) nbinary ncompare nconvert nunary nselect nphi nalloca = absurd (nbinary to o ty a b refl)
+no_value (op.Compare to p ty a b) nbinary ncompare nconvert nunary nselect nphi nalloca = absurd (ncompare to p ty a b refl)
+no_value (op.Convert to how ty a into) nbinary ncompare nconvert nunary nselect nphi nalloca = absurd (nconvert to how ty a into refl)
+no_value (op.Unary to o ty a) nbinary ncompare nconvert nunary nselect nphi nalloca = absurd (nunary to o ty a refl)
+no_value (op.Select to v ty a b) nbinary ncompare nconvert nunary nselect nphi nalloca = absurd (nselect to v ty a b refl)
+no_value (op.Phi to ty edges) nbinary ncompare nconvert nunary nselect nphi nalloca = absurd (nphi to ty edges refl)
+no_value (op.Alloca to t) nbinary ncompare nconvert nunary nselect nphi nalloca = absurd (nalloca to t refl)
+no_value (op.Load to ty at) nbinary ncompare nconvert nunary nselect nphi nalloca = refl
+no_value (op.Store ty v at) nbinary ncompare nconvert nunary nselect nphi nalloca = refl
+no_value (op.GetElementPtr to t base indices) nbinary ncompare nconvert nunary nselect nphi nalloca = refl
+no_value (op.Call to ret callee args) nbinary ncompare nconvert nunary nselect nphi nalloca = refl
+no_value (op.CopyBlock moves dest source len) nbinary ncompare nconvert nunary nselect nphi nalloca = refl
+no_value (op.FillBlock dest byte len) nbinary ncompare nconvert nunary nselect nphi nalloca = refl
+no_value (op.Ret v) nbinary ncompare nconvert nunary nselect nphi nalloca = refl
+no_value (op.Jump label) nbinary ncompare nconvert nunary nselect nphi nalloca = refl
+no_value (op.Branch v first second) nbinary ncompare nconvert nunary nselect nphi nalloca = refl
+no_value (op.Switch ty v label cases) nbinary ncompare nconvert nunary nselect nphi nalloca = refl
+no_value op.Unreachable nbinary ncompare nconvert nunary nselect nphi nalloca = refl
+no_value (op.Guard at size narrow) nbinary ncompare nconvert nunary nselect nphi nalloca = refl
+no_value (op.Check v) nbinary ncompare nconvert nunary nselect nphi nalloca = refl
+no_value (op.Enter s) nbinary ncompare nconvert nunary nselect nphi nalloca = refl
+no_value (op.Pre s k) nbinary ncompare nconvert nunary nselect nphi nalloca = refl
+no_value (op.Post s k) nbinary ncompare nconvert nunary nselect nphi nalloca = refl
+no_value (op.Leave s) nbinary ncompare nconvert nunary nselect nphi nalloca = refl
 
 pub an_end : (x : Op) → is_value x ≡ false → ((to : ℕ) (ty : Scalar) (at : Value) → x ≡ op.Load to ty at → ⊥) → ((ty : Scalar) (v : Value) (at : Value) → x ≡ op.Store ty v at → ⊥) → ((to : ℕ) (t : IrType) (base : Value) (indices : List Argument) → x ≡ op.GetElementPtr to t base indices → ⊥) → ((to : Option ℕ) (ret : Option Scalar) (callee : Callee) (args : List Argument) → x ≡ op.Call to ret callee args → ⊥) → ((moves : Bool) (dest : Value) (source : Value) (len : Argument) → x ≡ op.CopyBlock moves dest source len → ⊥) → ((dest : Value) (byte : Value) (len : Argument) → x ≡ op.FillBlock dest byte len → ⊥) → is_end x ≡ true
 an_end (op.Binary to o ty a b) h nload nstore ngetelementptr ncall ncopyblock nfillblock = cc
 an_end (op.Compare to p ty a b) h nload nstore ngetelementptr ncall ncopyblock nfillblock = cc
 an_end (op.Convert to how ty a into) h nload nstore ngetelementptr ncall ncopyblock nfillblock = cc
-an_end (op.Freeze to ty a) h nload nstore ngetelementptr ncall ncopyblock nfillblock = cc
+an_end (op.Unary to o ty a) h nload nstore ngetelementptr ncall ncopyblock nfillblock = cc
 an_end (op.Select to v ty a b) h nload nstore ngetelementptr ncall ncopyblock nfillblock = cc
 an_end (op.Phi to ty edges) h nload nstore ngetelementptr ncall ncopyblock nfillblock = cc
 an_end (op.Alloca to t) h nload nstore ngetelementptr ncall ncopyblock nfillblock = cc
@@ -71,7 +72,7 @@ pub no_other : (x : Op) → is_end x ≡ true → ((v : Option Argument) → x �
 no_other (op.Binary to o ty a b) h nret njump nbranch nswitch nunreachable nguard ncheck nenter npre npost nleave = cc
 no_other (op.Compare to p ty a b) h nret njump nbranch nswitch nunreachable nguard ncheck nenter npre npost nleave = cc
 no_other (op.Convert to how ty a into) h nret njump nbranch nswitch nunreachable nguard ncheck nenter npre npost nleave = cc
-no_other (op.Freeze to ty a) h nret njump nbranch nswitch nunreachable nguard ncheck nenter npre npost nleave = cc
+no_other (op.Unary to o ty a) h nret njump nbranch nswitch nunreachable nguard ncheck nenter npre npost nleave = cc
 no_other (op.Select to v ty a b) h nret njump nbranch nswitch nunreachable nguard ncheck nenter npre npost nleave = cc
 no_other (op.Phi to ty edges) h nret njump nbranch nswitch nunreachable nguard ncheck nenter npre npost nleave = cc
 no_other (op.Alloca to t) h nret njump nbranch nswitch nunreachable nguard ncheck nenter npre npost nleave = cc

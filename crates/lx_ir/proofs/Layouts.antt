@@ -1,21 +1,16 @@
 -- Lemmas on layouts.
-use Rattle.std.proofs.Common.{◌≡◌, ℕ, ◌+◌, ◌*◌, ◌<◌, ◌≤◌, Bool, true, false, List, [], ◌∷◌, ◌++◌, ◌&&◌, length, get_or, take, drop, nat_le, refl, ap, sym, ◌∙◌, subst, zero, suc, max, Option, Some, None, Box, Global, ◌-◌, option_map, pos, arith, slice_get}
-use Rattle.std.proofs.lemmas.Grind.{common_steps}
-use Rattle.std.proofs.lemmas.List.{take_more, take-append-drop, get_or-drop}
+use Rattle.std.proofs.Common.{◌≡◌, ℕ, ◌+◌, ◌*◌, ◌<◌, ◌≤◌, Bool, true, false, List, [], ◌∷◌, ◌++◌, ◌&&◌, length, get_or, take, drop, nat_le, refl, ap, sym, ◌∙◌, subst, zero, suc, Option, Some, None, ◌-◌, arith, slice_get}
+use Rattle.std.proofs.lemmas.List.{take_more, take-append-drop}
 use borrow.Author.Tests.{leb-true}
-use Rattle.std.proofs.lemmas.Bool.Decides.{nat_tests}
 use Rattle.std.specs.List.{list_all}
 use Rattle.std.specs.Int.{next_multiple_of}
-use Rattle.lx_words.specs.declared.word.Width.{Width}
 use Rattle.lx_words.specs.declared.word.Width.TheVariants.{W1, W8, W16, W32, W64}
 use Rattle.lx_ir.specs.declared.types.Scalar.{Scalar}
 use Rattle.lx_ir.specs.declared.types.Scalar.TheVariants.{Int, Ptr}
 use Rattle.lx_ir.specs.declared.types.NamedType.{NamedType}
 use Rattle.lx_ir.specs.IrType.{IrType, One, Array, Struct, Packed, Named, IrTypes, none, also}
-use Rattle.lx_ir.specs.Layout.{Layout, layout, beside, padded, layout_in, fields_in, named_layouts, layout_of, layout_of_entry, laid_fields, Part, field_after, field_start, align_of, size_of, entry_or, scalar_size, unnamed, list_of_types, fields_of, parts_of, is_struct, names_struct, is_scalar, is_type_within}
-use Rattle.lx_ir.specs.TypeNodes.{types_of_list, type_of_node}
-use Rattle.lx_ir.specs.declared.types.TypeNode.{TypeNode}
-use Rattle.lx_ir.specs.declared.types.TypeNode.TheVariants as node
+use Rattle.lx_ir.specs.Layout.{Layout, layout, beside, padded, layout_in, fields_in, named_layouts, layout_of, layout_of_entry, laid_fields, field_start, size_of, entry_or, scalar_size, unnamed, list_of_types, fields_of, parts_of, is_struct, names_struct, is_scalar, is_type_within}
+use Rattle.lx_ir.specs.TypeNodes.{types_of_list}
 
 -- the tests of a type that nests
 pub and_true : (a b : Bool) → (a && b) ≡ true → (a ≡ true) × (b ≡ true)
@@ -61,9 +56,6 @@ named_align types (suc n) k = entry_align (named_layouts types n) (λ j. named_a
 
 pub type_align : (types : List NamedType) (t : IrType) → 0 < (layout_of types t).align
 type_align types t = layout_align (named_layouts types 64) (λ k. named_align types 64 k) t
-
-pub laid_align : (types : List NamedType) (packed : Bool) (ts : IrTypes) → 0 < (laid_fields types packed ts).align
-laid_align types packed ts = fields_align (named_layouts types 64) (λ k. named_align types 64 k) packed ts (layout 0 1) (omega arith)
 
 -- fields take room
 
@@ -165,23 +157,9 @@ name_layout types n (Named q) h a = sym (named_struct types n q a (slice_get typ
 
 -- what the limits say of a type by its node
 
-not_scalar : (n : TypeNode) → ((s : Scalar) → n ≡ node.Scalar s → ⊥) → is_scalar (type_of_node n) ≡ false
-not_scalar (node.Scalar s) f = absurd (f s refl)
-not_scalar (node.Array c t) f = refl
-not_scalar (node.Struct ts) f = refl
-not_scalar (node.Packed ts) f = refl
-not_scalar (node.Named k) f = refl
-
 abbrev is_array : IrType → Bool
 is_array (Array n t) = true
 is_array _ = false
-
-not_array : (n : TypeNode) → ((c : ℕ) (t : Box IrType Global) → n ≡ node.Array c t → ⊥) → is_array (type_of_node n) ≡ false
-not_array (node.Scalar s) f = refl
-not_array (node.Array c t) f = absurd (f c t refl)
-not_array (node.Struct ts) f = refl
-not_array (node.Packed ts) f = refl
-not_array (node.Named k) f = refl
 
 -- a struct, with its name or without it, that lies within the limits
 pub record StructFacts (types : List NamedType) (depth : ℕ) (t u : IrType) : Type 0 where
@@ -212,12 +190,6 @@ struct_facts types (suc d) (Named q) s a h l =
       size = subst (λ (x : Layout). x.size ≤ 4294967296) (sym e) w.size;
       same = e;
     }
-
-pub node_facts : (types : List NamedType) (depth : ℕ) (n : TypeNode) (t u : IrType) → type_of_node n ≡ t → ((s : Scalar) → n ≡ node.Scalar s → ⊥) → ((c : ℕ) (e : Box IrType Global) → n ≡ node.Array c e → ⊥) → u ≡ unnamed types t → is_type_within types depth t ≡ true → depth ≤ 64 → StructFacts types depth t u
-node_facts types depth n t u e f g v h l =
-    let s : is_scalar t ≡ false = subst (λ x. is_scalar x ≡ false) e (not_scalar n f) in
-    let a : is_array t ≡ false = subst (λ x. is_array x ≡ false) e (not_array n g) in
-    subst (λ x. StructFacts types depth t x) (sym v) (struct_facts types depth t s a h l)
 
 pub record ArrayFacts (types : List NamedType) (depth n : ℕ) (e : IrType) : Type 0 where
   pub nests : 0 < depth
@@ -279,31 +251,10 @@ lawful_fields types packed xs ys t u e f g h =
 
 -- where fields begin
 
-pub after_none : (types : List NamedType) (packed : Bool) (laid : Layout) (ts : List IrType) (k : ℕ) → length ts ≤ k → field_after types packed laid (types_of_list ts) k ≡ None
-after_none types true laid [] k h = refl
-after_none types false laid [] k h = refl
-after_none types true laid (t ∷ ts) zero h = absurd (omega arith)
-after_none types false laid (t ∷ ts) zero h = absurd (omega arith)
-after_none types true laid (t ∷ ts) (suc k) h = after_none types true (beside true laid (layout_of types t)) ts k (omega arith)
-after_none types false laid (t ∷ ts) (suc k) h = after_none types false (beside false laid (layout_of types t)) ts k (omega arith)
-
-pub after_some : (types : List NamedType) (packed : Bool) (laid : Layout) (ts : List IrType) (k : ℕ) (x : IrType) → k < length ts → x ≡ get_or ts k x → option_map (λ (p : Part). p.offset) (field_after types packed laid (types_of_list ts) k) ≡ Some (pos (field_start packed (fields_in (named_layouts types 64) packed (types_of_list (take k ts)) laid) (layout_of types x)))
-after_some types packed laid [] k x h e = absurd (omega arith)
-after_some types true laid (t ∷ ts) zero x h e = refl
-after_some types false laid (t ∷ ts) zero x h e = ap (λ y. Some (pos (next_multiple_of laid.size (align_of types y)))) (sym e)
-after_some types true laid (t ∷ ts) (suc k) x h e = after_some types true (beside true laid (layout_of types t)) ts k x (omega arith) e
-after_some types false laid (t ∷ ts) (suc k) x h e = after_some types false (beside false laid (layout_of types t)) ts k x (omega arith) e
-
 pub list_all_item : {X : Type 0} (p : X → Bool) (xs : List X) (k : ℕ) (x : X) → k < length xs → x ≡ get_or xs k x → list_all p xs ≡ true → p x ≡ true
 list_all_item p [] k x h e a = absurd (omega arith)
 list_all_item p (y ∷ ys) zero x h e a = ap p e ∙ (and_true (p y) (list_all p ys) a).0
 list_all_item p (y ∷ ys) (suc k) x h e a = list_all_item p ys k x (omega arith) e (and_true (p y) (list_all p ys) a).1
-
--- the item behind those that are split off
-pub item_behind : {X : Type 0} (xs ys : List X) (k : ℕ) (x : X) → ys ≡ drop k xs → x ≡ get_or ys 0 x → x ≡ get_or xs k x
-item_behind xs ys k x e f =
-    let z : k + 0 ≡ k = omega arith in
-    f ∙ (ap (λ zs. get_or zs 0 x) e ∙ (get_or-drop k xs 0 x ∙ ap (λ j. get_or xs j x) z))
 
 start_le : (packed : Bool) (a b : Layout) → field_start packed a b ≤ (beside packed a b).size
 start_le true a b = omega arith

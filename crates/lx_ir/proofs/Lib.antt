@@ -1,4 +1,5 @@
 mod Behind
+pub mod Fits
 mod Forms
 pub mod InitLists
 pub mod Joined

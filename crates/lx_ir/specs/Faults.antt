@@ -41,7 +41,7 @@ use Rattle.lx_ir.specs.Layout.{unnamed, list_of_types}
 use Rattle.lx_ir.specs.Lawful.{same_scalar, is_function}
 use Rattle.lx_ir.specs.Lookup.{blocks_of, instrs_of}
 use Rattle.lx_ir.specs.Operands.{operands_of, targets_of, labels_of, given_by, is_terminator, is_phi, register_types}
-use Rattle.lx_ir.specs.Text.{register_name, operator_word, conversion_word}
+use Rattle.lx_ir.specs.Text.{register_name, operator_word, conversion_word, unary_word}
 
 -- a fault: its line, and a name or a word
 pub data Fault : Type 0 where
@@ -249,7 +249,7 @@ abbrev pub op_word : Op → List ℕ
 op_word (op.Binary to o ty a b) = operator_word o
 op_word (op.Compare to p ty a b) = codes "icmp"
 op_word (op.Convert to how from a into) = conversion_word how
-op_word (op.Freeze to ty a) = codes "freeze"
+op_word (op.Unary to o ty a) = unary_word o
 op_word (op.Select to c ty a b) = codes "select"
 op_word (op.Phi to ty edges) = codes "phi"
 op_word (op.Alloca to ty) = codes "alloca"

@@ -8,7 +8,7 @@ abbrev pub is_value : Op → Bool
 is_value (op.Binary to o ty a b) = true
 is_value (op.Compare to p ty a b) = true
 is_value (op.Convert to how from a into) = true
-is_value (op.Freeze to ty a) = true
+is_value (op.Unary to o ty a) = true
 is_value (op.Select to c ty a b) = true
 is_value (op.Phi to ty edges) = true
 is_value (op.Alloca to ty) = true

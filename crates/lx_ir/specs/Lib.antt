@@ -1,4 +1,5 @@
 pub mod Faults
+pub mod Fitting
 pub mod Forms
 pub mod Init
 pub mod InitCodes

@@ -38,7 +38,7 @@ abbrev pub operands_of : Op → List Argument
 operands_of (op.Binary to o ty a b) = argument ty a ∷ argument ty b ∷ []
 operands_of (op.Compare to p ty a b) = argument ty a ∷ argument ty b ∷ []
 operands_of (op.Convert to how from a into) = argument from a ∷ []
-operands_of (op.Freeze to ty a) = argument ty a ∷ []
+operands_of (op.Unary to o ty a) = argument ty a ∷ []
 operands_of (op.Select to c ty a b) = argument (Int W1) c ∷ argument ty a ∷ argument ty b ∷ []
 operands_of (op.Phi to ty edges) = map (λ e. argument ty e.value) edges
 operands_of (op.Alloca to ty) = []
@@ -77,7 +77,7 @@ abbrev pub given_by : Op → Option ℕ
 given_by (op.Binary to o ty a b) = Some to
 given_by (op.Compare to p ty a b) = Some to
 given_by (op.Convert to how from a into) = Some to
-given_by (op.Freeze to ty a) = Some to
+given_by (op.Unary to o ty a) = Some to
 given_by (op.Select to c ty a b) = Some to
 given_by (op.Phi to ty edges) = Some to
 given_by (op.Alloca to ty) = Some to
@@ -96,7 +96,7 @@ abbrev pub result_of : Op → Option Scalar
 result_of (op.Binary to o ty a b) = Some ty
 result_of (op.Compare to p ty a b) = Some (Int W1)
 result_of (op.Convert to how from a into) = Some into
-result_of (op.Freeze to ty a) = Some ty
+result_of (op.Unary to o ty a) = Some ty
 result_of (op.Select to c ty a b) = Some ty
 result_of (op.Phi to ty edges) = Some ty
 result_of (op.Alloca to ty) = Some Ptr

@@ -22,6 +22,7 @@ use Rattle.lx_ir.specs.declared.instr.Argument.{Argument}
 use Rattle.lx_ir.specs.declared.instr.Callee.TheVariants as callee
 use Rattle.lx_ir.specs.declared.instr.Conversion.TheVariants.{ZExt}
 use Rattle.lx_ir.specs.declared.instr.Instr.{Instr}
+use Rattle.lx_ir.specs.declared.instr.UnaryOp.TheVariants as unary
 use Rattle.lx_ir.specs.declared.instr.Op.{Op}
 use Rattle.lx_ir.specs.declared.instr.Op.TheVariants as op
 use Rattle.lx_ir.specs.IrType.{One, Array, Struct, Packed, Named, none, also}
@@ -162,7 +163,7 @@ forms =
                 (line (op.Binary 4 Add i32 (reg 1) (number32 4294967295))
                 ∷ line (op.Compare 5 Slt i32 (reg 4) (number32 7))
                 ∷ line (op.Convert 6 ZExt i32 (reg 4) i64)
-                ∷ line (op.Freeze 7 i64 (reg 6))
+                ∷ line (op.Unary 7 unary.Freeze i64 (reg 6))
                 ∷ line (op.Select 8 (reg 5) i64 (reg 7) (value.Constant (constant.Blank Undef W64)))
                 ∷ line (op.Alloca 9 (Packed (also (One i8) (also (Struct (also (One Ptr) (also (Array 3 (One i32)) none))) none))))
                 ∷ line (op.Load 10 i8 (reg 9))

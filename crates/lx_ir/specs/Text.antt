@@ -37,6 +37,8 @@ use Rattle.lx_ir.specs.declared.instr.Argument.{Argument}
 use Rattle.lx_ir.specs.declared.instr.Callee.{Callee}
 use Rattle.lx_ir.specs.declared.instr.Callee.TheVariants as callee
 use Rattle.lx_ir.specs.declared.instr.Instr.{Instr}
+use Rattle.lx_ir.specs.declared.instr.UnaryOp.{UnaryOp}
+use Rattle.lx_ir.specs.declared.instr.UnaryOp.TheVariants as unary
 use Rattle.lx_ir.specs.declared.instr.Op.{Op}
 use Rattle.lx_ir.specs.declared.instr.Op.TheVariants as op
 use Rattle.lx_ir.specs.Operands.{guard_width}
@@ -243,6 +245,9 @@ predicate_word pred.Sge = codes "sge"
 predicate_word pred.Slt = codes "slt"
 predicate_word pred.Sle = codes "sle"
 
+abbrev pub unary_word : UnaryOp → Text
+unary_word unary.Freeze = codes "freeze"
+
 abbrev pub conversion_word : Conversion → Text
 conversion_word conversion.Trunc = codes "trunc"
 conversion_word conversion.ZExt = codes "zext"
@@ -331,7 +336,7 @@ abbrev pub op_text : Module → Function → Op → Text
 op_text m f (op.Binary to o ty a b) = given_text f to ++ operator_word o ++ codes " " ++ pair_text m f ty a b
 op_text m f (op.Compare to p ty a b) = given_text f to ++ codes "icmp " ++ predicate_word p ++ codes " " ++ pair_text m f ty a b
 op_text m f (op.Convert to how from a into) = given_text f to ++ conversion_word how ++ codes " " ++ operand_text m f from a ++ into_text into
-op_text m f (op.Freeze to ty a) = given_text f to ++ codes "freeze " ++ operand_text m f ty a
+op_text m f (op.Unary to o ty a) = given_text f to ++ unary_word o ++ codes " " ++ operand_text m f ty a
 op_text m f (op.Select to c ty a b) = given_text f to ++ codes "select i1 " ++ value_text m f c ++ choices_text m f ty a b
 op_text m f (op.Phi to ty edges) =
     given_text f to ++ codes "phi " ++ scalar_text ty ++ codes " " ++ comma_list (map (edge_text m f) edges)

@@ -1,7 +1,17 @@
 //! Instructions.
+ghost use Rattle.std.specs.Prelude.{◌≡◌};
+ghost use Rattle.lx_ir.specs.Text.{conversion_word, unary_word};
+
 use crate::module::{Symbol, Value};
 use crate::types::{IrType, Scalar};
 use lx_words::{BinOp, Items, Name, Pred};
+
+/// An operator on one word.
+#[derive(Clone, Copy)]
+pub enum UnaryOp {
+    /// The word itself.
+    Freeze,
+}
 
 /// What a conversion does to a word.
 #[derive(Clone, Copy)]
@@ -11,6 +21,32 @@ pub enum Conversion {
     SExt,
     PtrToInt,
     IntToPtr,
+}
+
+impl UnaryOp {
+    /// The word of the instruction.
+    pub fn word(self) -> &'static [u8]
+        ensures { result.now ≡ unary_word self }
+    {
+        match self {
+            UnaryOp::Freeze => b"freeze",
+        }
+    }
+}
+
+impl Conversion {
+    /// The word of the instruction.
+    pub fn word(self) -> &'static [u8]
+        ensures { result.now ≡ conversion_word self }
+    {
+        match self {
+            Conversion::Trunc => b"trunc",
+            Conversion::ZExt => b"zext",
+            Conversion::SExt => b"sext",
+            Conversion::PtrToInt => b"ptrtoint",
+            Conversion::IntToPtr => b"inttoptr",
+        }
+    }
 }
 
 /// A value of a `phi`, and the block that it comes from.
@@ -72,8 +108,9 @@ pub enum Op {
         a: Value,
         into: Scalar,
     },
-    Freeze {
+    Unary {
         to: u32,
+        op: UnaryOp,
         ty: Scalar,
         a: Value,
     },

@@ -1,46 +1,78 @@
-//! How types lie in memory.
-ghost use Rattle.std.specs.Prelude.{◌≡◌, ◌+◌, ◌-◌, ◌<◌, ◌≤◌, IsTrue, option_map, pos};
-ghost use Rattle.std.specs.List.{list_all};
-ghost use Rattle.lx_ir.specs.Layout.{layout, layout_of, laid_fields, size_of, align_of, offset_of, beside, padded, field_start, field_after, fields_of, scalar_size, is_struct, is_type_within, is_lawful_type, unnamed};
-ghost use Rattle.lx_ir.specs.TypeNodes.{types_of_list};
+//! How types lie in memory, by the layouts of the named types. Types may be outside the limits.
 
-use crate::module::Module;
-use crate::types::{IrType, Scalar, TypeNode};
-use lx_words::Width;
+ghost use Rattle.std.specs.Prelude.{◌≡◌, ◌*◌, ◌<◌, ◌≤◌, None, IfOk, map, slice_get};
+ghost use Rattle.lx_ir.specs.Layout.{layout, field_start, beside, padded, scalar_size};
+ghost use Rattle.lx_ir.specs.TypeNodes.{types_of_list};
+ghost use Rattle.lx_ir.specs.Fitting.{limited, named_layout, laid_beside, fit_type, fit_fields, layouts_through, fitting_layouts, starts_in, ◌>>?◌};
+
+use crate::types::{IrType, NamedType, Scalar, TypeNode};
+use lx_words::{Items, Memory, Width};
+use std::alloc::Global;
 use std::marker::Model;
 
-/// How deep types nest at most.
-const DEPTH: u32 = 64;
+/// The most bytes that a type may take.
+const MOST_BYTES: u64 = 1 << 32;
 
-/// How many bytes a type takes, and what its addresses are divisible by.
-#[derive(Clone, Copy)]
-struct Layout {
+/// How many names a type within the limits goes through at most, one in another.
+pub const MOST_NAMES: u32 = 64;
+
+/// How many bytes a type takes, at most 2^32, and what its addresses are divisible by.
+#[derive(Clone, Copy, Debug, PartialEq, Eq)]
+pub struct Layout {
     size: u64,
     align: u64,
 }
 
 impl Model for Layout {
+    ghost use Rattle.std.specs.Prelude.{◌<◌, ◌≤◌};
     ghost use Rattle.lx_ir.specs.Layout.{Layout as Meaning};
 
     ghost Value = { Meaning };
 
     ghost view = { λ l. record { size = l.size; align = l.align } };
 
+    ghost invariant = { λ l. (l.size ≤ 4294967296) × (0 < l.align) × (l.align ≤ 8) };
+
     ghost inverse = { λ l. record { size = l.size; align = l.align } };
 }
 
 impl Layout {
+    /// A layout of so many bytes, where they are not too many.
+    fn limited(size: u64, align: u64) -> Option<Self>
+        requires some { 0 < align }
+        requires few { align ≤ 8 }
+        ensures { result ≡ limited (layout size align) }
+    {
+        if size <= MOST_BYTES {
+            Some(Layout { size, align })
+        } else {
+            None
+        }
+    }
+
     /// A struct without fields.
-    fn empty() -> Self
+    pub fn empty() -> Self
         ensures { result ≡ layout 0 1 }
     {
         Layout { size: 0, align: 1 }
     }
 
+    /// How many bytes the type takes.
+    pub fn size(self) -> u64
+        ensures { result ≡ self.size }
+    {
+        self.size
+    }
+
+    /// What the type's addresses are divisible by.
+    pub fn align(self) -> u64
+        ensures { result ≡ self.align }
+    {
+        self.align
+    }
+
     /// Where a further field begins; a packed struct leaves no room before it.
-    fn field_start(self, packed: bool, field: Layout) -> u64
-        requires align { 0 < field.align }
-        requires fits { field_start packed self field ≤ 4294967296 }
+    pub fn field_start(self, packed: bool, field: Layout) -> u64
         ensures { result ≡ field_start packed self field }
     {
         if packed {
@@ -51,163 +83,154 @@ impl Layout {
     }
 
     /// The struct with a further field.
-    fn beside(self, packed: bool, field: Layout) -> Self
-        requires align { 0 < field.align }
-        requires fits { (beside packed self field).size ≤ 4294967296 }
-        ensures { result ≡ beside packed self field }
+    pub fn beside(self, packed: bool, field: Layout) -> Option<Self>
+        ensures { result ≡ laid_beside packed self field }
     {
-        Layout {
-            size: self.field_start(packed, field) + field.size,
-            align: if packed {
-                1
-            } else {
-                self.align.max(field.align)
-            },
-        }
+        let size = self.field_start(packed, field) + field.size;
+        let align = if packed {
+            1
+        } else {
+            self.align.max(field.align)
+        };
+        Layout::limited(size, align)
     }
 
     /// The struct, padded to its greatest alignment.
-    fn padded(self) -> Self
-        requires align { 0 < self.align }
-        requires fits { (padded self).size ≤ 4294967296 }
-        ensures { result ≡ padded self }
+    fn padded(self) -> Option<Self>
+        ensures { result ≡ limited (padded self) }
     {
-        Layout {
-            size: self.size.next_multiple_of(self.align),
-            align: self.align,
-        }
+        Layout::limited(self.size.next_multiple_of(self.align), self.align)
+    }
+
+    /// So many values, one behind another.
+    fn times(self, count: u64) -> Option<Self>
+        ensures { result ≡ limited (layout (count * self.size) self.align) }
+    {
+        Layout::limited(count.checked_mul(self.size)?, self.align)
     }
 }
 
-/// The bytes of a type within the limits.
-pub fn size_of(m: &Module, t: &IrType) -> u64
-    requires { IsTrue (is_lawful_type m.now.types t.now) }
-    ensures { result ≡ size_of m.now.types t.now }
+fn scalar_layout(ty: Scalar) -> Layout
+    ensures { result ≡ layout (scalar_size ty) (scalar_size ty) }
 {
-    layout_within(m, t, DEPTH).size
-}
-
-/// What the addresses of a type within the limits are divisible by.
-pub fn align_of(m: &Module, t: &IrType) -> u64
-    requires { IsTrue (is_lawful_type m.now.types t.now) }
-    ensures { result ≡ align_of m.now.types t.now }
-{
-    layout_within(m, t, DEPTH).align
-}
-
-/// Where a field of a type within the limits begins; none exactly where there is no such field. Fields are counted as a
-/// list counts them.
-pub fn offset_at(m: &Module, t: &IrType, field: usize) -> Option<u64>
-    requires { IsTrue (is_lawful_type m.now.types t.now) }
-    ensures { option_map pos result ≡ offset_of m.now.types t.now field }
-{
-    match &unnamed(m, t).node {
-        TypeNode::Struct(fields) => field_offset(m, fields, false, field),
-        TypeNode::Packed(fields) => field_offset(m, fields, true, field),
-        _ => None,
-    }
-}
-
-/// Where a field of a type within the limits begins; none exactly where there is no such field.
-pub fn offset_of(m: &Module, t: &IrType, field: u32) -> Option<u64>
-    requires { IsTrue (is_lawful_type m.now.types t.now) }
-    ensures { option_map pos result ≡ offset_of m.now.types t.now field }
-{
-    offset_at(m, t, field as usize)
-}
-
-/// The type that a name names.
-pub fn unnamed<'a>(m: &'a Module, t: &'a IrType) -> &'a IrType
-    ensures { result.now ≡ unnamed m.entry.now.types t.entry.now }
-{
-    match &t.node {
-        TypeNode::Named(k) => match m.types.items.get(*k as usize) {
-            Some(entry) => &entry.ty,
-            None => t,
-        },
-        _ => t,
-    }
-}
-
-fn scalar_size(ty: Scalar) -> u64
-    ensures value { result ≡ scalar_size ty }
-    ensures small { result ≤ 8 }
-{
-    match ty {
+    let size = match ty {
         Scalar::Int(Width::W1 | Width::W8) => 1,
         Scalar::Int(Width::W16) => 2,
         Scalar::Int(Width::W32) => 4,
         Scalar::Int(Width::W64) | Scalar::Ptr => 8,
-    }
+    };
+    Layout { size, align: size }
 }
 
-/// The layout of a type that nests at most so deep.
+fn named_layout(layouts: &[Option<Layout>], k: u32) -> Option<Layout>
+    ensures { result ≡ named_layout layouts.now k }
+{
+    layouts.get(k as usize).copied().flatten()
+}
+
+/// The layout of a type, by those of the named types; none where it, or a type in it, is outside the limits.
 #[cycle(layout)]
-fn layout_within(m: &Module, t: &IrType, depth: u32) -> Layout
-    requires within { IsTrue (is_type_within m.now.types depth t.now) }
-    requires depth { depth ≤ 64 }
-    ensures { result ≡ layout_of m.now.types t.now }
+pub fn fit_type(layouts: &[Option<Layout>], t: &IrType) -> Option<Layout>
+    ensures { result ≡ fit_type layouts.now t.now }
 {
     match &t.node {
-        TypeNode::Scalar(scalar) => {
-            let size = scalar_size(*scalar);
-            Layout { size, align: size }
-        }
-        TypeNode::Array(count, element) => {
-            let element = layout_within(m, element, depth - 1);
-            Layout {
-                size: *count * element.size,
-                align: element.align,
-            }
-        }
-        _ => struct_layout(m, unnamed(m, t), depth),
+        TypeNode::Scalar(scalar) => Some(scalar_layout(*scalar)),
+        TypeNode::Array(count, element) => fit_type(layouts, element)?.times(*count),
+        TypeNode::Struct(fields) => fit_fields(layouts, false, fields)?.padded(),
+        TypeNode::Packed(fields) => fit_fields(layouts, true, fields),
+        TypeNode::Named(k) => named_layout(layouts, *k),
     }
 }
 
-/// The layout of a struct whose fields nest less deep.
+/// Fields, one behind another.
 #[cycle(layout)]
-fn struct_layout(m: &Module, t: &IrType, depth: u32) -> Layout
-    requires is_struct { IsTrue (is_struct t.now) }
-    requires parts { IsTrue (list_all (is_type_within m.now.types (depth - 1)) (fields_of t.now)) }
-    requires nests { 0 < depth }
-    requires depth { depth ≤ 64 }
-    requires size { size_of m.now.types t.now ≤ 4294967296 }
-    ensures { result ≡ layout_of m.now.types t.now }
-{
-    match &t.node {
-        TypeNode::Struct(fields) => fields_layout(m, fields, false, depth).padded(),
-        TypeNode::Packed(fields) => fields_layout(m, fields, true, depth),
-        _ => unreachable!(),
-    }
-}
-
-/// Fields that nest less deep, one behind another.
-#[cycle(layout)]
-fn fields_layout(m: &Module, fields: &[IrType], packed: bool, depth: u32) -> Layout
-    requires parts { IsTrue (list_all (is_type_within m.now.types (depth - 1)) fields.now) }
-    requires nests { 0 < depth }
-    requires depth { depth ≤ 64 }
-    requires size { (laid_fields m.now.types packed (types_of_list fields.now)).size ≤ 4294967296 }
-    ensures { result ≡ laid_fields m.now.types packed (types_of_list fields.now) }
+fn fit_fields(layouts: &[Option<Layout>], packed: bool, fields: &[IrType]) -> Option<Layout>
+    ensures { result ≡ fit_fields layouts.now packed (types_of_list fields.now) (layout 0 1) }
 {
     let mut laid = Layout::empty();
     for field in fields {
-        laid = laid.beside(packed, layout_within(m, field, depth - 1));
+        laid = laid.beside(packed, fit_type(layouts, field)?)?;
     }
-    laid
+    Some(laid)
 }
 
-/// Where the field with this number begins.
-fn field_offset(m: &Module, fields: &[IrType], packed: bool, field: usize) -> Option<u64>
-    requires parts { IsTrue (list_all (is_type_within m.now.types 63) fields.now) }
-    requires size { (laid_fields m.now.types packed (types_of_list fields.now)).size ≤ 4294967296 }
-    ensures { option_map pos result ≡ option_map (λ part. part.offset) (field_after m.now.types packed (layout 0 1) (types_of_list fields.now) field) }
+/// The layouts of the named types through one name more.
+fn next_layouts(
+    alloc: Global,
+    types: &[NamedType],
+    layouts: &[Option<Layout>],
+) -> Result<Items<Option<Layout>>, Memory>
+    ensures { IfOk result (λ next. next ≡ map (λ e. fit_type layouts.now e.ty) types.now) }
 {
-    if field >= fields.len() {
-        return None;
+    let mut next = Items::new(alloc);
+    for named in types {
+        next.push(fit_type(layouts, &named.ty))?;
     }
-    let (before, behind) = fields.split_at(field);
-    let laid = fields_layout(m, before, packed, DEPTH);
-    let next = layout_within(m, &behind[0], DEPTH - 1);
-    Some(laid.field_start(packed, next))
+    Ok(next)
+}
+
+fn no_layouts(alloc: Global, types: &[NamedType]) -> Result<Items<Option<Layout>>, Memory>
+    ensures { IfOk result (λ layouts. layouts ≡ map (λ e. None) types.now) }
+{
+    let mut layouts = Items::new(alloc);
+    for _ in types {
+        layouts.push(None)?;
+    }
+    Ok(layouts)
+}
+
+/// The layouts of the named types; none for one that is outside the limits, or that a type in it is.
+#[tactic(auto, unfolding(crate::specs::Fitting::fitting_layouts))]
+pub fn fitting_layouts(alloc: Global, types: &[NamedType]) -> Result<Items<Option<Layout>>, Memory>
+    ensures { IfOk result (λ layouts. layouts ≡ fitting_layouts types.now) }
+{
+    let mut layouts = no_layouts(alloc, types)?;
+    for _ in 0..MOST_NAMES {
+        layouts = next_layouts(alloc, types, layouts.as_slice())?;
+    }
+    Ok(layouts)
+}
+
+/// Where the fields of a struct begin, up to the first that is outside the limits.
+pub fn field_starts(
+    alloc: Global,
+    layouts: &[Option<Layout>],
+    packed: bool,
+    fields: &[IrType],
+) -> Result<Items<u64>, Memory>
+    ensures { IfOk result (λ starts. starts ≡ starts_in layouts.now packed (types_of_list fields.now) (layout 0 1)) }
+{
+    let mut starts = Items::new(alloc);
+    let mut laid = Layout::empty();
+    for field in fields {
+        let Some(next) = fit_type(layouts, field) else {
+            return Ok(starts);
+        };
+        starts.push(laid.field_start(packed, next))?;
+        let Some(more) = laid.beside(packed, next) else {
+            return Ok(starts);
+        };
+        laid = more;
+    }
+    Ok(starts)
+}
+
+/// Where the field with a number begins, unless it or one before it is outside the limits.
+pub fn start_at(
+    layouts: &[Option<Layout>],
+    packed: bool,
+    fields: &[IrType],
+    number: usize,
+) -> Option<u64>
+    ensures { result ≡ slice_get (starts_in layouts.now packed (types_of_list fields.now) (layout 0 1)) number }
+{
+    let mut laid = Layout::empty();
+    for (k, field) in fields.iter().enumerate() {
+        let next = fit_type(layouts, field)?;
+        if k == number {
+            return Some(laid.field_start(packed, next));
+        }
+        laid = laid.beside(packed, next)?;
+    }
+    None
 }

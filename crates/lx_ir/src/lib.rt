@@ -7,10 +7,14 @@ ghost use Rattle.lx_ir.specs.RowsOfText.{WorkedTexts};
 pub mod instr;
 mod layout;
 pub mod module;
+mod named;
+mod sizes;
 mod text;
 pub mod types;
 
-pub use layout::{align_of, offset_at, offset_of, size_of, unnamed};
+pub use layout::{Layout, MOST_NAMES, fit_type, fitting_layouts};
+pub use named::NamedTypes;
+pub use sizes::{align_of, offset_at, offset_of, size_of, unnamed};
 pub use text::print;
 
 /// Worked rows of layout.

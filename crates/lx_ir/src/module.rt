@@ -1,6 +1,7 @@
 //! Constants, globals, functions and modules.
 use crate::instr::Instr;
-use crate::types::{IrType, NamedTypes, Scalar};
+use crate::named::NamedTypes;
+use crate::types::{IrType, Scalar};
 use lx_words::{Items, Name, Names, Width, Word};
 use std::marker::Model;
 

@@ -40,7 +40,7 @@ form_filled : (context : Context) (form : TextForm) (o : Op) → IsForm context 
 form_filled context form (op.Binary to o ty a b) p = given_filled context to _ p
 form_filled context form (op.Compare to pred ty a b) p = given_filled context to _ p
 form_filled context form (op.Convert to how from a into) p = given_filled context to _ p
-form_filled context form (op.Freeze to ty a) p = given_filled context to _ p
+form_filled context form (op.Unary to o ty a) p = given_filled context to _ p
 form_filled context form (op.Select to c ty a b) p = given_filled context to _ p
 form_filled context form (op.Phi to ty edges) p = given_filled context to _ p
 form_filled context form (op.Alloca to ty) p = given_filled context to _ p

@@ -24,7 +24,7 @@ module _ (c : Context) (form : TextForm) where
       (f1, b1, r, (f2, b2, m, (f3, b3, first, (f4, b4, flags, (f5, b5, typed_free c (argument ty x) f5 p, second_free c ty y b5 q, w5), w4), w3), w2), w1)
   form_free (op.Convert to how from x into) ts (f1, b1, r, (f2, b2, m, (word, (f3, b3, first, (f4, b4, (f5, b5, flags, p, w5), q, w4), w3), is), w2), w1) =
       (f1, b1, r, (f2, b2, m, (word, (f3, b3, first, (f4, b4, (f5, b5, flags, typed_free c (argument from x) b5 p, w5), q, w4), w3), is), w2), w1)
-  form_free (op.Freeze to ty x) ts (f1, b1, r, (f2, b2, m, (f3, b3, first, (f5, b5, flags, p, w5), w3), w2), w1) =
+  form_free (op.Unary to o ty x) ts (f1, b1, r, (f2, b2, m, (f3, b3, first, (f5, b5, flags, p, w5), w3), w2), w1) =
       (f1, b1, r, (f2, b2, m, (f3, b3, first, (f5, b5, flags, typed_free c (argument ty x) b5 p, w5), w3), w2), w1)
   form_free (op.Select to z ty x y) ts (f1, b1, r, (f2, b2, m, (f3, b3, first, (f4, b4, flags, (f5, b5, p, (f6, b6, comma, (f7, b7, q, s, w7), w6), w5), w4), w3), w2), w1) =
       (f1, b1, r, (f2, b2, m, (f3, b3, first, (f4, b4, flags, (f5, b5, value_free c (Int W1) z f5 p, (f6, b6, comma, (f7, b7, typed_free c (argument ty x) f7 q, again_free c ty y b7 s, w7), w6), w5), w4), w3), w2), w1)

@@ -12,6 +12,7 @@ use Rattle.lx_ir_tokens.specs.declared.keyword.InstructionWord.TheVariants as in
 use Rattle.lx_ir.specs.declared.types.Scalar.{Scalar}
 use Rattle.lx_ir.specs.declared.types.Scalar.TheVariants.{Int}
 use Rattle.lx_ir.specs.declared.instr.Conversion.{Conversion}
+use Rattle.lx_ir.specs.declared.instr.UnaryOp.TheVariants as unary
 use Rattle.lx_ir.specs.declared.instr.Op.{Op}
 use Rattle.lx_ir.specs.declared.instr.Op.TheVariants as op
 use Rattle.lx_ir.specs.declared.instr.SwitchCase.{SwitchCase}
@@ -33,7 +34,7 @@ use Rattle.lx_ir_operands.proofs.ListedLaws.{edge_reads, edge_finds, case_reads,
 use Rattle.lx_ir_operands.proofs.OperandStops.{flagged_scalar_stops, flagged_type_stops, flagged_truth_stops, typed_stops, flagged_typed_stops, second_stops, address_stops, again_stops, local_stops, next_label_stops, edge_stops, case_stops}
 use Rattle.lx_ir_calls.specs.declared.intrinsics.TextForm.{TextForm}
 use Rattle.lx_ir_calls.specs.Calls.{call_behind, is_tail_word, tail_call_at}
-use Rattle.lx_ir_instructions.specs.Instructions.{binary_behind, predicate_in, predicate_at, compare_behind, conversion_of, convert_behind, freeze_behind, select_behind, phi_behind, alloca_behind, load_behind, element_behind, store_behind, flagged_result_at, returned_at, ret_behind, jump_behind, branch_behind, br_at, br_behind, switch_behind, giving_of, silent_of, by_word, first_word_at, giving_at, silent_at, given_behind, form_at, instruction_at}
+use Rattle.lx_ir_instructions.specs.Instructions.{binary_behind, predicate_in, predicate_at, compare_behind, conversion_of, convert_behind, unary_behind, select_behind, phi_behind, alloca_behind, load_behind, element_behind, store_behind, flagged_result_at, returned_at, ret_behind, jump_behind, branch_behind, br_at, br_behind, switch_behind, giving_of, silent_of, by_word, first_word_at, giving_at, silent_at, given_behind, form_at, instruction_at}
 use Rattle.lx_ir_complete.proofs.Local.{first_of, has_looks, Same, Plain, pure_plain, fault_local, end_local, then_plain, last_plain, if_plain, choose_local, same_local, behind_local, from_laws}
 use Rattle.lx_ir_complete.proofs.Loops.{Consumes, next_plain, skipped_plain, items_plain, behind_consumes, has_some}
 use Rattle.lx_ir_complete.proofs.RefusedOperands.{further_looks, pick_plain, value_plain, metadata_plain, align_plain}
@@ -138,9 +139,9 @@ module _ (asked : FaultKind → Bool) (context : Context) (free : context.limits
       (λ a. then_plain asked (next_at is_to) (λ t. scalar_at t.1 >>= λ u. Ok (op.Convert to how (a.ty) (a.value) u.0, u.1)) (next_plain asked is_to)
       (λ t. last_plain asked (scalar_at) (λ u. op.Convert to how (a.ty) (a.value) u) (pick_plain asked (λ t. scalar_in t.kind) scalar_refusal)))
 
-  freeze_plain : (to : ℕ) → Plain asked (freeze_behind context to)
+  freeze_plain : (to : ℕ) → Plain asked (unary_behind context to unary.Freeze)
   freeze_plain to =
-      last_plain asked (flagged_typed_at context) (λ a. op.Freeze to (a.ty) (a.value)) flagged_typed_plain
+      last_plain asked (flagged_typed_at context) (λ a. op.Unary to unary.Freeze (a.ty) (a.value)) flagged_typed_plain
 
   select_plain : (to : ℕ) → Plain asked (select_behind context to)
   select_plain to =
@@ -226,7 +227,7 @@ module _ (asked : FaultKind → Bool) (context : Context) (free : context.limits
     giving_plain to (instructions.Operator o) = behind_word (binary_behind context to o) (binary_plain to o)
     giving_plain to instructions.Compare = behind_word (compare_behind context to) (compare_plain to)
     giving_plain to (instructions.Conversion w) = behind_word (convert_behind context to (conversion_of w)) (convert_plain to (conversion_of w))
-    giving_plain to instructions.Freeze = behind_word (freeze_behind context to) (freeze_plain to)
+    giving_plain to instructions.Freeze = behind_word (unary_behind context to unary.Freeze) (freeze_plain to)
     giving_plain to instructions.Select = behind_word (select_behind context to) (select_plain to)
     giving_plain to instructions.Phi = behind_word (phi_behind context to) (phi_plain to)
     giving_plain to instructions.Alloca = behind_word (alloca_behind context to) (alloca_plain to)

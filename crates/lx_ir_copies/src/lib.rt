@@ -10,4 +10,4 @@ mod types;
 pub use copied::{Copied, copies};
 pub use inits::copied_init;
 pub use ops::{copied_call, copied_op};
-pub use types::copied_type;
+pub use types::{copied_named_types, copied_type};

@@ -158,8 +158,9 @@ pub fn copied_op(alloc: Global, op: &Op) -> Result<Op, Memory>
             a: *a,
             into: *into,
         }),
-        Op::Freeze { to, ty, a } => Ok(Op::Freeze {
+        Op::Unary { to, op, ty, a } => Ok(Op::Unary {
             to: *to,
+            op: *op,
             ty: *ty,
             a: *a,
         }),

@@ -2,7 +2,8 @@
 ghost use Rattle.std.specs.Prelude.{◌≡◌, IfOk};
 ghost use Rattle.lx_ir.specs.IrType.{Array};
 
-use crate::copied::Copied;
+use crate::copied::{Copied, copies};
+use lx_ir::NamedTypes;
 use lx_ir::types::{IrType, NamedType, TypeNode};
 use lx_words::Memory;
 use std::alloc::Global;
@@ -61,6 +62,18 @@ fn copied_types(alloc: Global, types: &[IrType]) -> Result<Vec<IrType>, Memory>
         copies.push(copied_type(alloc, &types[i])?)?;
     }
     Ok(copies)
+}
+
+/// A copy of the named types of a module.
+///
+/// # Errors
+/// Want of memory.
+pub fn copied_named_types(alloc: Global, types: &NamedTypes) -> Result<NamedTypes, Memory>
+    ensures { IfOk result (λ copy. copy ≡ types.now) }
+{
+    let entries = copies(alloc, types.as_slice())?;
+    let copy = NamedTypes::new(alloc, entries)?;
+    Ok(copy)
 }
 
 impl Copied for IrType {

@@ -48,9 +48,9 @@ module _ (c : Context) (registers : List (Option ℕ)) (form : TextForm) where
         (f1, b1, (t, k, refl, g), (f2, b2, m, (word, (f3, b3, first, (f4, b4, (f5, b5, flags, u.1, w5), q, w4), w3), is), w2), w1),
         record { given = (t.name, e, refl); read = (u.2, tt); ends = refl; lines = refl },
       )
-  form_seen (op.Freeze to ty x) ts (f1, b1, (t, k, e, g), (f2, b2, m, (f3, b3, first, (f5, b5, flags, p, w5), w3), w2), w1) =
+  form_seen (op.Unary to o ty x) ts (f1, b1, (t, k, e, g), (f2, b2, m, (f3, b3, first, (f5, b5, flags, p, w5), w3), w2), w1) =
       let u = value_typed c registers ty x b5 p in (
-        op.Freeze (register_number d t.name) ty u.0,
+        op.Unary (register_number d t.name) o ty u.0,
         (f1, b1, (t, k, refl, g), (f2, b2, m, (f3, b3, first, (f5, b5, flags, u.1, w5), w3), w2), w1),
         record { given = (t.name, e, refl); read = (u.2, tt); ends = refl; lines = refl },
       )

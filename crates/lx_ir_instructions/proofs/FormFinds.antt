@@ -18,6 +18,7 @@ use Rattle.lx_ir.specs.declared.module.Value.{Value}
 use Rattle.lx_ir.specs.declared.instr.Argument.{Argument}
 use Rattle.lx_ir.specs.declared.instr.Edge.{Edge}
 use Rattle.lx_ir.specs.declared.instr.SwitchCase.{SwitchCase}
+use Rattle.lx_ir.specs.declared.instr.UnaryOp.TheVariants as unary
 use Rattle.lx_ir.specs.declared.instr.Op.{Op}
 use Rattle.lx_ir.specs.declared.instr.Op.TheVariants as op
 use Rattle.lx_ir_terms.specs.Context.{Context, register_number}
@@ -45,7 +46,7 @@ use Rattle.lx_ir_calls.specs.declared.intrinsics.TextForm.{TextForm}
 use Rattle.lx_ir_calls.specs.Calls.{call_behind, is_tail_word, tail_call_at}
 use Rattle.lx_ir_calls.specs.Grammar.{IsCall, IsCalled, given_by}
 use Rattle.lx_ir_calls.proofs.CallLaws.{call_word, calls_found}
-use Rattle.lx_ir_instructions.specs.Instructions.{binary_behind, predicate_in, predicate_at, compare_behind, conversion_of, convert_behind, freeze_behind, select_behind, phi_behind, alloca_behind, load_behind, element_behind, store_behind, flagged_result_at, returned_at, ret_behind, jump_behind, branch_behind, br_at, br_behind, switch_behind, giving_of, silent_of, by_word, first_word_at, giving_at, silent_at, given_behind, form_at}
+use Rattle.lx_ir_instructions.specs.Instructions.{binary_behind, predicate_in, predicate_at, compare_behind, conversion_of, convert_behind, unary_behind, select_behind, phi_behind, alloca_behind, load_behind, element_behind, store_behind, flagged_result_at, returned_at, ret_behind, jump_behind, branch_behind, br_at, br_behind, switch_behind, giving_of, silent_of, by_word, first_word_at, giving_at, silent_at, given_behind, form_at}
 use Rattle.lx_ir_instructions.specs.Grammar.{IsRegister, Given, IsForm}
 use Rattle.lx_ir_instructions.proofs.FormParts.{flags_before, flags_first, given_as}
 
@@ -115,12 +116,12 @@ convert_says context form to w t k o ts (a, (f, b, pa, (x, (f2, b2, pt, (u, pu, 
     subst (λ x. GivesForm context form to x (t ∷ ts)) eq
     (λ rs es r m. (rs, es ++ (t ∷ ts), r, (es, t ∷ ts, m, (w, word_then (instructions.Conversion w) (IsConvertRest context a u) t ts k (f, b, pa, (f2, b2, pt, pu, e2), e), refl), refl), refl))
 
-freeze_finds : (context : Context) (to : ℕ) → Finds (freeze_behind context to) (Mapped (λ (a : Argument). op.Freeze to a.ty a.value) (λ a. Flagged (IsTyped context a)))
-freeze_finds context to = last_finds (flagged_typed_at context) (λ a. op.Freeze to a.ty a.value) _ (flagged_typed_finds context)
+freeze_finds : (context : Context) (to : ℕ) → Finds (unary_behind context to unary.Freeze) (Mapped (λ (a : Argument). op.Unary to unary.Freeze a.ty a.value) (λ a. Flagged (IsTyped context a)))
+freeze_finds context to = last_finds (flagged_typed_at context) (λ a. op.Unary to unary.Freeze a.ty a.value) _ (flagged_typed_finds context)
 
-freeze_says : (context : Context) (form : TextForm) (to : ℕ) (t : Tok) → instruction_in t.kind ≡ Some instructions.Freeze → (o : Op) (ts : List Tok) → Mapped (λ (a : Argument). op.Freeze to a.ty a.value) (λ a. Flagged (IsTyped context a)) o ts → GivesForm context form to o (t ∷ ts)
+freeze_says : (context : Context) (form : TextForm) (to : ℕ) (t : Tok) → instruction_in t.kind ≡ Some instructions.Freeze → (o : Op) (ts : List Tok) → Mapped (λ (a : Argument). op.Unary to unary.Freeze a.ty a.value) (λ a. Flagged (IsTyped context a)) o ts → GivesForm context form to o (t ∷ ts)
 freeze_says context form to t k o ts (a, pa, eq) =
-    subst (λ x. GivesForm context form to x (t ∷ ts)) eq (gives_as context form to instructions.Freeze (Flagged (IsTyped context a)) (op.Freeze to a.ty a.value) (λ us g. g) t ts k pa)
+    subst (λ x. GivesForm context form to x (t ∷ ts)) eq (gives_as context form to instructions.Freeze (Flagged (IsTyped context a)) (op.Unary to unary.Freeze a.ty a.value) (λ us g. g) t ts k pa)
 
 -- Choices.
 
@@ -331,7 +332,7 @@ call_silent context form (op.Post f k) ts e i = i
 call_silent context form (op.Binary to o ty a b) ts e i = absurd (called_in context form (op.Binary to o ty a b) ts i).1
 call_silent context form (op.Compare to p ty a b) ts e i = absurd (called_in context form (op.Compare to p ty a b) ts i).1
 call_silent context form (op.Convert to how from a into) ts e i = absurd (called_in context form (op.Convert to how from a into) ts i).1
-call_silent context form (op.Freeze to ty a) ts e i = absurd (called_in context form (op.Freeze to ty a) ts i).1
+call_silent context form (op.Unary to unary.Freeze ty a) ts e i = absurd (called_in context form (op.Unary to unary.Freeze ty a) ts i).1
 call_silent context form (op.Select to c ty a b) ts e i = absurd (called_in context form (op.Select to c ty a b) ts i).1
 call_silent context form (op.Phi to ty edges) ts e i = absurd (called_in context form (op.Phi to ty edges) ts i).1
 call_silent context form (op.Alloca to ty) ts e i = absurd (called_in context form (op.Alloca to ty) ts i).1
@@ -363,7 +364,7 @@ giving_word : (context : Context) (form : TextForm) (to : ℕ) (w : InstructionW
 giving_word context form to (instructions.Operator n) t ts us o k e = behind_word context form to t (binary_behind context to n) (BinaryParts context to n) (binary_finds context to n) (binary_says context form to n t k) ts us o e
 giving_word context form to instructions.Compare t ts us o k e = behind_word context form to t (compare_behind context to) (CompareParts context to) (compare_finds context to) (compare_says context form to t k) ts us o e
 giving_word context form to (instructions.Conversion w) t ts us o k e = behind_word context form to t (convert_behind context to (conversion_of w)) (ConvertParts context to w) (convert_finds context to w) (convert_says context form to w t k) ts us o e
-giving_word context form to instructions.Freeze t ts us o k e = behind_word context form to t (freeze_behind context to) (Mapped (λ (a : Argument). op.Freeze to a.ty a.value) (λ a. Flagged (IsTyped context a))) (freeze_finds context to) (freeze_says context form to t k) ts us o e
+giving_word context form to instructions.Freeze t ts us o k e = behind_word context form to t (unary_behind context to unary.Freeze) (Mapped (λ (a : Argument). op.Unary to unary.Freeze a.ty a.value) (λ a. Flagged (IsTyped context a))) (freeze_finds context to) (freeze_says context form to t k) ts us o e
 giving_word context form to instructions.Select t ts us o k e = behind_word context form to t (select_behind context to) (SelectParts context to) (select_finds context to) (select_says context form to t k) ts us o e
 giving_word context form to instructions.Phi t ts us o k e = behind_word context form to t (phi_behind context to) (PhiParts context to) (phi_finds context to) (phi_says context form to t k) ts us o e
 giving_word context form to instructions.Alloca t ts us o k e = behind_word context form to t (alloca_behind context to) (AllocaParts context to) (alloca_finds context to) (alloca_says context form to t k) ts us o e

@@ -18,6 +18,7 @@ use Rattle.lx_ir.specs.declared.instr.Argument.{Argument}
 use Rattle.lx_ir.specs.declared.instr.Conversion.{Conversion}
 use Rattle.lx_ir.specs.declared.instr.Edge.{Edge}
 use Rattle.lx_ir.specs.declared.instr.SwitchCase.{SwitchCase}
+use Rattle.lx_ir.specs.declared.instr.UnaryOp.TheVariants as unary
 use Rattle.lx_ir.specs.declared.instr.Op.{Op}
 use Rattle.lx_ir.specs.declared.instr.Op.TheVariants as op
 use Rattle.lx_ir_terms.specs.Context.{Context}
@@ -43,7 +44,7 @@ use Rattle.lx_ir_calls.specs.declared.intrinsics.TextForm.{TextForm}
 use Rattle.lx_ir_calls.specs.Calls.{is_tail_word, tail_call_at}
 use Rattle.lx_ir_calls.specs.Grammar.{IsCall, given_by}
 use Rattle.lx_ir_calls.proofs.CallLaws.{call_word, calls_read}
-use Rattle.lx_ir_instructions.specs.Instructions.{binary_behind, predicate_in, predicate_at, compare_behind, conversion_of, convert_behind, freeze_behind, select_behind, phi_behind, alloca_behind, load_behind, element_behind, store_behind, flagged_result_at, returned_at, ret_behind, branch_behind, br_at, br_behind, switch_behind, giving_at, form_at}
+use Rattle.lx_ir_instructions.specs.Instructions.{binary_behind, predicate_in, predicate_at, compare_behind, conversion_of, convert_behind, unary_behind, select_behind, phi_behind, alloca_behind, load_behind, element_behind, store_behind, flagged_result_at, returned_at, ret_behind, branch_behind, br_at, br_behind, switch_behind, giving_at, form_at}
 use Rattle.lx_ir_instructions.specs.Grammar.{IsForm}
 use Rattle.lx_ir_instructions.proofs.FormParts.{ReadsTo, bind_to, last_to, flags_before, giving_reads, silent_reads, given_reads}
 
@@ -93,8 +94,8 @@ convert_reads context to w from a into =
     (bind_reads (next_at is_to) (λ t. scalar_at t.1 >>= λ u. Ok (op.Convert to how from a u.0, u.1)) tt (op.Convert to how from a into) _ _ (next_reads is_to)
     (last_reads scalar_at (λ u. op.Convert to how from a u) into _ (pick_reads (λ t. scalar_in t.kind) scalar_refusal into)))
 
-freeze_reads : (context : Context) (to : ℕ) (ty : Scalar) (a : Value) → Reads (freeze_behind context to) (op.Freeze to ty a) (Flagged (IsTyped context (argument ty a)))
-freeze_reads context to ty a = last_reads (flagged_typed_at context) (λ a. op.Freeze to a.ty a.value) (argument ty a) _ (flagged_typed_reads context (argument ty a))
+freeze_reads : (context : Context) (to : ℕ) (ty : Scalar) (a : Value) → Reads (unary_behind context to unary.Freeze) (op.Unary to unary.Freeze ty a) (Flagged (IsTyped context (argument ty a)))
+freeze_reads context to ty a = last_reads (flagged_typed_at context) (λ a. op.Unary to unary.Freeze a.ty a.value) (argument ty a) _ (flagged_typed_reads context (argument ty a))
 
 -- Choices.
 
@@ -281,8 +282,8 @@ forms_read context form (op.Compare to p ty a b) us h =
     given_reads context form to (op.Compare to p ty a b) _ us (giving_reads context form to instructions.Compare (op.Compare to p ty a b) _ us (λ t ts q. compare_reads context to p ty a b ts us q))
 forms_read context form (op.Convert to how from a into) us h =
     given_reads context form to (op.Convert to how from a into) (IsConversion context how from a into) us (conversion_reads context form to how from a into us)
-forms_read context form (op.Freeze to ty a) us h =
-    given_reads context form to (op.Freeze to ty a) _ us (giving_reads context form to instructions.Freeze (op.Freeze to ty a) _ us (λ t ts q. freeze_reads context to ty a ts us q))
+forms_read context form (op.Unary to unary.Freeze ty a) us h =
+    given_reads context form to (op.Unary to unary.Freeze ty a) _ us (giving_reads context form to instructions.Freeze (op.Unary to unary.Freeze ty a) _ us (λ t ts q. freeze_reads context to ty a ts us q))
 forms_read context form (op.Select to c ty a b) us h =
     given_reads context form to (op.Select to c ty a b) _ us (giving_reads context form to instructions.Select (op.Select to c ty a b) _ us (λ t ts q. select_reads context to c ty a b ts us q))
 forms_read context form (op.Phi to ty edges) us h =

@@ -18,7 +18,7 @@ use Rattle.lx_ir_operands.specs.Operands.{argument, is_truth_word}
 use Rattle.lx_ir_operands.specs.Grammar.{AreInRow, First, Flagged, IsAddress, IsAgain, IsAlign, IsCase, IsEdge, IsLabel, IsMetadata, IsNextLabel, IsScalar, IsSecond, IsTyped, Repeated}
 use Rattle.lx_ir_calls.specs.declared.intrinsics.TextForm.{TextForm}
 use Rattle.lx_ir_calls.specs.Grammar.{IsCall}
-use Rattle.lx_ir_instructions.specs.Instructions.{conversion_of, predicate_in}
+use Rattle.lx_ir_instructions.specs.Instructions.{conversion_of, predicate_in, word_of_unary}
 
 -- a register by its number
 abbrev pub IsRegister : Context → ℕ → Part
@@ -44,7 +44,7 @@ IsForm context form (op.Convert to how from a into) =
     (λ ts. (w : ConversionWord)
     × (First (instructions.Conversion w) then Flagged (IsTyped context (argument from a)) then Is is_to then IsScalar into) ts
     × (conversion_of w ≡ how))
-IsForm context form (op.Freeze to ty a) = Given context to (First instructions.Freeze then Flagged (IsTyped context (argument ty a)))
+IsForm context form (op.Unary to o ty a) = Given context to (First (word_of_unary o) then Flagged (IsTyped context (argument ty a)))
 IsForm context form (op.Select to c ty a b) =
     Given context to
     (First instructions.Select

@@ -17,6 +17,8 @@ use Rattle.lx_ir.specs.declared.types.Scalar.TheVariants.{Int}
 use Rattle.lx_ir.specs.declared.instr.Argument.{Argument}
 use Rattle.lx_ir.specs.declared.instr.Conversion.{Conversion}
 use Rattle.lx_ir.specs.declared.instr.Conversion.TheVariants as conversion
+use Rattle.lx_ir.specs.declared.instr.UnaryOp.{UnaryOp}
+use Rattle.lx_ir.specs.declared.instr.UnaryOp.TheVariants as unary
 use Rattle.lx_ir.specs.declared.instr.Op.{Op}
 use Rattle.lx_ir.specs.declared.instr.Op.TheVariants as op
 use Rattle.lx_ir_terms.specs.Context.{Context, register_number}
@@ -54,6 +56,10 @@ compare_behind context to ts = do
   b ← second_at context a.0.ty a.1
   Ok (op.Compare to p.0 a.0.ty a.0.value b.0, b.1)
 
+-- the word of an operator on one word
+abbrev pub word_of_unary : UnaryOp → InstructionWord
+word_of_unary unary.Freeze = instructions.Freeze
+
 abbrev pub conversion_of : ConversionWord → Conversion
 conversion_of conversions.Trunc = conversion.Trunc
 conversion_of conversions.ZExt = conversion.ZExt
@@ -70,10 +76,10 @@ convert_behind context to how ts = do
   Ok (op.Convert to how a.0.ty a.0.value u.0, u.1)
 
 -- `T a`
-abbrev pub freeze_behind : Context → ℕ → List Tok → Read Op
-freeze_behind context to ts = do
+abbrev pub unary_behind : Context → ℕ → UnaryOp → List Tok → Read Op
+unary_behind context to o ts = do
   a ← flagged_typed_at context ts
-  Ok (op.Freeze to a.0.ty a.0.value, a.1)
+  Ok (op.Unary to o a.0.ty a.0.value, a.1)
 
 -- `i1 c, T a, T b`
 abbrev pub select_behind : Context → ℕ → List Tok → Read Op
@@ -181,7 +187,7 @@ abbrev pub giving_of : Context → TextForm → ℕ → InstructionWord → List
 giving_of context form to (instructions.Operator o) ts = binary_behind context to o (behind ts)
 giving_of context form to instructions.Compare ts = compare_behind context to (behind ts)
 giving_of context form to (instructions.Conversion w) ts = convert_behind context to (conversion_of w) (behind ts)
-giving_of context form to instructions.Freeze ts = freeze_behind context to (behind ts)
+giving_of context form to instructions.Freeze ts = unary_behind context to unary.Freeze (behind ts)
 giving_of context form to instructions.Select ts = select_behind context to (behind ts)
 giving_of context form to instructions.Phi ts = phi_behind context to (behind ts)
 giving_of context form to instructions.Alloca ts = alloca_behind context to (behind ts)

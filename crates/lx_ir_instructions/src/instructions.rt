@@ -6,9 +6,9 @@ ghost use Rattle.lx_ir_terms.specs.Types.{result_in};
 ghost use Rattle.lx_ir_constants.specs.Constants.{is_register};
 ghost use Rattle.lx_ir_operands.specs.Steps.{items_while, unbroken_at};
 ghost use Rattle.lx_ir_operands.specs.Operands.{typed_at, edge_at, case_at, has_case, some_cases_at, cases_at, instruction_in};
-ghost use Rattle.lx_ir_instructions.specs.Instructions.{binary_behind, predicate_in, predicate_at, compare_behind, conversion_of, convert_behind, freeze_behind, select_behind, phi_behind, alloca_behind, load_behind, element_behind, store_behind, flagged_result_at, returned_at, ret_behind, jump_behind, branch_behind, br_at, br_behind, switch_behind, giving_of, silent_of, first_word_at, giving_at, silent_at, given_behind, form_at, instruction_at};
+ghost use Rattle.lx_ir_instructions.specs.Instructions.{binary_behind, predicate_in, predicate_at, compare_behind, conversion_of, convert_behind, unary_behind, select_behind, phi_behind, alloca_behind, load_behind, element_behind, store_behind, flagged_result_at, returned_at, ret_behind, jump_behind, branch_behind, br_at, br_behind, switch_behind, giving_of, silent_of, first_word_at, giving_at, silent_at, given_behind, form_at, instruction_at};
 
-use lx_ir::instr::{Argument, Conversion, Edge, Op, SwitchCase};
+use lx_ir::instr::{Argument, Conversion, Edge, Op, SwitchCase, UnaryOp};
 use lx_ir::module::{Constant, Value};
 use lx_ir::types::Scalar;
 use lx_ir_calls::{TextForm, call, has_tail_word, tail_call};
@@ -125,18 +125,20 @@ fn convert(
 }
 
 /// A `freeze` behind its word.
-fn freeze(
+fn unary(
     alloc: Global,
     reader: &mut Reader<'_>,
     context: &Context<'_>,
     to: u32,
+    op: UnaryOp,
 ) -> Result<Op, ReadError>
-    ensures reads { Gives result reader.new (freeze_behind context.now to reader.old) }
+    ensures reads { Gives result reader.new (unary_behind context.now to op reader.old) }
     ensures shrinks { length reader.new ≤ length reader.old }
 {
     let operand = flagged_typed(alloc, reader, context)?;
-    Ok(Op::Freeze {
+    Ok(Op::Unary {
         to,
+        op,
         ty: operand.ty,
         a: operand.value,
     })
@@ -498,7 +500,7 @@ fn giving_of(
         }
         InstructionWord::Freeze => {
             reader.skip();
-            freeze(alloc, reader, context, to)?
+            unary(alloc, reader, context, to, UnaryOp::Freeze)?
         }
         InstructionWord::Select => {
             reader.skip();

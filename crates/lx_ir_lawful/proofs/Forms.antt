@@ -130,7 +130,7 @@ module _ (m : Module) (context : Context) (form : TextForm) (tells : Tells m con
   form_said (op.Binary to o ty a b) ts h = record { form = refl; values = two (is_said m ty a) (is_said m ty b) (typed_said m context tells (argument ty a) _ h.3.3.3.2.3) (second_said m context tells ty b _ h.3.3.3.3) }
   form_said (op.Compare to p ty a b) ts h = record { form = refl; values = two (is_said m ty a) (is_said m ty b) (typed_said m context tells (argument ty a) _ h.3.3.3.3.2) (second_said m context tells ty b _ h.3.3.3.3.3) }
   form_said (op.Convert to how from a into) ts h = record { form = refl; values = one (is_said m from a) (typed_said m context tells (argument from a) _ h.3.3.1.3.2.3) }
-  form_said (op.Freeze to ty a) ts h = record { form = refl; values = one (is_said m ty a) (typed_said m context tells (argument ty a) _ h.3.3.3.3) }
+  form_said (op.Unary to o ty a) ts h = record { form = refl; values = one (is_said m ty a) (typed_said m context tells (argument ty a) _ h.3.3.3.3) }
   form_said (op.Select to c ty a b) ts h =
       let body = h.3.3.3.3 in
       record {

@@ -59,7 +59,7 @@ module _ (context : Context) (form : TextForm) where
   form_given (op.Binary to o ty a b) ts us h = register_given to h.0 h.1 ts us h.2 h.4
   form_given (op.Compare to p ty a b) ts us h = register_given to h.0 h.1 ts us h.2 h.4
   form_given (op.Convert to how from a into) ts us h = register_given to h.0 h.1 ts us h.2 h.4
-  form_given (op.Freeze to ty a) ts us h = register_given to h.0 h.1 ts us h.2 h.4
+  form_given (op.Unary to o ty a) ts us h = register_given to h.0 h.1 ts us h.2 h.4
   form_given (op.Select to c ty a b) ts us h = register_given to h.0 h.1 ts us h.2 h.4
   form_given (op.Phi to ty edges) ts us h = register_given to h.0 h.1 ts us h.2 h.4
   form_given (op.Alloca to ty) ts us h = register_given to h.0 h.1 ts us h.2 h.4

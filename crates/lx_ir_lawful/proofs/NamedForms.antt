@@ -217,9 +217,9 @@ module _ (Q : ℕ → Type 0) where
     form_named form (op.Convert to how from x into) ts (f1, b1, g, (f2, b2, m, (word, (f3, b3, first, (f4, b4, (f5, b5, flags, p, w5), q, w4), w3), is), w2), w1) n =
         let n1 = back f3 b3 b2 w3 (behind f1 b1 f2 b2 ts w1 w2 n) in
         no_labels (op.Convert to how from x into) refl (typed_named (argument from x) b5 p (back f5 b5 f4 w5 (front f4 b4 b3 w4 n1)), tt)
-    form_named form (op.Freeze to ty x) ts (f1, b1, g, (f2, b2, m, (f3, b3, first, (f5, b5, flags, p, w5), w3), w2), w1) n =
+    form_named form (op.Unary to o ty x) ts (f1, b1, g, (f2, b2, m, (f3, b3, first, (f5, b5, flags, p, w5), w3), w2), w1) n =
         let n1 = back f3 b3 b2 w3 (behind f1 b1 f2 b2 ts w1 w2 n) in
-        no_labels (op.Freeze to ty x) refl (typed_named (argument ty x) b5 p (back f5 b5 b3 w5 n1), tt)
+        no_labels (op.Unary to o ty x) refl (typed_named (argument ty x) b5 p (back f5 b5 b3 w5 n1), tt)
     form_named form (op.Select to z ty x y) ts (f1, b1, g, (f2, b2, m, (f3, b3, first, (f4, b4, flags, (f5, b5, p, (f6, b6, comma, (f7, b7, q, r, w7), w6), w5), w4), w3), w2), w1) n =
         let n1 = back f4 b4 b3 w4 (back f3 b3 b2 w3 (behind f1 b1 f2 b2 ts w1 w2 n)) in
         let n2 = back f6 b6 b5 w6 (back f5 b5 b4 w5 n1) in

@@ -164,7 +164,7 @@ module _ (form : TextForm) (places : List Token) (full : Context) (toks : List T
   asked registers (op.Binary to o ty a b) ts h = refl
   asked registers (op.Compare to c ty a b) ts h = refl
   asked registers (op.Convert to how from a into) ts h = refl
-  asked registers (op.Freeze to ty a) ts h = refl
+  asked registers (op.Unary to o ty a) ts h = refl
   asked registers (op.Select to c ty a b) ts h = refl
   asked registers (op.Phi to ty edges) ts h = refl
   asked registers (op.Load to ty at) ts h = refl

@@ -1,7 +1,8 @@
 -- A field is less deep than its struct.
 use Rattle.std.proofs.Common.{◌≡◌, ℕ, zero, suc, ◌<◌, List, [], ◌∷◌, length, get_or, ap, ◌∙◌, ◌≤◌, refl, slice_get, Option, Some, None, sym, arith}
 use Rattle.lx_words.specs.Word.{Word}
-use Rattle.lx_ir_offsets.specs.Offsets.{◌>>?◌, field_number, field_type}
+use Rattle.lx_ir.specs.Fitting.{◌>>?◌}
+use Rattle.lx_ir_offsets.specs.Offsets.{field_number, field_type}
 use Rattle.lx_ir.specs.IrType.{IrType, depth, depths}
 use Rattle.lx_ir.specs.TypeNodes.{types_of_list}
 use Rattle.lx_ir.specs.Layout.{list_of_types}

@@ -3,7 +3,7 @@ use Rattle.std.proofs.Common.{◌≡◌, ℕ, ◌*◌, Bool, true, false, Option
 use Rattle.std.specs.Prelude.{if◌then◌else◌}
 use Rattle.lx_ir.specs.IrType.{IrType, One, Array, Struct, Packed, Named, IrTypes, none, also}
 use Rattle.lx_ir.specs.Layout.{Layout, layout, scalar_size, beside, padded, layout_in, fields_in}
-use Rattle.lx_ir_offsets.specs.Offsets.{◌>>?◌, limited, Layouts, named_layout, laid_beside, fit_type, fit_fields}
+use Rattle.lx_ir.specs.Fitting.{◌>>?◌, limited, Layouts, laid_beside, fit_type, fit_fields}
 use Rattle.lx_ir_offsets.specs.Laws.{AreThese}
 
 some_bind : {A B : Type 0} (o : Option A) (f : A → Option B) (y : B) → (o >>? f) ≡ Some y → (x : A) × (o ≡ Some x) × (f x ≡ Some y)

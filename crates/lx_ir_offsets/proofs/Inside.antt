@@ -1,6 +1,6 @@
 -- A type is gone over exactly where it, and each that is written in it, is within the limits.
-use Rattle.std.proofs.Common.{◌≡◌, ℕ, ◌-◌, Bool, true, false, List, Result, Ok, Err, refl, ap, ◌∙◌, sym}
-use Rattle.std.specs.Prelude.{if◌then◌else◌, not, ◌&&◌}
+use Rattle.std.proofs.Common.{◌≡◌, ℕ, ◌-◌, Bool, true, false, List, Result, Ok, Err, refl}
+use Rattle.std.specs.Prelude.{not, ◌&&◌}
 use Rattle.lx_ir.specs.IrType.{IrType, One, Array, Struct, Packed, Named, IrTypes, none, also}
 use Rattle.lx_ir_offsets.specs.Shapes.{Shape, is_outside, is_inside, are_inside, ◌>>>◌, unless_outside, left_behind, left_behind_fields, left_behind_more}
 

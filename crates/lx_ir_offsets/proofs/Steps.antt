@@ -1,6 +1,6 @@
 -- One index after the other.
-use Rattle.std.proofs.Common.{◌≡◌, ℕ, zero, suc, ◌+◌, ◌*◌, ◌%◌, ◌^◌, ◌<◌, ◌≤◌, Bool, true, false, Option, Some, None, List, [], ◌∷◌, map, ℤ, pos, refl, sym, ap, ◌∙◌, subst, arith, nat_le}
-use Rattle.std.specs.Prelude.{◌+ℤ◌, ◌*ℤ◌, nat_abs, option_map, if◌then◌else◌}
+use Rattle.std.proofs.Common.{◌≡◌, ℕ, zero, suc, ◌+◌, ◌*◌, ◌%◌, ◌^◌, ◌<◌, Bool, true, false, Option, Some, None, List, [], ◌∷◌, map, ℤ, pos, refl, sym, ap, ◌∙◌, subst, arith, nat_le}
+use Rattle.std.specs.Prelude.{◌*ℤ◌, option_map, if◌then◌else◌}
 use Rattle.std.proofs.lemmas.Nat.{mul-mod_second}
 use Rattle.std.proofs.lemmas.Bool.Decides.{nat_tests}
 use Rattle.lx_words.specs.declared.word.Width.TheVariants.{W1, W8, W16, W32, W64}
@@ -9,8 +9,9 @@ use Rattle.lx_words.specs.Width.{modulus}
 use Rattle.lx_words.specs.Word.{Word, signed, modulo, is_negative}
 use Rattle.lx_ir.specs.declared.types.NamedType.{NamedType}
 use Rattle.lx_ir.specs.IrType.{IrType, One, Array, Struct, Packed, Named, IrTypes, none, also}
-use Rattle.lx_ir.specs.Layout.{Layout, layout, beside, field_start, layout_in, layout_of, named_layouts, unnamed, is_struct, Part, field_after, field_of, offset_of, part_or, part_of, part_at, size_of, element_offset}
-use Rattle.lx_ir_offsets.specs.Offsets.{◌>>?◌, limited, Layouts, laid_beside, fit_type, scaled, numbered, field_number, distance, moved}
+use Rattle.lx_ir.specs.Layout.{Layout, layout, beside, field_start, layout_of, named_layouts, unnamed, is_struct, Part, field_after, field_of, offset_of, part_or, part_of, part_at, size_of, element_offset}
+use Rattle.lx_ir.specs.Fitting.{◌>>?◌, Layouts, laid_beside, fit_type}
+use Rattle.lx_ir_offsets.specs.Offsets.{scaled, numbered, field_number, distance, moved}
 use Rattle.lx_ir_offsets.specs.Offsets as offsets
 use Rattle.lx_ir_offsets.specs.Laws.{AreThese, FitsAreLayouts}
 use Rattle.lx_ir_offsets.specs.DistanceLaws.{CountFields, CountParts}

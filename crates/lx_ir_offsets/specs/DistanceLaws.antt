@@ -4,7 +4,8 @@ use Rattle.lx_words.specs.Word.{Word, signed, modulo}
 use Rattle.lx_ir.specs.declared.types.NamedType.{NamedType}
 use Rattle.lx_ir.specs.IrType.{IrType}
 use Rattle.lx_ir.specs.Layout.{layout_of, named_layouts, unnamed, is_struct, is_lawful_type, offset_of, part_of, element_offset}
-use Rattle.lx_ir_offsets.specs.Offsets.{fitting_layouts, fit_type, field_number, part_at, distance}
+use Rattle.lx_ir.specs.Fitting.{fitting_layouts, fit_type}
+use Rattle.lx_ir_offsets.specs.Offsets.{field_number, part_at, distance}
 use Rattle.lx_ir_offsets.specs.Offsets as offsets
 use Rattle.lx_ir_offsets.specs.Laws.{AreThese}
 

@@ -2,7 +2,7 @@
 use Rattle.std.specs.Prelude.{◌≡◌, ℕ, Some}
 use Rattle.lx_ir.specs.IrType.{IrType}
 use Rattle.lx_ir.specs.Layout.{Layout, layout_in}
-use Rattle.lx_ir_offsets.specs.Offsets.{Layouts, named_layout, fit_type}
+use Rattle.lx_ir.specs.Fitting.{Layouts, named_layout, fit_type}
 
 -- the layouts that are known of named types are these
 abbrev pub AreThese : Layouts → (ℕ → Layout) → Type 0

@@ -4,11 +4,9 @@
 ghost use Rattle.lx_ir_offsets.specs.Laws.{FitsAreLayouts};
 ghost use Rattle.lx_ir_offsets.specs.DistanceLaws.{LayoutsAreKept, LawfulTypesFit, FieldsAreOffsets, DistancesAreOffsets, DistancesAreFound};
 
-mod layout;
 mod offset;
 mod shape;
 
-pub use layout::{Layout, fit_type, fitting_layouts};
 pub use offset::{distance, part_at};
 pub use shape::{Shape, is_outside, left_behind, named_shapes};
 

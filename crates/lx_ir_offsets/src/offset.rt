@@ -5,8 +5,8 @@ ghost use Rattle.lx_ir.specs.Layout.{layout, unnamed};
 ghost use Rattle.lx_ir.specs.TypeNodes.{types_of_list};
 ghost use Rattle.lx_ir_offsets.specs.Offsets.{field_number, field_type, part_type, part_at, scaled, part, field_after, part_of, moved, distance};
 
-use crate::layout::{Layout, fit_type};
 use lx_ir::types::{IrType, NamedType, TypeNode};
+use lx_ir::{Layout, fit_type};
 use lx_words::{Width, Word, resize};
 
 /// The type that a name names.

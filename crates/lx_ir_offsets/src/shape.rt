@@ -5,7 +5,7 @@ ghost use Rattle.lx_ir.specs.Layout.{layout, beside, padded, scalar_size};
 ghost use Rattle.lx_ir.specs.TypeNodes.{types_of_list};
 ghost use Rattle.lx_ir_offsets.specs.Shapes.{shape, layout_of_shape, with_field, endless, empty_shape, shape_of, fields_shape, shapes_through, named_shapes, is_past_limits, is_outside, left_behind, left_behind_fields, left_behind_more};
 
-use crate::layout::MOST_NAMES;
+use lx_ir::MOST_NAMES;
 use lx_ir::types::{IrType, NamedType, Scalar, TypeNode};
 use lx_words::{Items, Memory, Width};
 use std::alloc::Global;

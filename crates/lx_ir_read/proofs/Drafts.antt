@@ -15,7 +15,7 @@ use Rattle.lx_ir.specs.declared.module.Module.{Module}
 use Rattle.lx_ir.specs.declared.instr.Instr.{Instr}
 use Rattle.lx_ir.specs.declared.instr.Argument.{Argument}
 use Rattle.lx_ir.specs.Operands.{given_by, operands_where}
-use Rattle.lx_ir_offsets.specs.Offsets.{Layouts, fitting_layouts}
+use Rattle.lx_ir.specs.Fitting.{Layouts, fitting_layouts}
 use Rattle.lx_ir_offsets.specs.Shapes.{Shape, named_shapes}
 use Rattle.lx_ir_terms.specs.Context.{Context, bytes_of}
 use Rattle.lx_ir_calls.specs.declared.intrinsics.TextForm.{TextForm}

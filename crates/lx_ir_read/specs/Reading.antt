@@ -11,7 +11,7 @@ use Rattle.lx_ir_tokens.specs.Reading.{ReadsAs}
 use Rattle.lx_ir.specs.declared.module.Module.{Module}
 use Rattle.lx_ir.specs.declared.types.NamedType.{NamedType}
 use Rattle.lx_ir.specs.Lawful.{is_own_name}
-use Rattle.lx_ir_offsets.specs.Offsets.{fitting_layouts}
+use Rattle.lx_ir.specs.Fitting.{fitting_layouts}
 use Rattle.lx_ir_offsets.specs.Shapes.{named_shapes}
 use Rattle.lx_ir_terms.specs.declared.fault.Fault.{Fault}
 use Rattle.lx_ir_terms.specs.declared.fault.FaultKind.TheVariants.{OutOfProfile}

@@ -3,8 +3,9 @@
 ghost use Rattle.std.specs.Prelude.{◌≡◌, ◌++◌, ◌∷◌, [], None, length, drop, map, IfOk, OnOk};
 ghost use Rattle.lx_ir_read.specs.Again.{register_name, local_names, no_draft, nameless, import_of, with_named, with_variable, with_declared, with_body, kept, with_defined, module_of};
 
+use lx_ir::NamedTypes;
 use lx_ir::module::{Block, Function, GlobalVar, Init, Module, Parameter};
-use lx_ir::types::{IrType, NamedType, NamedTypes, Scalar};
+use lx_ir::types::{IrType, NamedType, Scalar};
 use lx_ir_faults::name_at;
 use lx_ir_statements::{Defined, Statement, is_block_write};
 use lx_ir_tables::Numbering;
@@ -17,7 +18,7 @@ use std::alloc::Global;
 #[derive(Drop)]
 pub struct Draft {
     pub defined: Defined,
-    pub types: NamedTypes,
+    pub types: Items<NamedType>,
     pub globals: Items<GlobalVar>,
     pub imports: Items<Function>,
     pub functions: Items<Function>,
@@ -214,14 +215,14 @@ impl Draft {
     }
 
     /// The module, in which the imports stand before the functions that are defined.
-    pub fn into_module(self) -> Result<Module, Memory>
+    pub fn into_module(self, alloc: Global) -> Result<Module, Memory>
         ensures { IfOk result (λ m. m ≡ module_of self) }
     {
         let mut functions = self.imports.into_vec();
         let mut defined = self.functions.into_vec();
         functions.append(&mut defined)?;
         Ok(Module {
-            types: self.types,
+            types: NamedTypes::new(alloc, self.types)?,
             globals: self.globals,
             functions: Items::from_vec(functions),
         })

@@ -16,9 +16,10 @@ use crate::first::{FirstReading, Found, first_reading, knowing_registers};
 use crate::tables::{named_types, symbols_of, types_of};
 use lx_ir::module::{Module, Symbol};
 use lx_ir::types::NamedType;
+use lx_ir::{Layout, fitting_layouts};
 use lx_ir_calls::TextForm;
 use lx_ir_faults::{ReadFault, TextFault, shown};
-use lx_ir_offsets::{Layout, Shape, fitting_layouts, named_shapes};
+use lx_ir_offsets::{Shape, named_shapes};
 use lx_ir_statements::statement_laws;
 use lx_ir_tables::own_numbers;
 use lx_ir_terms::{Context, ReadError};
@@ -114,7 +115,7 @@ fn module_found(
     read_all(alloc, &known, form, ir, found)?;
     let limited = full_context(ir, &tables, true);
     let draft = read_all(alloc, &limited, form, ir, found)?;
-    let module = draft.into_module()?;
+    let module = draft.into_module(alloc)?;
     Ok(module)
 }
 

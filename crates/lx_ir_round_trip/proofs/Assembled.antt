@@ -12,7 +12,7 @@ use Rattle.lx_ir.specs.Lookup.{is_defined, blocks_of}
 use Rattle.lx_ir.specs.Operands.{register_count}
 use Rattle.lx_ir.specs.Text.{register_names, module_text}
 use Rattle.lx_ir.specs.Lawful.{is_name, is_distinct, type_names, parameter_names, numbers_registers, is_lawful_block, is_lawful_body, is_lawful_import, is_lawful_function, IsLawful, IsPlain}
-use Rattle.lx_ir_offsets.specs.Offsets.{Layouts}
+use Rattle.lx_ir.specs.Fitting.{Layouts}
 use Rattle.lx_ir_offsets.specs.Shapes.{Shape, named_shapes}
 use Rattle.lx_ir_tokens.specs.declared.token.Tok.{Tok}
 use Rattle.lx_ir_tokens.specs.declared.read.IrTokens.{IrTokens}

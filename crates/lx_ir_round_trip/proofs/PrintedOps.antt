@@ -18,6 +18,7 @@ use Rattle.lx_ir.specs.declared.instr.Conversion.TheVariants as conversion
 use Rattle.lx_ir.specs.declared.instr.Edge.{Edge}
 use Rattle.lx_ir.specs.declared.instr.SwitchCase.{SwitchCase}
 use Rattle.lx_ir.specs.declared.instr.Callee.{Callee}
+use Rattle.lx_ir.specs.declared.instr.UnaryOp.TheVariants as unary
 use Rattle.lx_ir.specs.declared.instr.Op.{Op}
 use Rattle.lx_ir.specs.declared.instr.Op.TheVariants as op
 use Rattle.lx_ir.specs.IrType.{IrType}
@@ -49,7 +50,10 @@ use Rattle.lx_ir_round_trip.specs.Pieces.{is_apart}
 use Rattle.lx_ir_round_trip.specs.Printed.{Prints}
 use Rattle.lx_ir_round_trip.specs.Kept.{is_kept_type, is_kept_value, has_kept_type, has_kept_number, is_kept_op}
 use Rattle.lx_ir_round_trip.specs.Knows.{GivesRegister, StartsWith, may_stand}
-use Rattle.lx_ir_round_trip.proofs.Joining.{beside, same_text, regroup, reads_as, nothing, space, marked, last_mark, word, word_is, word_picks}
+use Rattle.lx_ir_tokens.specs.Keywords.{keyword_of}
+use Rattle.lx_words.specs.Lexemes.{lexeme_behind}
+use Rattle.lx_ir_tokens.specs.declared.keyword.Keyword.TheVariants as keyword
+use Rattle.lx_ir_round_trip.proofs.Joining.{IsWord, beside, same_text, regroup, reads_as, nothing, space, marked, last_mark, word, word_is, word_picks}
 use Rattle.lx_ir_round_trip.proofs.Elements.{StaysBehind, element, type_shut}
 use Rattle.lx_ir_round_trip.proofs.Names.{local}
 use Rattle.lx_ir_round_trip.proofs.PrintedConstants.{grouped}
@@ -57,7 +61,11 @@ use Rattle.lx_ir_round_trip.proofs.PrintedInits.{a_type}
 use Rattle.lx_ir_round_trip.proofs.PrintedOperands.{scalar_said, flagged, no_align, further, further_apart, items, operands_print, typed, second, address, again, labelled, target, edge_prints, case_prints}
 use Rattle.lx_ir_round_trip.proofs.PrintedCalls.{first, a_call, called, copy_prints, fill_prints, guard_prints, check_prints, enter_prints, leave_prints, pre_prints, post_prints}
 use Rattle.lx_ir_round_trip.proofs.Sayings.{Saying, Registers}
-use Rattle.lx_ir_round_trip.proofs.Words.{a_scalar, an_operator, a_predicate, a_conversion, the_conversion, a_void, to, word_icmp, word_freeze, word_select, word_phi, word_alloca, word_load, word_store, word_ret, word_br, word_switch, word_unreachable}
+use Rattle.lx_ir_round_trip.proofs.Words.{a_scalar, an_operator, a_predicate, a_conversion, the_conversion, a_void, to, word_icmp, word_select, word_phi, word_alloca, word_load, word_store, word_ret, word_br, word_switch, word_unreachable}
+
+word_freeze : IsWord (codes "freeze") (keyword.Instruction instructions.Freeze)
+unfolding keyword_of lexeme_behind
+word_freeze = record { word = refl; one_line = refl; keyword = refl; loud = refl; calm = refl }
 
 conversion_back : (c : Conversion) → conversion_of (the_conversion c) ≡ c
 conversion_back conversion.Trunc = refl
@@ -199,9 +207,9 @@ module _ {plain : Bool} {m : Module} {f : Function} {context : Context} (given :
       same_text (regroup (given_text f r) (conversion_word how ∷ codes " " ∷ operand_text m f from a ∷ into_text into ∷ []))
       (to_register r lt (reads_as (λ ts h. (the_conversion how, h, conversion_back how)) whole))
 
-  freeze_prints : (r : ℕ) (ty : Scalar) (a : Value) → r < register_count f → TheValues plain m f context (argument ty a ∷ []) → Prints plain context.names (op_text m f (op.Freeze r ty a)) (Formed context f form (op.Freeze r ty a))
+  freeze_prints : (r : ℕ) (ty : Scalar) (a : Value) → r < register_count f → TheValues plain m f context (argument ty a ∷ []) → Prints plain context.names (op_text m f (op.Unary r unary.Freeze ty a)) (Formed context f form (op.Unary r unary.Freeze ty a))
   freeze_prints r ty a lt vs =
-      same_text (regroup (given_text f r) (codes "freeze " ∷ operand_text m f ty a ∷ []))
+      same_text (regroup (given_text f r) (codes "freeze" ∷ codes " " ∷ operand_text m f ty a ∷ []))
       (to_register r lt (first instructions.Freeze word_freeze (flagged (typed context ty a vs.0))))
 
   select_prints : (r : ℕ) (c : Value) (ty : Scalar) (a b : Value) → r < register_count f → TheValues plain m f context (argument (Int W1) c ∷ argument ty a ∷ argument ty b ∷ []) → Prints plain context.names (op_text m f (op.Select r c ty a b)) (Formed context f form (op.Select r c ty a b))
@@ -296,7 +304,7 @@ module _ {plain : Bool} {m : Module} {f : Function} {context : Context} (given :
   form_prints (op.Binary r o ty a b) h k n vs l lt i = binary_prints r o ty a b lt vs
   form_prints (op.Compare r p ty a b) h k n vs l lt i = compare_prints r p ty a b lt vs
   form_prints (op.Convert r how from a into) h k n vs l lt i = convert_prints r how from a into lt vs
-  form_prints (op.Freeze r ty a) h k n vs l lt i = freeze_prints r ty a lt vs
+  form_prints (op.Unary r unary.Freeze ty a) h k n vs l lt i = freeze_prints r ty a lt vs
   form_prints (op.Select r c ty a b) h k n vs l lt i = select_prints r c ty a b lt vs
   form_prints (op.Phi r ty edges) h k n vs l lt i = phi_prints r ty edges lt h vs l
   form_prints (op.Alloca r ty) h k n vs l lt i = alloca_prints r ty lt h k

@@ -126,10 +126,6 @@ pub word_icmp : IsWord (codes "icmp") (keyword.Instruction instructions.Compare)
 unfolding keyword_of lexeme_behind
 word_icmp = record { word = refl; one_line = refl; keyword = refl; loud = refl; calm = refl }
 
-pub word_freeze : IsWord (codes "freeze") (keyword.Instruction instructions.Freeze)
-unfolding keyword_of lexeme_behind
-word_freeze = record { word = refl; one_line = refl; keyword = refl; loud = refl; calm = refl }
-
 pub word_select : IsWord (codes "select") (keyword.Instruction instructions.Select)
 unfolding keyword_of lexeme_behind
 word_select = record { word = refl; one_line = refl; keyword = refl; loud = refl; calm = refl }

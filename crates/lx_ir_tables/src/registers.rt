@@ -7,7 +7,7 @@ use crate::numbering::Numbering;
 use lx_ir::instr::{Argument, Instr};
 use lx_ir::module::{Block, Parameter, Value};
 use lx_ir_tokens::NameTable;
-use lx_ir_walks::{given_by, operands_where};
+use lx_ir_uses::{given_by, operands_where};
 use lx_words::Memory;
 use std::alloc::Global;
 

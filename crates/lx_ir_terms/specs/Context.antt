@@ -3,7 +3,7 @@ use Rattle.std.specs.Prelude.{ℕ, Bool, true, false, Option, Some, None, List, 
 use Rattle.std.specs.Option.{option_flatten}
 use Rattle.lx_ir.specs.declared.types.NamedType.{NamedType}
 use Rattle.lx_ir.specs.declared.module.Symbol.{Symbol}
-use Rattle.lx_ir_offsets.specs.Offsets.{Layouts}
+use Rattle.lx_ir.specs.Fitting.{Layouts}
 use Rattle.lx_ir_offsets.specs.Shapes.{Shape}
 use Rattle.lx_ir.specs.declared.module.Symbol.TheVariants.{Global}
 

@@ -3,9 +3,10 @@
 ghost use Rattle.std.specs.Prelude.{◌≡◌};
 ghost use Rattle.lx_ir_terms.specs.Context.{entry, unless_complete, type_number, symbol_of, register_number, bytes_of};
 
+use lx_ir::Layout;
 use lx_ir::module::Symbol;
 use lx_ir::types::NamedType;
-use lx_ir_offsets::{Layout, Shape};
+use lx_ir_offsets::Shape;
 use lx_ir_tokens::NameTable;
 use std::marker::Model;
 

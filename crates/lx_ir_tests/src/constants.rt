@@ -2,7 +2,7 @@
 
 use crate::common::Faulty;
 use lx_ir::module::{GlobalVar, Module};
-use lx_ir::print;
+use lx_ir::{NamedTypes, print};
 use lx_ir_constants::{init, is_misplaced};
 use lx_ir_terms::{Context, Fault, FaultKind, ReadError, Reader};
 use lx_ir_tokens::{IrTokens, read_tokens};
@@ -54,7 +54,7 @@ fn printed(alloc: Global, text: &[u8]) -> Result<Result<Vec<u8>, Fault>, Memory>
     let mut globals = Items::new(alloc);
     globals.push(global)?;
     let module = Module {
-        types: Items::new(alloc),
+        types: NamedTypes::empty(alloc),
         globals,
         functions: Items::new(alloc),
     };

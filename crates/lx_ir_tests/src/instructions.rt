@@ -3,7 +3,7 @@
 use crate::common::Faulty;
 use lx_ir::instr::{Instr, Op};
 use lx_ir::module::{Block, Function, Module, Symbol};
-use lx_ir::print;
+use lx_ir::{NamedTypes, print};
 use lx_ir_calls::TextForm;
 use lx_ir_instructions::instruction;
 use lx_ir_terms::{Context, Fault, FaultKind, ReadError, Reader};
@@ -81,7 +81,7 @@ fn module_of(alloc: Global, op: Op, locals: Names) -> Result<Module, Memory> {
         line: 1,
     })?;
     Ok(Module {
-        types: Items::new(alloc),
+        types: NamedTypes::empty(alloc),
         globals: Items::new(alloc),
         functions,
     })

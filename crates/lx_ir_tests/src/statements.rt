@@ -1,8 +1,8 @@
 //! Statements from text, as the printer writes them, and their faults.
 
 use lx_ir::module::{Block, Function, GlobalVar, Module, Parameter};
-use lx_ir::print;
 use lx_ir::types::{NamedType, Scalar};
+use lx_ir::{NamedTypes, print};
 use lx_ir_statements::{Defined, Statement, TextForm, statement};
 use lx_ir_terms::{Context, Fault, FaultKind, ReadError, Reader};
 use lx_ir_tokens::{IrTokens, read_tokens};
@@ -64,7 +64,7 @@ fn nameless(alloc: Global, types: &[Scalar]) -> Result<Items<Parameter>, Memory>
 /// A module without anything.
 fn empty(alloc: Global) -> Module {
     Module {
-        types: Items::new(alloc),
+        types: NamedTypes::empty(alloc),
         globals: Items::new(alloc),
         functions: Items::new(alloc),
     }
@@ -108,7 +108,9 @@ fn printed(alloc: Global, tokens: &IrTokens, statement: Statement) -> Result<Vec
         Statement::Type { name, ty } => {
             let name = name_of(alloc, tokens, name)?;
             let mut module = empty(alloc);
-            module.types.push(NamedType { name, ty })?;
+            let mut entries = Items::new(alloc);
+            entries.push(NamedType { name, ty })?;
+            module.types = NamedTypes::new(alloc, entries)?;
             print(alloc, &module)
         }
         Statement::Global {

@@ -70,7 +70,7 @@ effect_free : (p : Program) (a : Activation) (o : Op) → forget_effect (effect 
 effect_free p a (op.Binary to o ty x y) = division_free a _
 effect_free p a (op.Compare to pred ty x y) = refl
 effect_free p a (op.Convert to how from x into) = refl
-effect_free p a (op.Freeze to ty x) = refl
+effect_free p a (op.Unary to o ty x) = refl
 effect_free p a (op.Select to condition ty x y) = refl
 effect_free p a (op.Phi to ty edges) = refl
 effect_free p a (op.Alloca to ty) = refl

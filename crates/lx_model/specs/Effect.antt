@@ -16,6 +16,8 @@ use Rattle.lx_ir.specs.declared.instr.Callee.{Callee}
 use Rattle.lx_ir.specs.declared.instr.Callee.TheVariants as callee
 use Rattle.lx_ir.specs.declared.instr.Conversion.{Conversion}
 use Rattle.lx_ir.specs.declared.instr.Conversion.TheVariants.{SExt}
+use Rattle.lx_ir.specs.declared.instr.UnaryOp.{UnaryOp}
+use Rattle.lx_ir.specs.declared.instr.UnaryOp.TheVariants as unary
 use Rattle.lx_ir.specs.declared.instr.Op.{Op}
 use Rattle.lx_ir.specs.declared.instr.Op.TheVariants as op
 use Rattle.lx_ir.specs.Layout.{width_of, layout_of, element_offset}
@@ -136,12 +138,16 @@ types_of p a = (module_of p (text_of p a)).types
 abbrev pub indices_of : Program → Activation → List Argument → List ℤ
 indices_of p a indices = map (λ x. signed (operand p a x.value)) indices
 
+-- the result of an operator on one word
+abbrev pub unary_value : UnaryOp → Word → Word
+unary_value unary.Freeze w = w
+
 -- what a verified program never comes to ends as `unreachable` does
 abbrev pub effect : Program → Activation → Op → Effect
 effect p a (op.Binary to o ty x y) = division a (binary o (operand p a x) (operand p a y))
 effect p a (op.Compare to pred ty x y) = value_effect a (truth_word (compare pred (operand p a x) (operand p a y)))
 effect p a (op.Convert to how from x into) = value_effect a (conversion how (operand p a x) into)
-effect p a (op.Freeze to ty x) = value_effect a (operand p a x)
+effect p a (op.Unary to o ty x) = value_effect a (unary_value o (operand p a x))
 effect p a (op.Select to test ty x y) = value_effect a (choice (bits p a test) (operand p a x) (operand p a y))
 effect p a (op.Alloca to ty) =
     Wants (what.Alloca (next_multiple_of a.high (layout_of (types_of p a) ty).align) (layout_of (types_of p a) ty).size)

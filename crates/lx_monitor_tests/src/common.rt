@@ -12,6 +12,7 @@ use lx_annot::action::Annotation;
 use lx_annot::expr::Ty;
 use lx_annot::interface::{Interface, Slot};
 use lx_caps::CapStore;
+use lx_ir::NamedTypes;
 use lx_ir::module::{Function, Module};
 use lx_ir::types::Scalar;
 use lx_memory::Space;
@@ -42,7 +43,7 @@ pub fn module_with(alloc: Global, functions: Vec<Function>) -> Module
     ensures { result ≡ module_with functions.items }
 {
     Module {
-        types: Items::new(alloc),
+        types: NamedTypes::empty(alloc),
         globals: Items::new(alloc),
         functions: Items::from_vec(functions),
     }

@@ -70,7 +70,7 @@ pub effect_keeps : (p : Program) (t : ℕ) (a : Activation) (o : Op) → is_on_s
 effect_keeps p t a (op.Binary to o ty x y) on = divided p t a _
 effect_keeps p t a (op.Compare to pred ty x y) on = (refl, refl)
 effect_keeps p t a (op.Convert to how from x into) on = (refl, refl)
-effect_keeps p t a (op.Freeze to ty x) on = (refl, refl)
+effect_keeps p t a (op.Unary to o ty x) on = (refl, refl)
 effect_keeps p t a (op.Select to test ty x y) on = (refl, refl)
 effect_keeps p t a (op.Phi to ty edges) on = tt
 effect_keeps p t a (op.Alloca to ty) on =

@@ -164,7 +164,7 @@ pub effect-guarded : (c : Code) (h : Home) (p : Program) (a : Activation) (o : O
 effect-guarded c h p a (op.Binary to b ty x y) n = divided-guarded c h a _
 effect-guarded c h p a (op.Compare to pred ty x y) n = ap Moves (activation_behind-waiting c h _ a)
 effect-guarded c h p a (op.Convert to how from x into) n = ap Moves (activation_behind-waiting c h _ a)
-effect-guarded c h p a (op.Freeze to ty x) n = ap Moves (activation_behind-waiting c h _ a)
+effect-guarded c h p a (op.Unary to o ty x) n = ap Moves (activation_behind-waiting c h _ a)
 effect-guarded c h p a (op.Select to test ty x y) n = ap Moves (activation_behind-waiting c h _ a)
 effect-guarded c h p a (op.GetElementPtr to ty base indices) n = ap Moves (activation_behind-waiting c h _ a)
 effect-guarded c h p a (op.Call to ret x args) n = absurd (n tt)

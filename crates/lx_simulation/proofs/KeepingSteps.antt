@@ -83,7 +83,7 @@ effect_fits : (p : Program) (a : Activation) (o : Op) → EffectFits a (effect p
 effect_fits p a (op.Binary to b ty x y) = divided_fits a _
 effect_fits p a (op.Compare to pred ty x y) = (refl, refl, refl)
 effect_fits p a (op.Convert to how from x into) = (refl, refl, refl)
-effect_fits p a (op.Freeze to ty x) = (refl, refl, refl)
+effect_fits p a (op.Unary to o ty x) = (refl, refl, refl)
 effect_fits p a (op.Select to test ty x y) = (refl, refl, refl)
 effect_fits p a (op.GetElementPtr to ty base indices) = (refl, refl, refl)
 effect_fits p a (op.Alloca to ty) = next_above a.high _

@@ -7,7 +7,7 @@ ghost use Rattle.lx_spared.specs.Stack.{kept_room};
 use crate::rooms::{Table, close};
 use lx_ir::instr::{Argument, Instr, Op};
 use lx_ir::module::{Block, Value};
-use lx_ir_walks::operands_of;
+use lx_ir_uses::operands_of;
 use lx_words::Memory;
 use std::alloc::Global;
 

@@ -9,7 +9,7 @@ use crate::widening::widen_blocks;
 use indexmap::IndexMap;
 use lx_ir::instr::Op;
 use lx_ir::module::{Function, Module};
-use lx_ir_walks::blocks_of;
+use lx_ir_uses::blocks_of;
 use lx_words::Memory;
 use std::alloc::Global;
 use std::marker::Model;

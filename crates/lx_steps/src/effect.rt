@@ -11,7 +11,7 @@ use crate::elements::element;
 use crate::jumps::{branch, jump, switch};
 use crate::memory::{alloca, copy, fill, load, store};
 use crate::operand::operand;
-use crate::values::{binary, compare, convert, select};
+use crate::values::{binary, compare, convert, select, unary};
 use lx_code::Code;
 use lx_ir::instr::Op;
 use lx_model::request::{Trap, What};
@@ -49,7 +49,7 @@ pub fn instruction_effect(
         Op::Binary { op, a, b, .. } => Ok(binary(code, run, *op, a, b)),
         Op::Compare { pred, a, b, .. } => Ok(compare(code, run, *pred, a, b)),
         Op::Convert { how, a, into, .. } => Ok(convert(code, run, *how, a, into)),
-        Op::Freeze { a, .. } => Ok(Effect::Gives(operand(code, run, a))),
+        Op::Unary { op, a, .. } => Ok(Effect::Gives(unary(*op, operand(code, run, a)))),
         Op::Select {
             condition,
             a,

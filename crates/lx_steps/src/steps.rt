@@ -15,7 +15,7 @@ use crate::activation::{Activation, Range};
 use crate::operand::{blank_word, operand};
 use lx_code::{Code, width_of};
 use lx_ir::instr::{Edge, Instr, Op};
-use lx_ir_walks::given_by;
+use lx_ir_uses::given_by;
 use lx_words::{Memory, Width, Word};
 use std::alloc::Global;
 

@@ -1,7 +1,7 @@
 //! Instructions that give a value of their operands.
 ghost use Rattle.std.specs.Prelude.{◌≡◌};
 ghost use Rattle.lx_words.specs.Word.{binary, compare, word};
-ghost use Rattle.lx_model.specs.Effect.{operand, bits, division, value_effect, truth_word, conversion, choice};
+ghost use Rattle.lx_model.specs.Effect.{operand, bits, division, value_effect, truth_word, conversion, choice, unary_value};
 ghost use Rattle.lx_steps.specs.Effects.{effect_of};
 ghost use Rattle.lx_steps.specs.Standing.{run_of};
 
@@ -9,7 +9,7 @@ use crate::activation::Activation;
 use crate::effect::Effect;
 use crate::operand::operand;
 use lx_code::{Code, width_of};
-use lx_ir::instr::Conversion;
+use lx_ir::instr::{Conversion, UnaryOp};
 use lx_ir::module::Value;
 use lx_ir::types::Scalar;
 use lx_model::request::Trap;
@@ -22,6 +22,15 @@ pub(crate) fn binary(code: &Code, run: &Activation, op: BinOp, a: &Value, b: &Va
     match lx_words::binary(op, operand(code, run, a), operand(code, run, b)) {
         Ok(word) => Effect::Gives(word),
         Err(_) => Effect::Traps(Trap::Division),
+    }
+}
+
+/// The result of an operator on one word.
+pub(crate) fn unary(op: UnaryOp, word: Word) -> Word
+    ensures { result ≡ unary_value op word }
+{
+    match op {
+        UnaryOp::Freeze => word,
     }
 }
 

@@ -4,7 +4,7 @@ ghost use Rattle.std.specs.Prelude.{◌≡◌, IfOk};
 use crate::twins::{Twin, twins};
 use lx_ir::instr::Instr;
 use lx_ir::module::{Block, Function, Module};
-use lx_ir_copies::{Copied, copied_op, copies};
+use lx_ir_copies::{Copied, copied_named_types, copied_op, copies};
 use lx_words::{Items, Memory};
 use std::alloc::Global;
 
@@ -63,7 +63,7 @@ impl Twin for Function {
 pub fn copied_module(alloc: Global, m: &Module) -> Result<Module, Memory>
     ensures { IfOk result (λ copy. copy ≡ m.now) }
 {
-    let types = copies(alloc, m.types.as_slice())?;
+    let types = copied_named_types(alloc, &m.types)?;
     let globals = copies(alloc, m.globals.as_slice())?;
     let functions = twins(alloc, m.functions.as_slice())?;
     Ok(Module {

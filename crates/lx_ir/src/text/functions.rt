@@ -14,8 +14,8 @@ use crate::text::operands::Scope;
 use crate::text::pieces::{put, put_separator};
 use crate::text::types::put_scalar;
 use crate::text::values::{
-    put_alloca, put_binary, put_call, put_compare, put_convert, put_element, put_freeze, put_load,
-    put_phi, put_select, put_store,
+    put_alloca, put_binary, put_call, put_compare, put_convert, put_element, put_load, put_phi,
+    put_select, put_store, put_unary,
 };
 use lx_words::Memory;
 
@@ -33,7 +33,7 @@ fn put_op(out: &mut Vec<u8>, scope: Scope, op: &Op) -> Result<(), Memory>
             a,
             into,
         } => put_convert(out, scope, *to, *how, *from, *a, *into),
-        Op::Freeze { to, ty, a } => put_freeze(out, scope, *to, *ty, *a),
+        Op::Unary { to, op, ty, a } => put_unary(out, scope, *to, *op, *ty, *a),
         Op::Select {
             to,
             condition,

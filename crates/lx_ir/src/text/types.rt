@@ -80,7 +80,7 @@ pub fn put_type(out: &mut Vec<u8>, m: &Module, ty: &IrType) -> Result<(), Memory
 fn type_name(m: &Module, k: u32) -> &[u8]
     ensures { result.now ≡ type_name m.now.types k }
 {
-    match m.types.items.get(k as usize) {
+    match m.types.as_slice().get(k as usize) {
         Some(entry) => entry.name.as_slice(),
         None => b"",
     }

@@ -1,9 +1,9 @@
 //! The text of instructions that give values, and of calls.
 ghost use Rattle.std.specs.Prelude.{◌≡◌, ◌++◌, OnOk, codes, map, flat_map};
-ghost use Rattle.lx_ir.specs.Text.{op_text, operator_word, predicate_word, conversion_word, result_text, edge_text, place_text, callee_text, arguments_text, argument_text, comma_list};
+ghost use Rattle.lx_ir.specs.Text.{op_text, operator_word, predicate_word, result_text, edge_text, place_text, callee_text, arguments_text, argument_text, comma_list};
 ghost use Rattle.lx_ir.specs.declared.instr.Op.TheVariants as form;
 
-use crate::instr::{Argument, Callee, Conversion, Edge};
+use crate::instr::{Argument, Callee, Conversion, Edge, UnaryOp};
 use crate::module::Value;
 use crate::text::line::{Piece, put_pieces};
 use crate::text::operands::{Scope, put_argument, put_arguments, put_given_if};
@@ -46,19 +46,6 @@ fn predicate_word(pred: Pred) -> &'static [u8]
         Pred::Sge => b"sge",
         Pred::Slt => b"slt",
         Pred::Sle => b"sle",
-    }
-}
-
-/// The word of a conversion.
-pub fn conversion_word(how: Conversion) -> &'static [u8]
-    ensures { result.now ≡ conversion_word how }
-{
-    match how {
-        Conversion::Trunc => b"trunc",
-        Conversion::ZExt => b"zext",
-        Conversion::SExt => b"sext",
-        Conversion::PtrToInt => b"ptrtoint",
-        Conversion::IntToPtr => b"inttoptr",
     }
 }
 
@@ -129,7 +116,7 @@ pub fn put_convert(
         scope,
         &[
             Piece::Given(to),
-            Piece::Text(conversion_word(how)),
+            Piece::Text(how.word()),
             Piece::Text(b" "),
             Piece::Operand(from, a),
             Piece::Text(b" to "),
@@ -138,21 +125,23 @@ pub fn put_convert(
     )
 }
 
-pub fn put_freeze(
+pub fn put_unary(
     out: &mut Vec<u8>,
     scope: Scope,
     to: u32,
+    op: UnaryOp,
     ty: Scalar,
     a: Value,
 ) -> Result<(), Memory>
-    ensures { OnOk result (out.new.items ≡ out.old.items ++ op_text scope.entry.m.now scope.entry.f.now (form.Freeze to ty a)) }
+    ensures { OnOk result (out.new.items ≡ out.old.items ++ op_text scope.entry.m.now scope.entry.f.now (form.Unary to op ty a)) }
 {
     put_pieces(
         out,
         scope,
         &[
             Piece::Given(to),
-            Piece::Text(b"freeze "),
+            Piece::Text(op.word()),
+            Piece::Text(b" "),
             Piece::Operand(ty, a),
         ],
     )
