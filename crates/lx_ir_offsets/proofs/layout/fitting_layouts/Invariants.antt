@@ -1,6 +1,0 @@
-use Rattle.std.proofs.Common.{◌≡◌}
-use Rattle.lx_ir_offsets.specs.Offsets.{layouts_through}
-use Rattle.lx_ir_offsets.proofs.layout.fitting_layouts.Given as goal
-
-abbrev pub invariant-loop : goal.invariant-loop
-invariant-loop l = l.layouts ≡ layouts_through l.types l.counter
