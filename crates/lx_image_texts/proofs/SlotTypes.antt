@@ -23,7 +23,8 @@ use Rattle.lx_ir.specs.Lawful.{is_own_name}
 use Rattle.lx_annot.specs.declared.interface.Interface.{Interface}
 use Rattle.lx_slot_types.specs.Sites.{FieldName, Site, sites_at, function_value, init_sites, fields_at, named_fields_at, fields_of_global, global_fields_at, address_fields, element_fields, register_fields, store_sites, function_sites, sites_of}
 use Rattle.lx_slot_types.specs.Gets.{has_name, gets, below, slot_of}
-use Rattle.lx_propagate.specs.Slots.{Conflict, conflict, differ, other_slot, conflict_with, conflict_at, conflict_from, conflict_of, marked, mark_at, annotated_from, annotated_of}
+use Rattle.lx_slot_types.specs.Texts.{differ}
+use Rattle.lx_propagate.specs.Slots.{Conflict, conflict, other_slot, conflict_with, conflict_at, conflict_from, conflict_of, marked, mark_at, annotated_from, annotated_of}
 use Rattle.lx_image_texts.specs.Marks.{mark_of, image_op}
 use Rattle.lx_image_texts.specs.Guards.{unlined_global, ops_of, IsMarked, AreMarked, HasMarks, IsGuarded, AreGuarded, Guards}
 use Rattle.lx_image_texts.specs.ImageFaults.{without_body, without_wrappers}

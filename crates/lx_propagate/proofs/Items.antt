@@ -1,9 +1,13 @@
 -- The sites in the items of an initialiser, item by item.
-use Rattle.std.proofs.Common.{◌≡◌, ℕ, zero, suc, ◌+◌, ◌<◌, ◌≤◌, min, Option, List, [], ◌∷◌, ◌++◌, length, get_or, drop, refl, sym, ap, ◌∙◌, subst, arith, add-one, append_assoc, append-nil}
+use Rattle.std.proofs.Common.{◌≡◌, ℕ, zero, suc, ◌+◌, ◌<◌, ◌≤◌, min, List, [], ◌∷◌, ◌++◌, length, get_or, drop, refl, sym, ap, ◌∙◌, subst, arith, add-one}
+use Rattle.lx_annot.specs.declared.interface.Interface.{Interface}
+use Rattle.lx_ir.specs.declared.module.Module.{Module}
 use Rattle.lx_ir.specs.IrType.{IrType}
 use Rattle.lx_ir.specs.Init.{Init, Inits, no_more, more}
 use Rattle.lx_ir.specs.InitNodes.{inits_of_list}
-use Rattle.lx_slot_types.specs.Sites.{Site, field_if_named, function_init, init_sites, items_sites, sites_at}
+use Rattle.lx_slot_types.specs.Sites.{FieldName, Site, field_if_named, function_init, init_sites, items_sites, sites_at}
+use Rattle.lx_propagate.specs.Tables.{Table, Adds}
+use Rattle.lx_propagate.proofs.Adding.{adds_none, adds_then}
 
 abbrev item_sites : IrType → ℕ → IrType → Init → List Site
 item_sites t n u i = sites_at (field_if_named t n) (function_init i) ++ init_sites u i
@@ -28,17 +32,13 @@ items_end t (u ∷ ts) [] n k h = ap (λ js. items_sites t n (drop k (u ∷ ts))
 items_end t (u ∷ ts) (i ∷ is) n zero h = absurd (omega arith)
 items_end t (u ∷ ts) (i ∷ is) n (suc k) h = items_end t ts is n k (omega arith)
 
-pub items_more : (t : IrType) (ts : List IrType) (is : List Init) (k : ℕ) (u : IrType) (i : Init) (before now new : List Site) → k < length ts → k < length is → u ≡ get_or ts k u → i ≡ get_or is k i → before ≡ now ++ items_sites t k (drop k ts) (inits_of_list (drop k is)) → new ≡ now ++ sites_at (field_if_named t k) (function_init i) ++ init_sites u i → before ≡ new ++ items_sites t (k + 1) (drop (k + 1) ts) (inits_of_list (drop (k + 1) is))
-items_more t ts is k u i before now new h g p q e f =
-    let first = sites_at (field_if_named t k) (function_init i) in
+pub items_more : (i : Interface) (m : Module) (t : IrType) (ts : List IrType) (is : List Init) (k : ℕ) (u : IrType) (x : Init) (names : List FieldName) (all : List Site) (before now new : Table) → k < length ts → k < length is → u ≡ get_or ts k u → x ≡ get_or is k x → field_if_named t k ≡ names → ((c : Table) → Adds i m (items_sites t k (drop k ts) (inits_of_list (drop k is))) now c → Adds i m all before c) → Adds i m (sites_at names (function_init x) ++ init_sites u x) now new → (c : Table) → Adds i m (items_sites t (k + 1) (drop (k + 1) ts) (inits_of_list (drop (k + 1) is))) new c → Adds i m all before c
+items_more i m t ts is k u x names all before now new h g p q f go step c after =
     let rest : ℕ → List Site = λ j. items_sites t j (drop j ts) (inits_of_list (drop j is)) in
+    let item : List FieldName → List Site = λ ns. sites_at ns (function_init x) ++ init_sites u x in
     let n : suc k ≡ k + 1 = sym (add-one k) in
-    let r : new ≡ now ++ item_sites t k u i = f ∙ append_assoc now first (init_sites u i) in
-    e
-    ∙ (ap (λ xs. now ++ xs) (items_step t ts is k k u i h g p q)
-    ∙ (sym (append_assoc now (item_sites t k u i) (rest (suc k)))
-    ∙ (ap (λ xs. xs ++ rest (suc k)) (sym r) ∙ ap (λ j. new ++ rest j) n)))
+    let e : rest k ≡ item names ++ rest (k + 1) = items_step t ts is k k u x h g p q ∙ (λ j. item (f j) ++ rest (n j)) in
+    go c (subst (λ zs. Adds i m zs now c) (sym e) (adds_then i m (item names) (rest (k + 1)) now new c step after))
 
-pub items_done : (t : IrType) (ts : List IrType) (is : List Init) (k : ℕ) (before now : List Site) → min (length ts) (length is) ≤ k → before ≡ now ++ items_sites t k (drop k ts) (inits_of_list (drop k is)) → now ≡ before
-items_done t ts is k before now h e =
-    sym (append-nil now) ∙ (ap (λ xs. now ++ xs) (sym (items_end t ts is k k h)) ∙ sym e)
+pub items_done : (i : Interface) (m : Module) (t : IrType) (ts : List IrType) (is : List Init) (k : ℕ) (all : List Site) (before now : Table) → min (length ts) (length is) ≤ k → ((c : Table) → Adds i m (items_sites t k (drop k ts) (inits_of_list (drop k is))) now c → Adds i m all before c) → Adds i m all before now
+items_done i m t ts is k all before now h go = go now (subst (λ zs. Adds i m zs now now) (sym (items_end t ts is k k h)) (adds_none i m now))

@@ -1,8 +1,7 @@
+pub mod Adding
 pub mod Agree
-pub mod Below
-pub mod FieldLists
-pub mod Globals
 pub mod Items
+pub mod Names
 pub mod PartTypes
 pub mod Passes
 pub mod RowProofs

@@ -1,12 +1,12 @@
 -- The types of parts, and the field that the last index selects.
-use Rattle.std.proofs.Common.{◌≡◌, ℕ, zero, suc, ◌+◌, ◌<◌, ◌≤◌, Bool, true, false, Option, Some, None, List, [], ◌∷◌, length, map, drop, get_or, ℤ, refl, sym, ap, ◌∙◌, subst, arith, add-one}
-use Rattle.std.specs.Prelude.{slice_get, option_map, nat_abs}
+use Rattle.std.proofs.Common.{◌≡◌, ℕ, zero, suc, ◌+◌, ◌<◌, ◌≤◌, Bool, true, false, Some, None, List, [], ◌∷◌, length, map, drop, get_or, ℤ, refl, sym, ap, ◌∙◌, arith, add-one}
+use Rattle.std.specs.Prelude.{slice_get, nat_abs}
 use Rattle.lx_ir.specs.declared.types.NamedType.{NamedType}
 use Rattle.lx_ir.specs.declared.instr.Argument.{Argument}
 use Rattle.lx_ir.specs.IrType.{IrType, One, Array, Struct, Packed, Named, IrTypes, none, also}
-use Rattle.lx_ir.specs.Layout.{Layout, layout, beside, layout_of, unnamed, fields_of, list_of_types, Part, field_after, field_of, part_or, part_of, part_at}
+use Rattle.lx_ir.specs.Layout.{Layout, layout, beside, layout_of, unnamed, fields_of, list_of_types, field_after, part_or, part_of, part_at}
 use Rattle.lx_ir.specs.TypeNodes.{types_of_list}
-use Rattle.lx_slot_types.specs.Sites.{FieldName, behind_first, field_if_named, index_number, last_field}
+use Rattle.lx_slot_types.specs.Sites.{behind_first, field_if_named, index_number, last_field}
 use Rattle.lx_propagate.specs.Parts.{element_in, field_or}
 
 pub fields_listed : (ts : List IrType) → list_of_types (types_of_list ts) ≡ ts

@@ -1,5 +1,5 @@
 -- What is answered, and what the definitions say.
-use Rattle.std.specs.Prelude.{◌≡◌, Option, Some, None, List, Result, Ok, Err, MatchResult, ⊤}
+use Rattle.std.specs.Prelude.{◌≡◌, Option, Some, None, List, Result, MatchResult, ⊤}
 use Rattle.lx_ir.specs.declared.module.Module.{Module}
 use Rattle.lx_annot.specs.declared.interface.Interface.{Interface}
 use Rattle.lx_slot_types.specs.declared.Marked.{Marked}

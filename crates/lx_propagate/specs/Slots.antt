@@ -1,22 +1,14 @@
 -- The slot types that the functions of a module get, and the first function that gets two which differ.
-use Rattle.std.specs.Prelude.{ℕ, suc, Bool, not, ◌&&◌, Option, Some, None, List, [], ◌∷◌, ◌++◌, find, bytes_eq, length, slice_get, option_map, option_to_list, if◌then◌else◌}
+use Rattle.std.specs.Prelude.{ℕ, suc, ◌&&◌, Option, Some, None, List, [], ◌∷◌, ◌++◌, find, length, slice_get, option_map, option_to_list, if◌then◌else◌}
 use Rattle.std.specs.Option.{option_or}
 use Rattle.lx_ir.specs.declared.module.Function.{Function}
 use Rattle.lx_ir.specs.declared.module.Module.{Module}
 use Rattle.lx_ir.specs.Lookup.{is_defined}
-use Rattle.lx_annot.specs.Canonical.{Text, canonical}
 use Rattle.lx_annot.specs.declared.interface.Interface.{Interface}
 use Rattle.lx_annot.specs.declared.interface.Slot.{Slot}
 use Rattle.lx_slot_types.specs.Gets.{below, gets, slot_of}
+use Rattle.lx_slot_types.specs.Texts.{differ}
 use Rattle.lx_slot_types.specs.declared.Marked.{Marked}
-
-abbrev pub text_of_slot : Interface → Option Slot → Text
-text_of_slot i None = []
-text_of_slot i (Some s) = canonical i s.annotation
-
--- the canonical text of a slot type's annotation
-abbrev pub slot_text : Interface → ℕ → Text
-slot_text i s = text_of_slot i (slice_get i.slots s)
 
 abbrev pub name_of_slot : Option Slot → List ℕ
 name_of_slot None = []
@@ -24,10 +16,6 @@ name_of_slot (Some s) = s.name
 
 abbrev pub slot_name : Interface → ℕ → List ℕ
 slot_name i s = name_of_slot (slice_get i.slots s)
-
--- the annotations of two slot types are not the same
-abbrev pub differ : Interface → ℕ → ℕ → Bool
-differ i s t = not (bytes_eq (slot_text i s) (slot_text i t))
 
 -- the first slot type in interface order that the function gets and that differs from another
 abbrev pub other_slot : Interface → Module → ℕ → ℕ → Option ℕ

@@ -4,17 +4,17 @@ ghost use Rattle.std.specs.Prelude.{◌≡◌, IfOk, ⊤};
 ghost use Rattle.lx_ir.specs.Lawful.{IsLawful};
 ghost use Rattle.lx_propagate.specs.Answers.{GivesOr, Propagates, PropagatesOr};
 ghost use Rattle.lx_propagate.specs.Within.{HasLawfulTypes};
-ghost use Rattle.lx_propagate.specs.Marks.{marks_of};
+ghost use Rattle.lx_propagate.specs.Told.{HasSlotTypes};
 ghost use Rattle.lx_slot_types.specs.Gets.{slot_of};
 ghost use Rattle.lx_propagate.specs.Slots.{annotated_of, conflict_of};
 
-use crate::decide::{check_functions, first_in, marked_in};
+use crate::decide::{check_functions, marked_in};
 use crate::fault::PropagateFault;
-use crate::marks::{marks_of, slots_in};
 use crate::means::Means;
+use crate::slots::SlotTypes;
 use lx_annot::interface::Interface;
 use lx_ir::module::Module;
-use lx_slot_types::{Annotated, Marked};
+use lx_slot_types::Annotated;
 use lx_words::Memory;
 use std::alloc::Global;
 
@@ -23,12 +23,12 @@ fn check_module<M: Means>(
     means: &M,
     i: &Interface,
     m: &Module,
-    marks: &[Marked],
+    types: &SlotTypes,
 ) -> Result<(), PropagateFault>
-    requires { marks.now ≡ marks_of i.now m.now }
+    requires { HasSlotTypes i.now m.now types.now }
     ensures { GivesOr (M.lacks means.now) (conflict_of i.now m.now) result }
 {
-    check_functions(means, i, m.functions.as_slice(), marks)
+    check_functions(means, i, m.functions.as_slice(), types)
 }
 
 /// The functions of a module with their slot types.
@@ -36,13 +36,13 @@ pub fn annotated_of(
     alloc: Global,
     i: &Interface,
     m: &Module,
-    marks: &[Marked],
+    types: &SlotTypes,
 ) -> Result<Annotated, Memory>
     requires lawful { HasLawfulTypes m.now }
-    requires marks { marks.now ≡ marks_of i.now m.now }
+    requires types { HasSlotTypes i.now m.now types.now }
     ensures { IfOk result (λ list. list ≡ annotated_of i.now m.now) }
 {
-    let list = marked_in(alloc, i, m.functions.as_slice(), marks)?;
+    let list = marked_in(alloc, m.functions.as_slice(), types)?;
     Ok(Annotated::from_vec(list))
 }
 
@@ -52,10 +52,10 @@ fn propagate_by<M: Means>(means: &M, i: &Interface, m: &Module) -> Result<Annota
     requires { HasLawfulTypes m.now }
     ensures { PropagatesOr (M.lacks means.now) i.now m.now result }
 {
-    let marks = means.marks_of(i, m)?;
-    match check_module(means, i, m, &marks) {
+    let types = means.slot_types(i, m)?;
+    match check_module(means, i, m, &types) {
         Ok(()) => {
-            let list = means.annotated_of(i, m, &marks)?;
+            let list = means.annotated_of(i, m, &types)?;
             Ok(list)
         }
         Err(fault) => Err(fault),
@@ -69,8 +69,8 @@ fn propagate_by<M: Means>(means: &M, i: &Interface, m: &Module) -> Result<Annota
 /// # Errors
 /// `PropagateFault::Conflict` comes exactly where some function gets two slot types whose annotations have not the
 /// same canonical text; it names the first such function. `PropagateFault::Memory` comes only where there was no memory
-/// for the lists of sites, for the texts of annotations or for the names in the fault: a conflict is looked for in
-/// those lists and texts, so that one may go unseen for want of them, but none that was found is told as want of memory.
+/// for the tables, for the texts of annotations in them or for the names in the fault: a conflict is looked for in those
+/// tables, so that one may go unseen for want of them, but none that was found is told as want of memory.
 #[tactic(auto, using(crate::proofs::Passes::any_want, crate::proofs::Within::lawful_types))]
 pub fn propagate(alloc: Global, i: &Interface, m: &Module) -> Result<Annotated, PropagateFault>
     requires { IsLawful m.now }
@@ -89,8 +89,8 @@ pub fn annotated(alloc: Global, i: &Interface, m: &Module) -> Result<Annotated, 
     requires { HasLawfulTypes m.now }
     ensures { IfOk result (λ list. list ≡ annotated_of i.now m.now) }
 {
-    let marks = marks_of(alloc, i, m)?;
-    let list = annotated_of(alloc, i, m, &marks)?;
+    let types = SlotTypes::new(alloc, i, m)?;
+    let list = annotated_of(alloc, i, m, &types)?;
     Ok(list)
 }
 
@@ -104,13 +104,13 @@ pub fn check_conflicts(alloc: Global, i: &Interface, m: &Module) -> Result<(), P
     requires { HasLawfulTypes m.now }
     ensures { GivesOr ⊤ (conflict_of i.now m.now) result }
 {
-    let marks = marks_of(alloc, i, m)?;
-    check_module(&alloc, i, m, &marks)?;
+    let types = SlotTypes::new(alloc, i, m)?;
+    check_module(&alloc, i, m, &types)?;
     Ok(())
 }
 
 /// The first slot type in interface order that a function of a module gets, if it gets one. Want of memory is the only error.
-#[tactic(auto, using(crate::proofs::Agree::slot_is, crate::proofs::Within::lawful_types))]
+#[tactic(auto, using(crate::proofs::Within::lawful_types))]
 pub fn slot_of(
     alloc: Global,
     i: &Interface,
@@ -120,7 +120,6 @@ pub fn slot_of(
     requires { IsLawful m.now }
     ensures { IfOk result (λ slot. slot ≡ slot_of i.now m.now function) }
 {
-    let marks = marks_of(alloc, i, m)?;
-    let got = slots_in(alloc, function, &marks)?;
-    Ok(first_in(i, &got))
+    let types = SlotTypes::new(alloc, i, m)?;
+    Ok(types.slot_of(function))
 }

@@ -2,15 +2,15 @@
 
 ghost use Rattle.std.specs.Prelude.{◌≡◌, ◌∷◌, [], map, option_copied, option_to_list, slice_get};
 ghost use Rattle.lx_ir.specs.Layout.{fields_of, part_at, unnamed};
-ghost use Rattle.lx_slot_types.specs.Sites.{behind_first, element_fields, field_if_named, index_number, last_field};
+ghost use Rattle.lx_slot_types.specs.Sites.{behind_first, field_if_named, index_number, last_field};
 ghost use Rattle.lx_propagate.specs.Parts.{element_in, field_or};
 
 use crate::constants::field_number;
-use crate::fields::FieldName;
-use lx_ir::instr::{Argument, Op};
+use lx_ir::instr::Argument;
 use lx_ir::module::Module;
 use lx_ir::types::{IrType, TypeNode};
 use lx_ir::unnamed;
+use lx_slot_sums::FieldName;
 
 /// The field with a number, where the type is a named struct.
 pub fn field_if_named(t: &IrType, index: u64) -> Option<FieldName>
@@ -74,7 +74,7 @@ fn part_type<'a>(m: &'a Module, t: &'a IrType, index: &Argument) -> &'a IrType
 }
 
 /// The field that the last of several indices selects; the first counts whole values of the type.
-fn last_field(m: &Module, t: &IrType, indices: &[Argument]) -> Option<FieldName>
+pub fn last_field(m: &Module, t: &IrType, indices: &[Argument]) -> Option<FieldName>
     ensures { last_field m.now.types t.now (behind_first (map index_number indices.now)) ≡ option_to_list result }
 {
     if indices.len() < 2 {
@@ -86,25 +86,4 @@ fn last_field(m: &Module, t: &IrType, indices: &[Argument]) -> Option<FieldName>
         inner = part_type(m, inner, &indices[k]);
     }
     field_if_named(inner, field_number(&indices[last]))
-}
-
-/// The field that an instruction names, where it gives a register.
-pub fn element_field(m: &Module, register: u32, op: &Op) -> Option<FieldName>
-    ensures { element_fields m.now.types register op.now ≡ option_to_list result }
-{
-    match op {
-        Op::GetElementPtr {
-            to,
-            ty,
-            indices,
-            ..
-        } => {
-            if *to == register {
-                last_field(m, ty, indices.as_slice())
-            } else {
-                None
-            }
-        }
-        _ => None,
-    }
 }

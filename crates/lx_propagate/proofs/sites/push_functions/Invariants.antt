@@ -1,8 +1,0 @@
-use Rattle.std.proofs.Common.{◌≡◌, ◌++◌, map, take}
-use Rattle.std.specs.Prelude.{flat_map}
-use Rattle.lx_ir.specs.Lookup.{instrs_of}
-use Rattle.lx_slot_types.specs.Sites.{function_sites}
-use Rattle.lx_propagate.proofs.sites.push_functions.Given as goal
-
-abbrev pub invariant-loop-function : goal.invariant-loop-function
-invariant-loop-function l = l.out.items ≡ l.fn.out.items ++ flat_map (λ f. function_sites l.m (instrs_of f)) (take l.function-index l.m.functions)

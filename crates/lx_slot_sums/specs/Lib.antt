@@ -1,0 +1,5 @@
+pub mod Sums
+pub mod Classes
+pub mod Fields
+pub mod Known
+pub mod Within
