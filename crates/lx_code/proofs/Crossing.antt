@@ -1,8 +1,9 @@
 -- Code may be shared by threads.
-use denote.Param.Send.{IsSend, IsSync, sendable}
+use denote.Param.Send.{IsSync, sendable}
 use Rattle.std.proofs.Crossing.{crosses}
 use Rattle.lx_ir.proofs.Crossing.{module_field_sync}
 use Rattle.lx_model.proofs.Crossing.{program_sync, program_send}
+use Rattle.lx_code_tables.proofs.Crossing.{tables_sync as jumps_sync}
 use Rattle.lx_code.specs.contracts.targets.Target as Target
 use Rattle.lx_code.specs.contracts.tables.Tables as Tables
 use Rattle.lx_code.specs.contracts.code.ActionCounts as ActionCounts
@@ -27,7 +28,7 @@ pub tables_sync : IsSync Tables.the_row
 tables_sync = search (tables_field, sendable) depth 60 fits 20000
 
 pub code_field : IsSync (Code.the_field).row
-code_field = search (module_field_sync, program_sync, program_send, counts_sync, tables_field, crosses, sendable) depth 60 fits 20000
+code_field = search (module_field_sync, program_sync, program_send, counts_sync, tables_field, jumps_sync, crosses, sendable) depth 60 fits 20000
 
 pub code_sync : IsSync Code.the_row
 code_sync = search (code_field, sendable) depth 60 fits 20000

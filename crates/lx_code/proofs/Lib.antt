@@ -1,4 +1,5 @@
 pub mod Filled
 pub mod Firsts
+pub mod Found
 pub mod Names
 pub mod Crossing

@@ -1,3 +1,4 @@
+pub mod Jumps
 pub mod Places
 pub mod Reach
 pub mod Runnable

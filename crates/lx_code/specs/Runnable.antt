@@ -8,13 +8,17 @@ use Rattle.lx_code.specs.declared.targets.Target.{Target as Named}
 use Rattle.lx_code.specs.Places.{Key, HasAddresses}
 use Rattle.lx_code.specs.Reach.{IsWithinReach, CountsActions, HasLocals}
 use Rattle.lx_code.specs.Targets.{HasTables}
+use Rattle.lx_code.specs.Jumps.{HasJumps}
+use Rattle.lx_code_tables.specs.declared.tables.JumpTables.{JumpTables}
 
 -- the program is within reach; the table counts its actions, no function has more locals than this, the tables of the kernel
--- and of the modules tell what their functions name, and the last one has the addresses of globals
-pub record IsRunnable (p : Program) (empty : Module) (counts : List ActionCounts) (most : ℕ) (kernel : List Named) (modules : List (List Named)) (globals : List (Key × ℕ)) : Type 0 where
+-- and of the modules tell what their functions name, one has the addresses of globals, and the last ones tell where the
+-- jumps of each function go
+pub record IsRunnable (p : Program) (empty : Module) (counts : List ActionCounts) (most : ℕ) (kernel : List Named) (modules : List (List Named)) (globals : List (Key × ℕ)) (ways : List JumpTables) : Type 0 where
   pub reach : IsWithinReach p
   pub empty_text : empty ≡ empty_module
   pub actions : CountsActions p counts
   pub locals : HasLocals p most
   pub targets : HasTables p kernel modules
   pub addresses : HasAddresses p.globals globals
+  pub jumps : HasJumps p ways

@@ -1,14 +1,18 @@
 //! The code that a machine runs: what the numbers of a program name.
-ghost use Rattle.std.specs.Prelude.{◌≡◌, ℕ, ◌+◌, ◌<◌, Bool, true, IsTrue, IfOk, Option, Some, List, length, map, option_copied, option_and_then, slice_get, unwrap_or};
+ghost use Rattle.std.specs.Prelude.{◌≡◌, ℕ, ◌+◌, ◌<◌, Bool, true, IsTrue, IfOk, IfSome, Option, Some, List, length, map, bytes_eq, option_copied, option_and_then, position};
 ghost use Rattle.lx_model.specs.Program.{module_of, empty_module, function_of, function_of_entry, home_or_kernel, result_width, target, global_address};
 ghost use Rattle.lx_model.specs.Thread.{routine, routine_or_none, code_block_of};
 ghost use Rattle.lx_model.specs.Next.{actions_of, has_action};
 ghost use Rattle.lx_code.specs.Reach.{IsWithinReach, CountsActions, HasLocals, count_in};
+ghost use Rattle.lx_code.specs.Jumps.{op_at, IsCaseAt, IsEdgeAt};
 ghost use Rattle.lx_code.specs.Targets.{target_of};
 
+use crate::functions::{function_in, function_named};
+use crate::jumps::{first_block, first_case, first_edge, tables_of};
 use crate::tables::Tables;
 use crate::targets::Target;
 use crate::words::width_of;
+use lx_code_tables::JumpTables;
 use lx_ir::NamedTypes;
 use lx_ir::module::{Block, Function, Module};
 use lx_ir_uses::blocks_of;
@@ -33,6 +37,7 @@ pub struct Code {
     actions: Vec<ActionCounts>,
     most_locals: usize,
     tables: Tables,
+    jumps: Items<JumpTables>,
 }
 
 impl Model for Code {
@@ -47,39 +52,7 @@ impl Model for Code {
 
     ghost view = { λ c. arc_value c.program };
 
-    ghost invariant = { λ c. IsRunnable (arc_value c.program) c.empty c.actions.items c.most_locals c.tables.kernel c.tables.modules c.tables.addresses.entries };
-}
-
-// The function of a text with this number, and none for a native.
-fn function_in<'a>(text: &'a Module, number: u32) -> Option<&'a Function>
-    ensures { option_copied result ≡ slice_get text.now.functions number }
-{
-    text.functions.items.get(number as usize)
-}
-
-fn module_in(program: &Program, home: Option<u32>) -> Option<&Module>
-    ensures { unwrap_or (option_copied result) empty_module ≡ module_of program.now home }
-{
-    match home {
-        None => Some(&program.kernel),
-        Some(number) => match program.modules.items.get(number as usize) {
-            Some(found) => Some(&found.module),
-            None => None,
-        },
-    }
-}
-
-// The function that an entry of the program's list names, if a text defines it.
-fn function_named<'a>(program: &'a Program, entry: &ProgramFunction) -> Option<&'a Function>
-    ensures { option_copied result ≡ function_of_entry program.now (Some entry.now) }
-{
-    match entry {
-        ProgramFunction::Of { module, function } => match module_in(program, *module) {
-            Some(text) => function_in(text, *function),
-            None => None,
-        },
-        ProgramFunction::Native(_) => None,
-    }
+    ghost invariant = { λ c. IsRunnable (arc_value c.program) c.empty c.actions.items c.most_locals c.tables.kernel c.tables.modules c.tables.addresses.entries c.jumps };
 }
 
 // How many registers the instructions of an entry's function give.
@@ -149,12 +122,14 @@ impl Code {
     {
         let most_locals = most_locals(&program);
         let tables = Tables::new(alloc, &program)?;
+        let jumps = tables_of(alloc, &program)?;
         Ok(Code {
             program,
             empty: no_text(alloc),
             actions,
             most_locals,
             tables,
+            jumps,
         })
     }
 
@@ -278,5 +253,34 @@ impl Code {
             Some(function) => blocks_of(function),
             None => &[],
         }
+    }
+
+    /// The number of a function's first block with a label.
+    pub fn block_named(&self, number: u32, label: &[u8]) -> Option<usize>
+        ensures { result ≡ position (λ b. bytes_eq b.label label.now) (routine self.now number).blocks }
+    {
+        first_block(self.jumps.as_slice(), number, label)
+    }
+
+    /// The place of the first case that is equal to a number, if one is, in the switch at a place of a function's block.
+    /// None, where that has no table; then its cases have to be searched.
+    pub fn case(&self, number: u32, block: usize, place: usize, bits: u64) -> Option<Option<usize>>
+        ensures { IfSome result (λ found. IsCaseAt self.now (op_at (routine self.now number).blocks block place) bits found) }
+    {
+        first_case(self.jumps.as_slice(), number, block, place, bits)
+    }
+
+    /// The place of the first edge from a label, if one is, in the phi at a place of a function's block. None, where that
+    /// has no table; then its edges have to be searched.
+    pub fn edge(
+        &self,
+        number: u32,
+        block: usize,
+        place: usize,
+        label: &[u8],
+    ) -> Option<Option<usize>>
+        ensures { IfSome result (λ found. IsEdgeAt (op_at (routine self.now number).blocks block place) label.now found) }
+    {
+        first_edge(self.jumps.as_slice(), number, block, place, label)
     }
 }

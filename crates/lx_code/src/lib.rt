@@ -3,6 +3,8 @@
 
 mod code;
 mod constants;
+mod functions;
+mod jumps;
 mod places;
 mod tables;
 mod targets;

@@ -1,6 +1,6 @@
 pub mod Calls
 pub mod Stages
 pub mod Goings
+pub mod Nexts
 pub mod Takings
 pub mod Replies
-pub mod Registers

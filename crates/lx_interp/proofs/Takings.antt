@@ -109,7 +109,7 @@ same_room p old new (what.Copy to at len) e5 e6 e7 h = h
 same_room p old new (what.Fill to byte len) e5 e6 e7 h = h
 same_room p old new (what.Alloca at size) e5 e6 e7 h = subst HasSpace (sym e5) h
 same_room p old new (what.Enter way args) e5 e6 e7 h =
-    (subst (λ v. IsPrepared p args v.items) (sym e7) h.0, subst (λ v. vec_len v < vec_capacity v) (sym e6) h.1)
+    (subst (λ v. IsPrepared p args v.items (vec_capacity v)) (sym e7) h.0, subst (λ v. vec_len v < vec_capacity v) (sym e6) h.1)
 same_room p old new (what.Perform n post k env source dest) e5 e6 e7 h = subst (λ (o : Option KeptFrame). IsCounted (stage_on o)) (sym e5) h
 same_room p old new (what.Return low high) e5 e6 e7 h = h
 same_room p old new (what.Native k args) e5 e6 e7 h = h

@@ -1,5 +1,5 @@
 -- What a runner is: the thread that it stands for, what it asks, and what may answer it.
-use Rattle.std.specs.Prelude.{◌≡◌, ℕ, zero, suc, ◌+◌, ◌-◌, ◌≤◌, ◌<◌, ◌++◌, Bool, true, false, ◌&&◌, IsTrue, Option, Some, None, List, [], ◌∷◌, length, map, reverse, drop, replicate, nat_eq, nat_le, vec_len, vec_capacity, ⊤}
+use Rattle.std.specs.Prelude.{◌≡◌, ℕ, zero, suc, ◌+◌, ◌-◌, ◌≤◌, ◌<◌, Bool, true, false, ◌&&◌, IsTrue, Option, Some, None, List, [], ◌∷◌, length, map, reverse, drop, nat_eq, nat_le, vec_len, vec_capacity, ⊤}
 use Rattle.lx_words.specs.Word.{Word}
 use Rattle.lx_caps.specs.declared.Principal.{Principal}
 use Rattle.lx_caps.specs.declared.Principal.TheVariants.{Kernel}
@@ -13,7 +13,7 @@ use Rattle.lx_model.specs.declared.request.What.TheVariants as what
 use Rattle.lx_model.specs.declared.request.Request.{Request}
 use Rattle.lx_model.specs.declared.request.Reply.{Reply}
 use Rattle.lx_model.specs.declared.request.Reply.TheVariants as reply
-use Rattle.lx_model.specs.Thread.{Crossing, Frame, Stage, Pre, Body, Post, Thread, has_call, zero_word}
+use Rattle.lx_model.specs.Thread.{Crossing, Frame, Stage, Pre, Body, Post, Thread, has_call}
 use Rattle.lx_model.specs.Effect.{Effect}
 use Rattle.lx_model.specs.Next.{Asking, Step, Goes, Asks, next, step, steps_left, comes_to, request, if_paid, has_action, after_leaving, effect_step, instruction_step}
 use Rattle.lx_steps.specs.Standing.{run_of}
@@ -74,9 +74,9 @@ asking_or p t thread None = next p t thread
 abbrev pub asking_of : Program → Runner → Asking
 asking_of p r = asking_or p r.thread (thread_of p r) r.request
 
--- the registers of whatever function is entered with the arguments, with room to spare
-abbrev pub IsPrepared : Program → List Word → List Word → Type 0
-IsPrepared p args registers = (most : ℕ) × (registers ≡ args ++ replicate most zero_word) × HasLocals p most
+-- no registers yet, and room for those of whatever function is entered with the arguments
+abbrev pub IsPrepared : Program → List Word → List Word → ℕ → Type 0
+IsPrepared p args registers room = (most : ℕ) × (registers ≡ []) × (length args + most ≤ room) × HasLocals p most
 
 -- the function that runs has room for bytes of the stack more
 abbrev pub HasSpace : Option KeptFrame → Type 0
@@ -97,11 +97,11 @@ abbrev pub IsCounted : Option KeptStage → Type 0
 IsCounted (Some (kept_stage.Post k v)) = k < 4294967295
 IsCounted _ = ⊤
 
--- the runner has what the reply needs: registers and a place for the frame of an entered function, and a place for the
+-- the runner has what the reply needs: room for the registers and the frame of an entered function, and a place for the
 -- bytes that a function is given
 abbrev pub HasRoomFor : Program → Runner → What → Type 0
 HasRoomFor p r (what.Perform n post k env source dest) = IsCounted (stage_on r.top)
-HasRoomFor p r (what.Enter way args) = IsPrepared p args r.registers.items × (vec_len r.below < vec_capacity r.below)
+HasRoomFor p r (what.Enter way args) = IsPrepared p args r.registers.items (vec_capacity r.registers) × (vec_len r.below < vec_capacity r.below)
 HasRoomFor p r (what.Alloca at size) = HasSpace r.top
 HasRoomFor p r w = ⊤
 

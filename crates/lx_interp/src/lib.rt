@@ -4,6 +4,7 @@
 mod copies;
 mod ending;
 mod frame;
+mod registers;
 mod runner;
 
 pub use ending::Ending;

@@ -14,7 +14,7 @@ use lx_words::Word;
 use std::alloc::Global;
 
 /// The runner of a thread: its calls and how the first of them ended, the fuel of the one that runs, an outcome that
-/// it comes to, its frames, what it asks, and registers for the function that this may enter.
+/// it comes to, its frames, what it asks, and room for the registers of the function that this may enter.
 #[derive(Drop)]
 pub struct Runner {
     alloc: Global,

@@ -1,3 +1,4 @@
 pub mod Standing
 pub mod Effects
 pub mod Parts
+pub mod Phis

@@ -1,6 +1,7 @@
 -- The activation that a running function in code stands for.
-use Rattle.std.specs.Prelude.{ℕ, suc, Bool, true, false, Option, Some, None, List, [], ◌∷◌, drop, reverse, slice_get}
+use Rattle.std.specs.Prelude.{ℕ, suc, Bool, true, false, Option, Some, None, List, [], ◌∷◌, drop, option_and_then, option_map, reverse, slice_get, unwrap_or}
 use Rattle.lx_ir.specs.declared.instr.Op.{Op}
+use Rattle.lx_ir.specs.declared.instr.SwitchCase.{SwitchCase}
 use Rattle.lx_model.specs.declared.program.Program.{Program}
 use Rattle.lx_model.specs.Thread.{CodeBlock, Activation, routine}
 use Rattle.lx_model.specs.Effect.{is_phi, without_phis}
@@ -52,3 +53,11 @@ is_phi_in (Some o) = is_phi o
 
 abbrev pub phi_at : List Op → ℕ → Bool
 phi_at code place = is_phi_in (slice_get code place)
+
+-- what stands at a place, if there is a place
+abbrev pub item_at : {A : Type 0} → List A → Option ℕ → Option A
+item_at xs place = option_and_then (slice_get xs) place
+
+-- the label of the case at a place, or another one
+abbrev pub label_at : List SwitchCase → Option ℕ → List ℕ → List ℕ
+label_at cases place otherwise = unwrap_or (option_map (λ c. c.label) (item_at cases place)) otherwise

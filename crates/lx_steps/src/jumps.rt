@@ -1,36 +1,25 @@
 //! Instructions that end a block.
-ghost use Rattle.std.specs.Prelude.{◌≡◌, nat_eq, bytes_eq, position};
-ghost use Rattle.lx_model.specs.Effect.{jump_effect, chosen_label, bits, choice};
+ghost use Rattle.std.specs.Prelude.{◌≡◌, Some, nat_eq, IfSome};
+ghost use Rattle.lx_code.specs.Jumps.{op_at};
+ghost use Rattle.lx_model.specs.Effect.{effect, jump_effect, chosen_label, bits, choice};
+ghost use Rattle.lx_model.specs.Thread.{routine};
 ghost use Rattle.lx_steps.specs.Effects.{effect_of};
-ghost use Rattle.lx_steps.specs.Standing.{run_of};
+ghost use Rattle.lx_steps.specs.Standing.{label_at, run_of};
 
 use crate::activation::Activation;
 use crate::effect::Effect;
 use crate::operand::operand;
 use lx_code::Code;
-use lx_ir::instr::SwitchCase;
-use lx_ir::module::{Block, Value};
+use lx_ir::instr::{Op, SwitchCase};
+use lx_ir::module::Value;
 use lx_model::request::Trap;
 use lx_words::Name;
-
-fn is_named(block: &Block, label: &Name) -> bool
-    ensures { result ≡ bytes_eq block.now.name label.now }
-{
-    block.name.is_same(label.as_slice())
-}
-
-// The place of the block with a label.
-fn place_of(blocks: &[Block], label: &Name) -> Option<usize>
-    ensures { result ≡ position (λ b. bytes_eq b.name label.now) blocks.now }
-{
-    blocks.iter().position(|block| is_named(block, label))
-}
 
 /// Control goes to the block with a label.
 pub(crate) fn jump(code: &Code, run: &Activation, label: &Name) -> Effect
     ensures { effect_of code.now (run_of code.now run.now) result ≡ jump_effect code.now (run_of code.now run.now) label.now }
 {
-    match place_of(code.blocks(run.function), label) {
+    match code.block_named(run.function, label.as_slice()) {
         Some(number) => Effect::Jumps(number),
         None => Effect::Traps(Trap::Unreachable),
     }
@@ -89,4 +78,44 @@ pub(crate) fn switch(
 {
     let number = operand(code, run, value).bits;
     jump(code, run, chosen_label(code, run, number, otherwise, cases))
+}
+
+// The label of the case at a place, if there is a place.
+fn label_at<'a>(cases: &'a [SwitchCase], place: Option<usize>, otherwise: &'a Name) -> &'a Name
+    ensures { result.now ≡ label_at cases.now place otherwise.now }
+{
+    match place {
+        Some(place) => match cases.get(place) {
+            Some(case) => &case.label,
+            None => otherwise,
+        },
+        None => otherwise,
+    }
+}
+
+/// What a switch at a place of the block that runs does, by the table of its cases; none, where it has no table.
+pub(crate) fn switch_by_table(
+    code: &Code,
+    run: &Activation,
+    place: usize,
+    op: &Op,
+) -> Option<Effect>
+    requires { op_at (routine code.now run.now.function).blocks run.now.block place ≡ Some op.now }
+    ensures { IfSome result (λ e. effect_of code.now (run_of code.now run.now) e ≡ effect code.now (run_of code.now run.now) op.now) }
+{
+    match op {
+        Op::Switch {
+            value,
+            otherwise,
+            cases,
+            ..
+        } => {
+            let number = operand(code, run, value).bits;
+            match code.case(run.function, run.block, place, number) {
+                Some(found) => Some(jump(code, run, label_at(cases.as_slice(), found, otherwise))),
+                None => None,
+            }
+        }
+        _ => None,
+    }
 }

@@ -7,10 +7,12 @@ mod effect;
 mod elements;
 mod jumps;
 mod memory;
+mod next;
 mod operand;
 mod steps;
 mod values;
 
 pub use activation::{Activation, Range};
 pub use effect::{Effect, instruction_effect};
+pub use next::next_effect;
 pub use steps::{call_result, instruction, registers_of, returned};

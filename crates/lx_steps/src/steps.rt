@@ -1,14 +1,16 @@
 //! How a running function goes on.
-ghost use Rattle.std.specs.Prelude.{◌≡◌, ℕ, ◌+◌, ◌<◌, ◌≤◌, ◌++◌, Bool, Option, Some, List, IsTrue, IfSome, IfOk, OnErr, map, option_copied, option_map, replicate, slice_get, vec_len, vec_capacity};
+ghost use Rattle.std.specs.Prelude.{◌≡◌, ℕ, ◌+◌, ◌<◌, ◌≤◌, ◌++◌, Bool, Option, Some, List, IsTrue, IfSome, IfOk, OnOk, OnErr, map, option_copied, option_map, replicate, slice_get, vec_len, vec_capacity};
 ghost use Rattle.lx_ir.specs.declared.instr.Op.{Op};
 ghost use Rattle.lx_model.specs.Thread.{activation, activation_behind, routine, with_register, zero_word};
-ghost use Rattle.lx_model.specs.Effect.{arrival, edge_value, is_phi, returned_by, returned_value, site_result, call_result, types_of, with_phi, with_phis};
+ghost use Rattle.lx_model.specs.Effect.{arrival, edge_value, is_phi, returned_by, returned_value, site_result, call_result, types_of, with_phis};
 ghost use Rattle.lx_model.specs.Next.{with_alloca, without_allocas};
 ghost use Rattle.lx_words.specs.Word.{Word};
 ghost use Rattle.lx_code.specs.Reach.{is_sized};
-ghost use Rattle.lx_steps.specs.Standing.{block_at, front_at, head_of, phi_at, rest_from, run_of};
+ghost use Rattle.lx_steps.specs.Standing.{block_at, front_at, head_of, item_at, phi_at, rest_from, run_of};
+ghost use Rattle.lx_code.specs.Jumps.{op_at};
 ghost use Rattle.lx_steps.specs.Effects.{arrived_as};
-ghost use Rattle.std.specs.Prelude.{bytes_eq};
+ghost use Rattle.lx_steps.specs.Phis.{phi_words, with_words};
+ghost use Rattle.std.specs.Prelude.{bytes_eq, find, position};
 ghost use Rattle.lx_model.specs.declared.program.Program.{Program};
 
 use crate::activation::{Activation, Range};
@@ -18,6 +20,13 @@ use lx_ir::instr::{Edge, Instr, Op};
 use lx_ir_uses::given_by;
 use lx_words::{Memory, Width, Word};
 use std::alloc::Global;
+
+/// The number of a block, and the place of an instruction there.
+#[derive(Clone, Copy)]
+struct Place {
+    block: usize,
+    place: usize,
+}
 
 /// The most that the part of the stack of a function may end at.
 const MOST_HIGH: u64 = 0x8000_0000_0000_0000;
@@ -39,9 +48,9 @@ fn is_phi_at(instrs: &[Instr], place: usize) -> bool
     }
 }
 
-// The place of the next instruction: where a jump led to the block, its phis are behind it.
+/// The place of the next instruction: where a jump led to the block, its phis are behind it.
 #[tactic(auto, using(crate::proofs::Places::plain_here, crate::proofs::Places::phi_passed, crate::proofs::Places::found_here, crate::proofs::Places::at_the_end))]
-fn next_place(instrs: &[Instr], arrived: bool, from: usize) -> usize
+pub(crate) fn next_place(instrs: &[Instr], arrived: bool, from: usize) -> usize
     ensures { rest_from arrived from (map (λ i. i.op) instrs.now) ≡ front_at arrived result (map (λ i. i.op) instrs.now) }
 {
     if !arrived {
@@ -55,14 +64,15 @@ fn next_place(instrs: &[Instr], arrived: bool, from: usize) -> usize
     instrs.len()
 }
 
-fn instr_at(instrs: &[Instr], place: usize) -> Option<&Instr>
+/// The instruction at a place.
+pub(crate) fn instr_at(instrs: &[Instr], place: usize) -> Option<&Instr>
     ensures { option_copied result ≡ slice_get instrs.now place }
 {
     instrs.get(place)
 }
 
-// The instructions of the block that runs.
-fn instrs_of<'a>(code: &'a Code, run: &Activation) -> &'a [Instr]
+/// The instructions of the block that runs.
+pub(crate) fn instrs_of<'a>(code: &'a Code, run: &Activation) -> &'a [Instr]
     ensures { map (λ i. i.op) result.now ≡ (block_at (routine code.now run.now.function).blocks run.now.block).code }
 {
     match code.blocks(run.function).get(run.block) {
@@ -112,41 +122,99 @@ fn is_from(edge: &Edge, label: &[u8]) -> bool
     edge.label.is_same(label)
 }
 
-// The value of a phi on the edge from the block that runs.
-fn edge_value(code: &Code, before: &Activation, edges: &[Edge]) -> Word
+fn edge_at(edges: &[Edge], place: Option<usize>) -> Option<&Edge>
+    ensures { option_copied result ≡ item_at edges.now place }
+{
+    match place {
+        Some(place) => edges.get(place),
+        None => None,
+    }
+}
+
+// The first edge from a label: at the place that a table has, or searched where there is no table.
+#[tactic(auto, using(crate::proofs::Firsts::at_first))]
+fn edge_from<'a>(edges: &'a [Edge], label: &[u8], found: Option<Option<usize>>) -> Option<&'a Edge>
+    requires { IfSome found (λ place. place ≡ position (λ e. bytes_eq e.label label.now) edges.now) }
+    ensures { option_copied result ≡ find (λ e. bytes_eq e.label label.now) edges.now }
+{
+    match found {
+        Some(place) => edge_at(edges, place),
+        None => edges.iter().find(|edge| is_from(edge, label)),
+    }
+}
+
+// The value of a phi on the edge from the block that runs, whose place a table may have.
+fn edge_value(
+    code: &Code,
+    before: &Activation,
+    edges: &[Edge],
+    found: Option<Option<usize>>,
+) -> Word
+    requires { IfSome found (λ place. place ≡ position (λ e. bytes_eq e.label (run_of code.now before.now).label) edges.now) }
     ensures { result ≡ edge_value code.now (run_of code.now before.now) edges.now }
 {
-    let label = label_of(code, before);
-    match edges.iter().find(|edge| is_from(edge, label)) {
+    match edge_from(edges, label_of(code, before), found) {
         Some(edge) => operand(code, before, &edge.value),
         None => blank_word(),
     }
 }
 
-// The registers after an instruction of the block that a jump leads to: a phi gives its value.
-fn set_phi(code: &Code, before: &Activation, op: &Op, registers: &mut Vec<Word>)
-    ensures { registers.new.items ≡ with_phi code.now (run_of code.now before.now) op.now registers.old.items }
-{
-    if let Op::Phi { to, edges, .. } = op {
-        let word = edge_value(code, before, edges.as_slice());
-        set_register(registers, Some(*to), &Some(word));
-    }
+// The word that a phi gives its register.
+#[derive(Clone, Copy)]
+struct PhiWord {
+    register: u32,
+    word: Word,
 }
 
-// The registers after the phis of a block, each evaluated before any is given.
-fn after_phis(
+// The value of an instruction at a place of a block that a jump leads to is added, where it is a phi.
+fn add_phi(
+    code: &Code,
+    before: &Activation,
+    at: Place,
+    op: &Op,
+    words: &mut Vec<PhiWord>,
+) -> Result<(), Memory>
+    requires { op_at (routine code.now before.now.function).blocks at.block at.place ≡ Some op.now }
+    ensures { OnOk result (words.new.items ≡ words.old.items ++ phi_words code.now (run_of code.now before.now) op.now) }
+{
+    if let Op::Phi { to, edges, .. } = op {
+        let found = code.edge(before.function, at.block, at.place, label_of(code, before));
+        let word = edge_value(code, before, edges.as_slice(), found);
+        words.push(PhiWord {
+            register: *to,
+            word,
+        })?;
+    }
+    Ok(())
+}
+
+// The values of the phis of the block with a number, each on the registers as they are before any is given. A block without phis takes
+// no memory.
+fn phis_of(
     alloc: Global,
     code: &Code,
     before: &Activation,
+    block: usize,
     instrs: &[Instr],
-) -> Result<Vec<Word>, Memory>
-    ensures { IfOk result (λ registers. registers.items ≡ with_phis code.now (run_of code.now before.now) (map (λ i. i.op) instrs.now) before.now.registers.items) }
+) -> Result<Vec<PhiWord>, Memory>
+    requires { map (λ i. i.op) instrs.now ≡ (block_at (routine code.now before.now.function).blocks block).code }
+    ensures { IfOk result (λ words. with_words words.items before.now.registers.items ≡ with_phis code.now (run_of code.now before.now) (map (λ i. i.op) instrs.now) before.now.registers.items) }
 {
-    let mut registers = Vec::from_slice(alloc, before.registers.as_slice())?;
-    for instr in instrs {
-        set_phi(code, before, &instr.op, &mut registers);
+    let mut words = Vec::new(alloc);
+    for place in 0..instrs.len() {
+        let at = Place { block, place };
+        add_phi(code, before, at, &instrs[place].op, &mut words)?;
     }
-    Ok(registers)
+    Ok(words)
+}
+
+// The phis give their registers their words.
+fn give_phis(registers: &mut Vec<Word>, words: &[PhiWord])
+    ensures { registers.new.items ≡ with_words words.now registers.old.items }
+{
+    for phi in words {
+        set_register(registers, Some(phi.register), &Some(phi.word));
+    }
 }
 
 // The value that an instruction returns, where it is a `ret`.
@@ -243,8 +311,8 @@ impl Activation {
     {
         match code.blocks(self.function).get(block) {
             Some(found) => {
-                let registers = after_phis(alloc, code, self, found.instrs.as_slice())?;
-                self.registers = registers;
+                let words = phis_of(alloc, code, self, block, found.instrs.as_slice())?;
+                give_phis(&mut self.registers, words.as_slice());
                 self.block = block;
                 self.place = 0;
                 self.arrived = true;

@@ -8,6 +8,7 @@ ghost use Rattle.lx_steps.specs.declared.effect.Effect.TheVariants as effect;
 
 use super::Runner;
 use crate::frame::Frame;
+use crate::registers::empty_with_room;
 use lx_caps::{Principal, stack_start};
 use lx_code::Code;
 use lx_model::request::{Outcome, Request, Trap, What};
@@ -103,18 +104,16 @@ impl Runner {
         Ok(())
     }
 
-    // There are registers for whatever function is entered with the arguments, and a place for its frame.
+    // There is room for the registers of whatever function is entered with the arguments, and a place for its frame.
     pub(super) fn prepare(&mut self, code: &Code, args: &[Word]) -> Result<(), Memory>
-        ensures prepared { OnOk result (IsPrepared code.now args.now self.new.registers.items) }
+        ensures prepared { OnOk result (IsPrepared code.now args.now self.new.registers.items (vec_capacity self.new.registers)) }
         ensures place { OnOk result (vec_len self.new.below < vec_capacity self.new.below) }
         ensures rest { (p : Program) → IsRoomier p self.old self.new }
         ensures stays { (p : Program) → self.old.request ≡ None → HasStayed p self.old self.new }
         ensures spares { events_left self.new ≡ events_left self.old }
         ensures fuel { self.new.fuel ≡ self.old.fuel }
     {
-        let args = Vec::from_slice(self.alloc, args)?;
-        let registers = registers_of(args, code.most_locals())?;
-        self.registers = registers;
+        empty_with_room(&mut self.registers, args, code.most_locals())?;
         self.below.reserve(1)?;
         Ok(())
     }

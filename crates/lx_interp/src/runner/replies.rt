@@ -1,5 +1,5 @@
 //! What a reply does to the runner.
-ghost use Rattle.std.specs.Prelude.{◌≡◌, ℕ, ◌<◌, ◌≤◌, ◌+◌, ◌++◌, true, false, Some, None, IsTrue, replicate, vec_len, vec_capacity};
+ghost use Rattle.std.specs.Prelude.{◌≡◌, ℕ, ◌<◌, ◌≤◌, ◌+◌, ◌++◌, ◌∷◌, true, false, Some, None, IsTrue, replicate, vec_len, vec_capacity};
 ghost use Rattle.lx_words.specs.declared.word.Width.TheVariants.{W64};
 ghost use Rattle.lx_words.specs.Word.{word};
 ghost use Rattle.lx_model.specs.declared.program.Program.{Program};
@@ -8,12 +8,13 @@ ghost use Rattle.lx_model.specs.declared.request.What.TheVariants as what;
 ghost use Rattle.lx_model.specs.Program.{same_result};
 ghost use Rattle.lx_model.specs.Thread.{Frame as Meant, has_call, routine, zero_word};
 ghost use Rattle.lx_model.specs.Next.{absorb, after_action, after_end, after_entry, after_reply, after_ret, crossing_if, entered_frame, first_stage, fits_site, has_action, next_stage, thread_behind, way_address, with_stack_bytes, Asking};
-ghost use Rattle.lx_interp.specs.Runner.{Becomes, HasRoomFor, HasSpace, IsAsking, IsCounted, IsPrepared, IsSameBut, KeepsFuel, StandsFor, calls_left, crossing_of, events_left, end_in, frames_of, may_answer, reply_value, request_of, spends, stage_of, stage_on, thread_of};
+ghost use Rattle.lx_interp.specs.Runner.{Becomes, HasRoomFor, HasSpace, IsAsking, IsCounted, IsPrepared, IsSameBut, KeepsFuel, StandsFor, calls_left, crossing_of, events_left, end_in, frame_of, frames_of, may_answer, reply_value, request_of, spends, stage_of, stage_on, thread_of};
 
 use super::Runner;
 use super::steps::fuel_at;
 use crate::ending::Ending;
 use crate::frame::{Crossing, Frame, Stage};
+use crate::registers::fill;
 use lx_caps::Principal;
 use lx_code::Code;
 use lx_model::request::{Outcome, Reply, Request, Trap, Way, What};
@@ -171,16 +172,27 @@ impl Runner {
         }
     }
 
-    // The registers of a function that is entered with so many arguments.
+    // The registers of a function that is entered with these arguments. This takes no memory. The function has all of
+    // the room, of which the part that is left was never written to.
     fn take_registers(&mut self, code: &Code, args: &[Word], function: u32) -> Vec<Word>
-        ensures registers { IsPrepared code.now args.now self.old.registers.items → result.items ≡ args.now ++ replicate (routine code.now function).locals zero_word }
+        ensures registers { IsPrepared code.now args.now self.old.registers.items (vec_capacity self.old.registers) → result.items ≡ args.now ++ replicate (routine code.now function).locals zero_word }
         ensures rest { IsSameBut self.old self.new }
         ensures top { self.new.top ≡ self.old.top }
         ensures below { self.new.below ≡ self.old.below }
     {
         let mut registers = mem::replace(&mut self.registers, Vec::new(self.alloc));
-        registers.truncate(args.len().saturating_add(code.locals(function)));
+        fill(&mut registers, args, code.locals(function));
         registers
+    }
+
+    // A frame stands on the others, where a place was made for it.
+    fn push_in_place(&mut self, frame: Frame)
+        ensures frames { (p : Program) → vec_len self.old.below < vec_capacity self.old.below → frames_of p self.new.top self.new.below.items ≡ frame_of p frame ∷ frames_of p self.old.top self.old.below.items }
+        ensures rest { IsSameBut self.old self.new }
+    {
+        if self.below.len() < self.below.capacity() {
+            self.push(frame);
+        }
     }
 
     // A function is entered, by a way on which it may cross.
@@ -193,20 +205,18 @@ impl Runner {
         principal: Principal,
         crosses: bool,
     )
-        ensures becomes { IsPrepared code.now args self.old.registers.items → vec_len self.old.below < vec_capacity self.old.below → Becomes code.now self.old self.new (after_entry true (Script 0) (entered_frame code.now self.old.thread who args (frames_of code.now self.old.top self.old.below.items) function principal crosses) (thread_of code.now self.old)) }
+        ensures becomes { IsPrepared code.now args self.old.registers.items (vec_capacity self.old.registers) → vec_len self.old.below < vec_capacity self.old.below → Becomes code.now self.old self.new (after_entry true (Script 0) (entered_frame code.now self.old.thread who args (frames_of code.now self.old.top self.old.below.items) function principal crosses) (thread_of code.now self.old)) }
         ensures rest { KeepsFuel self.old self.new }
     {
         let registers = self.take_registers(code, args.as_slice(), function);
         let low = self.stack_top();
         let run = Activation::start(self.alloc, function, registers, low);
         let crossing = new_crossing(code, function, who, args, crosses);
-        if self.below.len() < self.below.capacity() {
-            self.push(Frame {
-                run,
-                principal,
-                crossing,
-            });
-        }
+        self.push_in_place(Frame {
+            run,
+            principal,
+            crossing,
+        });
         self.request = None;
     }
 

@@ -17,7 +17,7 @@ use lx_code::Code;
 use lx_model::model_laws;
 use lx_model::program::{Calls, ScriptCall};
 use lx_model::request::{Outcome, Request, Trap, Way, What};
-use lx_steps::{Effect, instruction, instruction_effect};
+use lx_steps::{Effect, next_effect};
 use lx_words::{Items, Memory};
 use std::alloc::Global;
 
@@ -103,17 +103,15 @@ impl Runner {
     }
 
     // The effect of the next instruction; none, where there is none.
+    #[tactic(auto, using(crate::proofs::Nexts::next_found))]
     fn next_effect(&self, code: &Code) -> Result<Option<Effect>, Memory>
         ensures { IfOk result (λ e. (t : ℕ) → (thread : Thread) → instruction_on code.now t thread self.now.top self.now.below.items ≡ found_on code.now t thread self.now.top self.now.below.items e) }
     {
         match &self.top {
-            Some(frame) => match instruction(code, &frame.run) {
-                Some(op) => {
-                    let effect = instruction_effect(self.alloc, code, &frame.run, op)?;
-                    Ok(Some(effect))
-                }
-                None => Ok(None),
-            },
+            Some(frame) => {
+                let effect = next_effect(self.alloc, code, &frame.run)?;
+                Ok(effect)
+            }
             None => Ok(None),
         }
     }

@@ -1,0 +1,13 @@
+use Rattle.std.proofs.Common.{subst, sym}
+use Rattle.std.specs.Arc.{arc_value}
+use Rattle.std.specs.Prelude.{IfSome}
+use Rattle.lx_model.specs.declared.program.Program.{Program}
+use Rattle.lx_model.specs.Thread.{routine}
+use Rattle.lx_code.specs.Jumps.{op_at, HasJumps, IsEdgeAt}
+use Rattle.lx_code.proofs.code.Code.edge.Goals as goal
+
+pub returns : goal.returns
+returns c =
+    let p = arc_value c.self.inside.program in
+    subst (λ (q : Program). IfSome c.first_edge.result (λ found. IsEdgeAt (op_at (routine q c.args.number).blocks c.args.block c.args.place) c.args.label.now found)) c.self.view_is
+    (c.first_edge.ensures p (subst (HasJumps p) (sym c.as_slice.ensures) c.self.invariant.jumps))

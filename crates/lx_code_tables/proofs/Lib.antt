@@ -1,0 +1,4 @@
+pub mod Copied
+pub mod Firsts
+pub mod Placed
+pub mod Crossing

@@ -1,0 +1,51 @@
+-- Tables at the places of instructions.
+use Rattle.std.proofs.Common.{◌≡◌, ◌∙◌, refl, sym, ap, subst, ℕ, Bool, true, false, cond, nat_eq, Option, Some, None, List, arith}
+use Rattle.std.specs.Prelude.{IfSome, slice_get, option_map, option_and_then}
+use Rattle.std.proofs.lemmas.Bool.{and_parts}
+use Rattle.std.proofs.lemmas.Bool.Decides.{nat_tests}
+use Rattle.lx_ir.specs.declared.instr.Edge.{Edge}
+use Rattle.lx_ir.specs.declared.instr.Instr.{Instr}
+use Rattle.lx_ir.specs.declared.instr.SwitchCase.{SwitchCase}
+use Rattle.lx_ir.specs.declared.instr.Op.{Op}
+use Rattle.lx_ir.specs.declared.instr.Op.TheVariants as op
+use Rattle.lx_ir.specs.declared.module.Block.{Block}
+use Rattle.lx_ir.specs.declared.module.Value.{Value}
+use Rattle.lx_ir.specs.declared.types.Scalar.{Scalar}
+use Rattle.lx_code_tables.specs.Fits.{op_at, same_place, FitsAt, FitsOp}
+use Rattle.lx_code_tables.specs.declared.choices.Choices.{Choices}
+
+-- the table of an instruction fits it
+
+pub switch_fits : (ty : Scalar) (v : Value) (otherwise : List ℕ) (cases xs : List SwitchCase) (found : Option Choices) → xs ≡ cases
+    → IfSome found (λ table. (ty : Scalar) → (v : Value) → (otherwise : List ℕ) → FitsOp (op.Switch ty v otherwise xs) table) → FitsAt (Some (op.Switch ty v otherwise cases)) found
+switch_fits ty v otherwise cases xs None is fits = _
+switch_fits ty v otherwise cases xs (Some table) is fits = subst (λ (l : List SwitchCase). FitsOp (op.Switch ty v otherwise l) table) is (fits ty v otherwise)
+
+pub phi_fits : (to : ℕ) (ty : Scalar) (edges xs : List Edge) (found : Option Choices) → xs ≡ edges
+    → IfSome found (λ table. (to : ℕ) → (ty : Scalar) → FitsOp (op.Phi to ty xs) table) → FitsAt (Some (op.Phi to ty edges)) found
+phi_fits to ty edges xs None is fits = _
+phi_fits to ty edges xs (Some table) is fits = subst (λ (l : List Edge). FitsOp (op.Phi to ty l) table) is (fits to ty)
+
+-- the instruction at a place of a block
+pub op_placed : (blocks : List Block) (b : Block) (n k : ℕ) (instrs : List Instr) (i : Instr) → slice_get blocks n ≡ Some b → b.instrs ≡ instrs → slice_get instrs k ≡ Some i → op_at blocks n k ≡ Some i.op
+op_placed blocks b n k instrs i block is at =
+    ap (λ (o : Option Block). option_map (λ (x : Instr). x.op) (option_and_then (λ (x : Block). slice_get x.instrs k) o)) block
+    ∙ ap (λ (xs : List Instr). option_map (λ (x : Instr). x.op) (slice_get xs k)) is
+    ∙ ap (option_map (λ (x : Instr). x.op)) at
+
+same_number : (m n : ℕ) → nat_eq m n ≡ true → m ≡ n
+same_number m n e = grind (arith, nat_tests, e)
+
+-- one table more
+module _ (blocks : List Block) (block place b k : ℕ) (o : Op) (table : Choices) (old : Option Choices)
+    (fits : FitsAt (Some o) (Some table)) (at : op_at blocks block place ≡ Some o) (kept : FitsAt (op_at blocks b k) old) where
+  by_test : (t : Bool) → same_place (block, place) (b, k) ≡ t → FitsAt (op_at blocks b k) (cond t (Some table) old)
+  by_test true e =
+      let both = and_parts (nat_eq block b) (nat_eq place k) e in
+      let here : op_at blocks b k ≡ Some o =
+      ap (λ (n : ℕ). op_at blocks n k) (sym (same_number block b both.0)) ∙ ap (op_at blocks block) (sym (same_number place k both.1)) ∙ at in
+      subst (λ (x : Option Op). FitsAt x (Some table)) (sym here) fits
+  by_test false e = kept
+
+  pub one_more : (found : Option Choices) → found ≡ cond (same_place (block, place) (b, k)) (Some table) old → FitsAt (op_at blocks b k) found
+  one_more found is = subst (FitsAt (op_at blocks b k)) (sym is) (by_test (same_place (block, place) (b, k)) refl)

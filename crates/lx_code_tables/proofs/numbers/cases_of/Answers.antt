@@ -1,0 +1,6 @@
+use Rattle.lx_code_tables.specs.Firsts.{is_case}
+use Rattle.lx_code_tables.proofs.Firsts.{first_all}
+use Rattle.lx_code_tables.proofs.numbers.cases_of.Goals as goal
+
+pub returns : goal.returns
+returns c = λ n. first_all (is_case n) c.args.cases.now c.loop-left.left _ c.loop-left-test.false (c.loop-left.invariant.so_far n)
