@@ -53,7 +53,7 @@ by_first : {A : Type 0} (b : Bool) (x : A) (o : Option A) (r : Bool) → r ≡ i
 by_first true x o r h = refl
 by_first false x o r h = h
 
-any_found : {A : Type 0} (p : A → Bool) (xs : List A) → list_any p xs ≡ is_some (find p xs)
+pub any_found : {A : Type 0} (p : A → Bool) (xs : List A) → list_any p xs ≡ is_some (find p xs)
 any_found p [] = refl
 any_found p (x ∷ xs) = by_first (p x) x (find p xs) (list_any p xs) (any_found p xs)
 

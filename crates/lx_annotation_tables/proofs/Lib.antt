@@ -3,3 +3,4 @@ pub mod Reached
 pub mod Told
 pub mod CountTables
 pub mod ImageTables
+pub mod Rising

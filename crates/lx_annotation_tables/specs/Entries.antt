@@ -1,5 +1,5 @@
 -- The functions of a program by number.
-use Rattle.std.specs.Prelude.{◌≡◌, true, Option, Some, List, map, option_and_then, slice_get, ⊤}
+use Rattle.std.specs.Prelude.{◌≡◌, ℕ, suc, ◌≤◌, true, Option, Some, List, [], ◌∷◌, map, option_and_then, slice_get, ⊤}
 use Rattle.lx_ir.specs.declared.module.Function.{Function}
 use Rattle.lx_ir.specs.Lookup.{is_defined}
 use Rattle.lx_annot.specs.declared.action.Annotation.{Annotation}
@@ -14,7 +14,7 @@ use Rattle.lx_serve.specs.Sources.{annotation_at}
 use Rattle.lx_propagate.specs.Slots.{annotated_of}
 
 -- a function that its text defines
-pub record IsDefinedAt (functions : List Function) (k : Rattle.std.specs.Prelude.ℕ) : Type 0 where
+pub record IsDefinedAt (functions : List Function) (k : ℕ) : Type 0 where
   pub function : Function
   pub there : slice_get functions k ≡ Some function
   pub defined : is_defined function ≡ true
@@ -35,3 +35,12 @@ annotation_by p source = option_and_then (annotation_at p.interface) source
 -- the functions of each module that get a slot type
 abbrev pub all_annotated : Program → List (List Marked)
 all_annotated p = map (λ (m : ProgramModule). annotated_of p.interface m.«module») p.modules
+
+-- functions in the order of their numbers, from this number on
+abbrev pub RisesFrom : ℕ → List Marked → Type 0
+RisesFrom n [] = ⊤
+RisesFrom n (x ∷ xs) = (n ≤ x.function) × RisesFrom (suc x.function) xs
+
+-- no two of one number
+unfoldable pub IsRising : List Marked → Type 0
+IsRising xs = RisesFrom 0 xs

@@ -1,15 +1,16 @@
 //! What the images of modules have beyond the modules.
-ghost use Rattle.std.specs.Prelude.{◌≡◌, ◌+◌, IfOk, Some, count_by, length, map, nat_eq};
-ghost use Rattle.std.specs.List.{enumerate_from, flat_map, list_any};
+ghost use Rattle.std.specs.Prelude.{◌≡◌, ◌+◌, IfOk, Some, count_by, length, map};
+ghost use Rattle.std.specs.List.{enumerate_from, flat_map};
 ghost use Rattle.lx_ir.specs.Lookup.{instrs_of, is_write};
 ghost use Rattle.lx_model.specs.Account.{image_count};
 ghost use Rattle.lx_slot_types.specs.Gets.{below};
 ghost use Rattle.lx_propagate.specs.Slots.{annotated_of};
 ghost use Rattle.lx_annot.specs.declared.interface.Interface.{Interface};
-ghost use Rattle.lx_annotation_tables.specs.Entries.{all_annotated};
+ghost use Rattle.lx_annotation_tables.specs.Entries.{IsRising, all_annotated};
 ghost use Rattle.lx_annotation_tables.specs.Images.{image_of, inserted_in, is_behind, is_wrapped};
 ghost use Rattle.lx_annotation_tables.specs.declared.images.Inserted.TheVariants as inserted;
 
+use crate::marked::is_annotated;
 use lx_ir::instr::{Instr, Op};
 use lx_ir::module::{Block, Function, Module};
 use lx_link_texts::{is_alias, is_indirect_call};
@@ -102,16 +103,9 @@ fn count_functions(what: Inserted, functions: &[Function]) -> Result<u64, Memory
     Ok(total)
 }
 
-fn is_annotated(annotated: &[Marked], number: usize) -> bool
-    ensures { result ≡ list_any (λ y. nat_eq y.function number) annotated.now }
-{
-    annotated
-        .iter()
-        .any(|marked| marked.function as usize == number)
-}
-
 #[tactic(auto, unfolding(crate::specs::Images::is_wrapped))]
 fn is_wrapped(annotated: &[Marked], number: usize, function: &Function) -> bool
+    requires { IsRising annotated.now }
     ensures { result ≡ is_wrapped annotated.now (number, function.now) }
 {
     if function.blocks.is_some() {
@@ -124,6 +118,7 @@ fn is_wrapped(annotated: &[Marked], number: usize, function: &Function) -> bool
 /// How many functions of a module are called through a wrapper.
 #[tactic(auto, using(crate::proofs::ImageTables::wrapped_more, crate::proofs::ImageTables::wrapped_all))]
 fn count_wrappers(annotated: &[Marked], functions: &[Function]) -> u64
+    requires { IsRising annotated.now }
     ensures { result ≡ count_by (is_wrapped annotated.now) (enumerate_from 0 functions.now) }
 {
     let mut count = 0u64;
@@ -137,6 +132,7 @@ fn count_wrappers(annotated: &[Marked], functions: &[Function]) -> u64
 
 #[tactic(auto, using(crate::proofs::ImageTables::image_by))]
 fn image_of(text: &Module, annotated: &[Marked]) -> Result<ImageCount, Memory>
+    requires { IsRising annotated.now }
     ensures { IfOk result (λ image. (i : Interface) → annotated.now ≡ annotated_of i text.now → image ≡ image_of i text.now) }
 {
     let functions = text.functions.as_slice();

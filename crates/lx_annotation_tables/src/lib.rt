@@ -5,6 +5,7 @@ ghost use Rattle.lx_annotation_tables.specs.Laws.{AreLinked, AreWithinReach};
 
 mod counts;
 mod images;
+mod marked;
 mod sources;
 
 pub use counts::action_counts;

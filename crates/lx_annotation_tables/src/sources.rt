@@ -1,33 +1,26 @@
 //! Where the annotations of functions stand.
-ghost use Rattle.std.specs.Prelude.{◌≡◌, ◌<◌, ◌^◌, IfOk, IfSome, None, Some, bytes_eq, find, length, nat_eq, option_copied, option_map, position, slice_get};
+ghost use Rattle.std.specs.Prelude.{◌≡◌, ◌<◌, ◌^◌, IfOk, None, Some, bytes_eq, find, length, nat_eq, option_copied, option_map, position, slice_get};
 ghost use Rattle.lx_link_texts.specs.WellFormed.{IsWellFormed};
 ghost use Rattle.lx_model.specs.declared.program.ProgramFunction.TheVariants as functions;
 ghost use Rattle.lx_serve.specs.declared.source.Source.TheVariants as source;
 ghost use Rattle.lx_serve.specs.Sources.{Knows};
-ghost use Rattle.lx_annotation_tables.specs.Entries.{IsEntry, all_annotated, annotation_by, annotation_of};
+ghost use Rattle.lx_annotation_tables.specs.Entries.{IsEntry, IsRising, all_annotated, annotation_by, annotation_of};
 
-use lx_annot::interface::{Export, Interface};
+use crate::marked::marked_in;
 use lx_ir::module::{Function, Module};
 use lx_model::program::{Program, ProgramFunction};
+use lx_name_tables::InterfaceNames;
 use lx_serve::Source;
-use lx_slot_types::{Annotated, Marked};
+use lx_slot_types::Annotated;
 use lx_words::Memory;
 use std::alloc::Global;
 
-/// The first export of a name.
-fn export_place(exports: &[Export], name: &[u8]) -> Option<usize>
-    ensures place { result ≡ position (λ e. bytes_eq e.name name.now) exports.now }
-    ensures small { IfSome result (λ n. n < length exports.now) }
-{
-    exports.iter().position(|export| export.name.is_same(name))
-}
-
 /// Where the annotation of an exported function stands.
-fn export_source(interface: &Interface, function: &Function) -> Option<Source>
+fn export_source(interface: &InterfaceNames<'_>, function: &Function) -> Option<Source>
     requires { length interface.now.exports < 2 ^ 32 }
     ensures { result ≡ option_map source.Export (position (λ e. bytes_eq e.name function.now.name) interface.now.exports) }
 {
-    match export_place(interface.exports.as_slice(), function.name.as_slice()) {
+    match interface.export_place(function.name.as_slice()) {
         Some(place) => Some(Source::Export(place as u32)),
         None => None,
     }
@@ -41,27 +34,23 @@ fn function_in(text: &Module, number: u32) -> Option<&Function>
 
 /// Where the annotation of a function of the kernel stands.
 #[tactic(auto, using(crate::proofs::Told::kernel_untold))]
-fn kernel_source(program: &Program, function: u32) -> Option<Source>
-    requires { length program.now.interface.exports < 2 ^ 32 }
+fn kernel_source(program: &Program, interface: &InterfaceNames<'_>, function: u32) -> Option<Source>
+    requires few { length interface.now.exports < 2 ^ 32 }
+    requires same { interface.now ≡ program.now.interface }
     ensures { annotation_by program.now result ≡ annotation_of program.now (functions.Of None function) }
 {
     match function_in(&program.kernel, function) {
-        Some(function) => export_source(&program.interface, function),
+        Some(function) => export_source(interface, function),
         None => None,
     }
 }
 
-fn marked_in(annotated: &[Marked], function: u32) -> Option<&Marked>
-    ensures { option_copied result ≡ find (λ x. nat_eq x.function function) annotated.now }
-{
-    annotated.iter().find(|marked| marked.function == function)
-}
-
 /// Where the annotation of a module's function stands that is among the annotated ones.
 fn slot_source(annotated: &Annotated, function: u32) -> Option<Source>
+    requires { IsRising annotated.now }
     ensures { result ≡ option_map (λ x. source.Slot x.slot) (find (λ x. nat_eq x.function function) annotated.now) }
 {
-    match marked_in(annotated.as_slice(), function) {
+    match marked_in(annotated.as_slice(), function as usize) {
         Some(marked) => Some(Source::Slot(marked.slot)),
         None => None,
     }
@@ -93,8 +82,14 @@ fn module_source(
 
 /// Where the annotation of a function stands.
 #[tactic(auto, using(crate::proofs::Told::native_told))]
-fn source_of(program: &Program, annotated: &[Annotated], entry: &ProgramFunction) -> Option<Source>
-    requires few { length program.now.interface.exports < 2 ^ 32 }
+fn source_of(
+    program: &Program,
+    interface: &InterfaceNames<'_>,
+    annotated: &[Annotated],
+    entry: &ProgramFunction,
+) -> Option<Source>
+    requires few { length interface.now.exports < 2 ^ 32 }
+    requires same { interface.now ≡ program.now.interface }
     requires entry { IsEntry program.now entry.now }
     requires annotated { annotated.now ≡ all_annotated program.now }
     ensures { annotation_by program.now result ≡ annotation_of program.now entry.now }
@@ -102,10 +97,29 @@ fn source_of(program: &Program, annotated: &[Annotated], entry: &ProgramFunction
     match *entry {
         ProgramFunction::Native(_) => None,
         ProgramFunction::Of { module, function } => match module {
-            None => kernel_source(program, function),
+            None => kernel_source(program, interface, function),
             Some(home) => module_source(program, annotated, home, function),
         },
     }
+}
+
+/// Where the annotation of each function of a program stands, over the names of its interface.
+fn named_sources(
+    alloc: Global,
+    program: &Program,
+    interface: &InterfaceNames<'_>,
+    annotated: &[Annotated],
+) -> Result<Vec<Option<Source>>, Memory>
+    requires well_formed { IsWellFormed program.now }
+    requires same { interface.now ≡ program.now.interface }
+    requires annotated { annotated.now ≡ all_annotated program.now }
+    ensures { IfOk result (λ sources. Knows program.now sources.items) }
+{
+    let mut sources = Vec::new(alloc);
+    for entry in program.functions.as_slice() {
+        sources.push(source_of(program, interface, annotated, entry))?;
+    }
+    Ok(sources)
 }
 
 /// Where the annotation of each function of a program stands: of an exported function of the kernel at its export, and
@@ -123,9 +137,8 @@ pub fn sources_of(
     requires annotated { annotated.now ≡ all_annotated program.now }
     ensures { IfOk result (λ sources. Knows program.now sources.items) }
 {
-    let mut sources = Vec::new(alloc);
-    for entry in program.functions.as_slice() {
-        sources.push(source_of(program, annotated, entry))?;
-    }
-    Ok(sources)
+    let interface = InterfaceNames::new(alloc, &program.interface);
+    let sources = named_sources(alloc, program, &interface, annotated);
+    drop(interface);
+    sources
 }

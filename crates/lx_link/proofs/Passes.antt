@@ -97,18 +97,25 @@ source_stops v w c s e h =
 pub no_table : (v w : Type 0) (c : Case) (s : Sources) (x : Option Fault) (e : LinkFault) → source_fault s ≡ None → w → e ≡ Memory → IsFaultOr (IsWanted v w s) c x e
 no_table v w c s x e none lacks h = inl (h, inr (lacks, none))
 
-pub script_stops : (v w : Type 0) (c : Case) (s : Sources) (p : Program) (e : LinkFault) → source_fault s ≡ None → p ≡ program_of s → IsFaultOr v c (script_fault p c.threads) e → IsFaultOr (IsWanted v w s) c (link_fault s c) e
+pub calls_stop : (v w : Type 0) (c : Case) (x : Option Fault) (e : LinkFault) → IsFaultOr v c x e → IsFaultOr (v ⊎ w) c x e
+calls_stop v w c x e h = other_row v (v ⊎ w) c x x e (λ want. inl want) (λ f is. is) h
+
+pub lacked : (v w : Type 0) (c : Case) (x : Option Fault) (e : LinkFault) → w → e ≡ Memory → IsFaultOr (v ⊎ w) c x e
+lacked v w c x e lacks h = inl (h, inr lacks)
+
+pub script_stops : (v w : Type 0) (c : Case) (s : Sources) (p : Program) (e : LinkFault) → source_fault s ≡ None → p ≡ program_of s → IsFaultOr (v ⊎ w) c (script_fault p c.threads) e → IsFaultOr (IsWanted v w s) c (link_fault s c) e
 script_stops v w c s p e none is h =
     let all = row_passed (text_fault s) (limit_fault s) (script_fault (program_of s) c.threads) none in
-    other_row v (IsWanted v w s) c (script_fault p c.threads) (link_fault s c) e (λ want. inl want)
+    other_row (v ⊎ w) (IsWanted v w s) c (script_fault p c.threads) (link_fault s c) e
+    (λ want. elim want [
+      | inl names ↦ inl names
+      | inr lacks ↦ inr (lacks, none)
+    ])
     (λ f x. all ∙ ap (λ (q : Program). script_fault q c.threads) (sym is) ∙ x) h
 
 pub all_passed : (c : Case) (s : Sources) (p : Program) → source_fault s ≡ None → p ≡ program_of s → script_fault p c.threads ≡ None → link_fault s c ≡ None
 all_passed c s p none is h =
     row_passed (text_fault s) (limit_fault s) (script_fault (program_of s) c.threads) none ∙ ap (λ (q : Program). script_fault q c.threads) (sym is) ∙ h
-
-pub no_modules : (v w : Type 0) (c : Case) (x : Option Fault) (e : LinkFault) → w → e ≡ Memory → IsFaultOr (v ⊎ w) c x e
-no_modules v w c x e lacks h = inl (h, inr lacks)
 
 pub either_wanted : (v w : Type 0) (c : Case) (s : Sources) (x : Option Fault) (e : LinkFault) → IsFaultOr (IsWanted v w s) c x e → IsFaultOr (v ⊎ w) c x e
 either_wanted v w c s x e h =

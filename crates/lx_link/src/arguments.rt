@@ -1,13 +1,11 @@
 //! The arguments of a call: whether they fit the parameters, and their words.
-ghost use Rattle.std.specs.Prelude.{◌≡◌, ◌≤◌, IfOk, is_some, length};
-ghost use Rattle.std.specs.List.{list_all};
-ghost use Rattle.lx_link_texts.specs.Faults.{most_functions};
+ghost use Rattle.std.specs.Prelude.{◌≡◌, IfOk, is_some};
 ghost use Rattle.lx_link.specs.Calls.{all_fit, are_in_range, argument_value, argument_word, argument_words, value_or_zero, word_in, word_of_argument};
 
 use crate::names::named_address;
 use lx_call_targets::width_of;
 use lx_ir::module::Parameter;
-use lx_model::program::Program;
+use lx_name_tables::ProgramNames;
 use lx_script::CaseArg;
 use lx_words::{Items, Memory, Width, Word, Words};
 use std::alloc::Global;
@@ -33,14 +31,13 @@ fn word_in(width: Width, value: i128) -> Option<Word>
 }
 
 /// The value of an argument; 0, where its name names nothing.
-fn value_of(program: &Program, argument: &CaseArg) -> i128
-    requires { length program.now.functions ≤ most_functions }
-    ensures { result ≡ value_or_zero (argument_value program.now argument.now) }
+fn value_of(names: &ProgramNames<'_>, argument: &CaseArg) -> i128
+    ensures { result ≡ value_or_zero (argument_value names.now argument.now) }
 {
     match argument {
         CaseArg::Number(value) => *value,
         CaseArg::Address { module, name } => {
-            match named_address(program, *module, name.as_slice()) {
+            match named_address(names, *module, name.as_slice()) {
                 None => 0,
                 Some(address) => i128::from(address),
             }
@@ -48,42 +45,37 @@ fn value_of(program: &Program, argument: &CaseArg) -> i128
     }
 }
 
-fn word_of(program: &Program, parameter: &Parameter, argument: &CaseArg) -> Option<Word>
-    requires { length program.now.functions ≤ most_functions }
-    ensures { result ≡ word_of_argument program.now parameter.now argument.now }
+fn word_of(names: &ProgramNames<'_>, parameter: &Parameter, argument: &CaseArg) -> Option<Word>
+    ensures { result ≡ word_of_argument names.now parameter.now argument.now }
 {
-    word_in(width_of(parameter.ty), value_of(program, argument))
+    word_in(width_of(parameter.ty), value_of(names, argument))
 }
 
-fn is_in_range(program: &Program, parameter: &Parameter, argument: &CaseArg) -> bool
-    requires { length program.now.functions ≤ most_functions }
-    ensures { result ≡ is_some (word_of_argument program.now parameter.now argument.now) }
+fn is_in_range(names: &ProgramNames<'_>, parameter: &Parameter, argument: &CaseArg) -> bool
+    ensures { result ≡ is_some (word_of_argument names.now parameter.now argument.now) }
 {
-    word_of(program, parameter, argument).is_some()
+    word_of(names, parameter, argument).is_some()
 }
 
-fn are_in_range(program: &Program, parameters: &[Parameter], arguments: &[CaseArg]) -> bool
-    requires { length program.now.functions ≤ most_functions }
-    ensures { result ≡ are_in_range program.now parameters.now arguments.now }
+fn are_in_range(names: &ProgramNames<'_>, parameters: &[Parameter], arguments: &[CaseArg]) -> bool
+    ensures { result ≡ are_in_range names.now parameters.now arguments.now }
 {
     parameters.iter().zip(arguments).all(|(parameter, argument)| is_in_range(
-        program, parameter, argument,
+        names, parameter, argument,
     ))
 }
 
 /// Whether arguments are as many as the parameters, and each is in its parameter's range.
-pub fn all_fit(program: &Program, parameters: &[Parameter], arguments: &[CaseArg]) -> bool
-    requires { length program.now.functions ≤ most_functions }
-    ensures { result ≡ all_fit program.now parameters.now arguments.now }
+pub fn all_fit(names: &ProgramNames<'_>, parameters: &[Parameter], arguments: &[CaseArg]) -> bool
+    ensures { result ≡ all_fit names.now parameters.now arguments.now }
 {
-    parameters.len() == arguments.len() && are_in_range(program, parameters, arguments)
+    parameters.len() == arguments.len() && are_in_range(names, parameters, arguments)
 }
 
-fn argument_word(program: &Program, parameter: &Parameter, argument: &CaseArg) -> Word
-    requires { length program.now.functions ≤ most_functions }
-    ensures { result ≡ argument_word program.now parameter.now argument.now }
+fn argument_word(names: &ProgramNames<'_>, parameter: &Parameter, argument: &CaseArg) -> Word
+    ensures { result ≡ argument_word names.now parameter.now argument.now }
 {
-    match word_of(program, parameter, argument) {
+    match word_of(names, parameter, argument) {
         Some(word) => word,
         None => Word {
             width: width_of(parameter.ty),
@@ -96,19 +88,18 @@ fn argument_word(program: &Program, parameter: &Parameter, argument: &CaseArg) -
 #[tactic(auto, using(crate::proofs::Spoken::words_step, crate::proofs::Spoken::words_end, crate::proofs::Spoken::words_out))]
 pub fn argument_words(
     alloc: Global,
-    program: &Program,
+    names: &ProgramNames<'_>,
     parameters: &[Parameter],
     arguments: &[CaseArg],
 ) -> Result<Words, Memory>
-    requires { length program.now.functions ≤ most_functions }
-    ensures { IfOk result (λ words. words ≡ argument_words program.now parameters.now arguments.now) }
+    ensures { IfOk result (λ words. words ≡ argument_words names.now parameters.now arguments.now) }
 {
     let mut words = Items::new(alloc);
     for (place, parameter) in parameters.iter().enumerate() {
         if place >= arguments.len() {
             return Ok(words);
         }
-        let word = argument_word(program, parameter, &arguments[place]);
+        let word = argument_word(names, parameter, &arguments[place]);
         words.push(word)?;
     }
     Ok(words)

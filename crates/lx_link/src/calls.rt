@@ -1,8 +1,8 @@
 //! The calls of a script: what is wrong with them, and the calls by numbers and words.
-ghost use Rattle.std.specs.Prelude.{◌≡◌, ◌≤◌, IfOk, Some, length, map};
+ghost use Rattle.std.specs.Prelude.{◌≡◌, IfOk, Some, map};
 ghost use Rattle.lx_ir.specs.Faults.{first_some};
 ghost use Rattle.lx_link_texts.specs.declared.fault.Source;
-ghost use Rattle.lx_link_texts.specs.Faults.{Gives, fault, most_functions};
+ghost use Rattle.lx_link_texts.specs.Faults.{Gives, fault};
 ghost use Rattle.lx_link.specs.Calls.{argument_fault, call_fault, call_fault_by, call_to, calls_of, parameters, resolved, script_fault, target, thread_fault};
 
 use crate::arguments::{all_fit, argument_words};
@@ -10,6 +10,7 @@ use crate::names::{function_named, functions_in, named_address};
 use lx_ir::module::Parameter;
 use lx_link_texts::fault::{FaultKind, Found, Source};
 use lx_model::program::{Calls, Program, ProgramFunction, ScriptCall};
+use lx_name_tables::ProgramNames;
 use lx_script::{CaseArg, CaseCall, CaseThread};
 use lx_words::{Items, Memory};
 use std::alloc::Global;
@@ -30,21 +31,23 @@ fn parameters(program: &Program, number: u32) -> &[Parameter]
 }
 
 /// The function that a call calls.
-fn target(program: &Program, call: &CaseCall) -> Option<u32>
-    requires { length program.now.functions ≤ most_functions }
-    ensures { result ≡ target program.now call.now }
+fn target(names: &ProgramNames<'_>, call: &CaseCall) -> Option<u32>
+    ensures { result ≡ target names.now call.now }
 {
-    function_named(program, call.target.module, call.target.function.as_slice())
+    function_named(names, call.target.module, call.target.function.as_slice())
 }
 
-fn check_argument<'a>(program: &Program, line: u32, argument: &'a CaseArg) -> Result<(), Found<'a>>
-    requires { length program.now.functions ≤ most_functions }
-    ensures { Gives (argument_fault program.now line argument.now) result }
+fn check_argument<'a>(
+    names: &ProgramNames<'_>,
+    line: u32,
+    argument: &'a CaseArg,
+) -> Result<(), Found<'a>>
+    ensures { Gives (argument_fault names.now line argument.now) result }
 {
     match argument {
         CaseArg::Number(_) => Ok(()),
         CaseArg::Address { module, name } => {
-            match named_address(program, *module, name.as_slice()) {
+            match named_address(names, *module, name.as_slice()) {
                 Some(_) => Ok(()),
                 None => Err(Found {
                     kind: FaultKind::Missing,
@@ -60,15 +63,14 @@ fn check_argument<'a>(program: &Program, line: u32, argument: &'a CaseArg) -> Re
 /// Finds the first argument whose name names nothing.
 #[tactic(auto, using(crate::proofs::Passes::first_step, crate::proofs::Passes::first_end, crate::proofs::Passes::first_answer))]
 fn check_arguments<'a>(
-    program: &Program,
+    names: &ProgramNames<'_>,
     line: u32,
     arguments: &'a [CaseArg],
 ) -> Result<(), Found<'a>>
-    requires { length program.now.functions ≤ most_functions }
-    ensures { Gives (first_some (argument_fault program.now line) arguments.now) result }
+    ensures { Gives (first_some (argument_fault names.now line) arguments.now) result }
 {
     for argument in arguments {
-        check_argument(program, line, argument)?;
+        check_argument(names, line, argument)?;
     }
     Ok(())
 }
@@ -87,64 +89,66 @@ fn of_target(kind: FaultKind, call: &CaseCall) -> Found<'_>
 
 /// Looks at the arguments of a call of the function with this number.
 #[tactic(auto, using(crate::proofs::Passes::first_answer, crate::proofs::Passes::passed))]
-fn check_known<'a>(program: &Program, call: &'a CaseCall, number: u32) -> Result<(), Found<'a>>
-    requires { length program.now.functions ≤ most_functions }
-    ensures { Gives (call_fault_by program.now call.now (Some number)) result }
+fn check_known<'a>(
+    names: &ProgramNames<'_>,
+    call: &'a CaseCall,
+    number: u32,
+) -> Result<(), Found<'a>>
+    ensures { Gives (call_fault_by names.now call.now (Some number)) result }
 {
     let arguments = call.args.as_slice();
-    check_arguments(program, call.line, arguments)?;
-    if !all_fit(program, parameters(program, number), arguments) {
+    check_arguments(names, call.line, arguments)?;
+    if !all_fit(names, parameters(names.program(), number), arguments) {
         return Err(of_target(FaultKind::SignatureDiffers, call));
     }
     Ok(())
 }
 
-fn check_call<'a>(program: &Program, call: &'a CaseCall) -> Result<(), Found<'a>>
-    requires { length program.now.functions ≤ most_functions }
-    ensures { Gives (call_fault program.now call.now) result }
+fn check_call<'a>(names: &ProgramNames<'_>, call: &'a CaseCall) -> Result<(), Found<'a>>
+    ensures { Gives (call_fault names.now call.now) result }
 {
-    match target(program, call) {
+    match target(names, call) {
         None => Err(of_target(FaultKind::Missing, call)),
-        Some(number) => check_known(program, call, number),
+        Some(number) => check_known(names, call, number),
     }
 }
 
 #[tactic(auto, using(crate::proofs::Passes::first_step, crate::proofs::Passes::first_end, crate::proofs::Passes::first_answer))]
-fn check_thread<'a>(program: &Program, calls: &'a CaseThread) -> Result<(), Found<'a>>
-    requires { length program.now.functions ≤ most_functions }
-    ensures { Gives (thread_fault program.now calls.now) result }
+fn check_thread<'a>(names: &ProgramNames<'_>, calls: &'a CaseThread) -> Result<(), Found<'a>>
+    ensures { Gives (thread_fault names.now calls.now) result }
 {
     for call in calls.as_slice() {
-        check_call(program, call)?;
+        check_call(names, call)?;
     }
     Ok(())
 }
 
 /// Finds the first call of a script whose target or an argument's name is missing, or whose arguments do not fit.
 #[tactic(auto, using(crate::proofs::Passes::first_step, crate::proofs::Passes::first_end, crate::proofs::Passes::first_answer))]
-pub fn check_script<'a>(program: &Program, threads: &'a [CaseThread]) -> Result<(), Found<'a>>
-    requires { length program.now.functions ≤ most_functions }
-    ensures { Gives (script_fault program.now threads.now) result }
+pub fn check_script<'a>(
+    names: &ProgramNames<'_>,
+    threads: &'a [CaseThread],
+) -> Result<(), Found<'a>>
+    ensures { Gives (script_fault names.now threads.now) result }
 {
     for calls in threads {
-        check_thread(program, calls)?;
+        check_thread(names, calls)?;
     }
     Ok(())
 }
 
 fn call_to(
     alloc: Global,
-    program: &Program,
+    names: &ProgramNames<'_>,
     call: &CaseCall,
     number: u32,
 ) -> Result<ScriptCall, Memory>
-    requires { length program.now.functions ≤ most_functions }
-    ensures { IfOk result (λ c. c ≡ call_to program.now call.now number) }
+    ensures { IfOk result (λ c. c ≡ call_to names.now call.now number) }
 {
     let args = argument_words(
         alloc,
-        program,
-        parameters(program, number),
+        names,
+        parameters(names.program(), number),
         call.args.as_slice(),
     )?;
     Ok(ScriptCall {
@@ -154,23 +158,29 @@ fn call_to(
     })
 }
 
-fn resolve_call(alloc: Global, program: &Program, call: &CaseCall) -> Result<ScriptCall, Memory>
-    requires { length program.now.functions ≤ most_functions }
-    ensures { IfOk result (λ c. c ≡ resolved program.now call.now) }
+fn resolve_call(
+    alloc: Global,
+    names: &ProgramNames<'_>,
+    call: &CaseCall,
+) -> Result<ScriptCall, Memory>
+    ensures { IfOk result (λ c. c ≡ resolved names.now call.now) }
 {
-    match target(program, call) {
-        None => call_to(alloc, program, call, 0),
-        Some(number) => call_to(alloc, program, call, number),
+    match target(names, call) {
+        None => call_to(alloc, names, call, 0),
+        Some(number) => call_to(alloc, names, call, number),
     }
 }
 
-fn resolve_thread(alloc: Global, program: &Program, calls: &CaseThread) -> Result<Calls, Memory>
-    requires { length program.now.functions ≤ most_functions }
-    ensures { IfOk result (λ list. list ≡ map (resolved program.now) calls.now) }
+fn resolve_thread(
+    alloc: Global,
+    names: &ProgramNames<'_>,
+    calls: &CaseThread,
+) -> Result<Calls, Memory>
+    ensures { IfOk result (λ list. list ≡ map (resolved names.now) calls.now) }
 {
     let mut list = Items::new(alloc);
     for call in calls.as_slice() {
-        list.push(resolve_call(alloc, program, call)?)?;
+        list.push(resolve_call(alloc, names, call)?)?;
     }
     Ok(list)
 }
@@ -178,15 +188,14 @@ fn resolve_thread(alloc: Global, program: &Program, calls: &CaseThread) -> Resul
 /// The calls of each thread by numbers and words.
 pub fn resolve(
     alloc: Global,
-    program: &Program,
+    names: &ProgramNames<'_>,
     threads: &[CaseThread],
 ) -> Result<Items<Calls>, Memory>
-    requires { length program.now.functions ≤ most_functions }
-    ensures { IfOk result (λ list. list ≡ calls_of program.now threads.now) }
+    ensures { IfOk result (λ list. list ≡ calls_of names.now threads.now) }
 {
     let mut list = Items::new(alloc);
     for calls in threads {
-        list.push(resolve_thread(alloc, program, calls)?)?;
+        list.push(resolve_thread(alloc, names, calls)?)?;
     }
     Ok(list)
 }

@@ -6,7 +6,7 @@ ghost use Rattle.lx_annot.specs.Lawful.{IsLawfulInterface};
 ghost use Rattle.lx_link_texts.specs.Faults.{Gives, all_annotated, limit_fault, most_functions};
 ghost use Rattle.lx_link_texts.specs.Placing.{HasLimits, program_of};
 ghost use Rattle.lx_link.specs.Answers.{AreVerified, IsFaultOr, IsWanted, Stops, StopsOr, link_fault, linked_of, named, named_modules, source_fault, sources_of};
-ghost use Rattle.lx_link.specs.Calls.{script_fault};
+ghost use Rattle.lx_link.specs.Calls.{calls_of, script_fault};
 
 use crate::calls::check_script;
 use crate::fault::LinkFault;
@@ -18,7 +18,8 @@ use lx_ir_verify::Verified;
 use lx_link_texts::fault::Found;
 use lx_link_texts::sources::Sources;
 use lx_link_texts::{check_limits, check_texts};
-use lx_model::program::{Program, ProgramModule};
+use lx_model::program::{Calls, Program, ProgramModule};
+use lx_name_tables::ProgramNames;
 use lx_script::{Case, CaseModule};
 use lx_slot_types::Annotated;
 use lx_text_copies::{copied_interface, copied_module};
@@ -85,14 +86,44 @@ fn place<M: Means>(means: &M, sources: Sources) -> Result<Program, Memory>
 }
 
 /// Answers the first fault of the script.
-fn check_calls<M: Means>(means: &M, case: &Case, program: &Program) -> Result<(), LinkFault>
-    requires { length program.now.functions ≤ most_functions }
-    ensures { StopsOr (M.unnamed means.now) case.now (script_fault program.now case.now.threads) result }
+fn check_calls<M: Means>(means: &M, case: &Case, names: &ProgramNames<'_>) -> Result<(), LinkFault>
+    ensures { StopsOr (M.unnamed means.now) case.now (script_fault names.now case.now.threads) result }
 {
-    match check_script(program, case.threads.as_slice()) {
+    match check_script(names, case.threads.as_slice()) {
         Ok(()) => Ok(()),
         Err(found) => Err(stopped(means, case, &found)),
     }
+}
+
+/// The calls of the script, over the names of its program.
+#[tactic(auto, using(crate::proofs::Passes::calls_stop, crate::proofs::Passes::lacked))]
+fn named_calls<M: Means>(
+    means: &M,
+    case: &Case,
+    names: &ProgramNames<'_>,
+) -> Result<Items<Calls>, LinkFault>
+    ensures fault { StopsOr (M.unnamed means.now ⊎ M.lacks means.now) case.now (script_fault names.now case.now.threads) result }
+    ensures ok { IfOk result (λ calls. calls ≡ calls_of names.now case.now.threads) }
+{
+    check_calls(means, case, names)?;
+    let calls = means.resolve(names, case.threads.as_slice())?;
+    Ok(calls)
+}
+
+/// The calls of the script, or its first fault. The names of the program are put in tables once.
+fn script_calls<M: Means>(
+    means: &M,
+    case: &Case,
+    program: &Program,
+) -> Result<Items<Calls>, LinkFault>
+    requires { length program.now.functions ≤ most_functions }
+    ensures fault { StopsOr (M.unnamed means.now ⊎ M.lacks means.now) case.now (script_fault program.now case.now.threads) result }
+    ensures ok { IfOk result (λ calls. calls ≡ calls_of program.now case.now.threads) }
+{
+    let names = means.names(program);
+    let calls = named_calls(means, case, &names);
+    drop(names);
+    calls
 }
 
 /// Links texts within the limits. What the texts and the limits have of faults is found before a table is made.
@@ -110,8 +141,7 @@ fn link_sources<M: Means>(
 {
     check_sources(means, case, &sources, annotated)?;
     let program = place(means, sources)?;
-    check_calls(means, case, &program)?;
-    let calls = means.resolve(&program, case.threads.as_slice())?;
+    let calls = script_calls(means, case, &program)?;
     Ok(LinkedParts { program, calls })
 }
 
@@ -171,7 +201,7 @@ pub fn copied_sources(
 }
 
 /// Links over any means.
-#[tactic(auto, using(crate::proofs::Passes::no_modules, crate::proofs::Passes::either_wanted, crate::proofs::Modules::is_linked))]
+#[tactic(auto, using(crate::proofs::Passes::lacked, crate::proofs::Passes::either_wanted, crate::proofs::Modules::is_linked))]
 fn link_by<M: Means>(
     means: &M,
     kernel: &Verified,

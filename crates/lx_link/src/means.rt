@@ -16,6 +16,7 @@ use lx_link_texts::fault::Found;
 use lx_link_texts::sources::Sources;
 use lx_link_texts::{functions_of, globals_of};
 use lx_model::program::{Calls, Program, ProgramFunction, ProgramGlobal};
+use lx_name_tables::ProgramNames;
 use lx_script::{Case, CaseModule, CaseThread};
 use lx_words::{Items, Memory};
 use std::alloc::Global;
@@ -60,10 +61,18 @@ pub trait Means {
         ensures ok { IfOk result (λ globals. globals ≡ globals_of sources.now) }
         ensures err { OnErr result (lacks self.now) };
 
-    /// The calls of each thread by numbers and words.
-    fn resolve(&self, program: &Program, threads: &[CaseThread]) -> Result<Items<Calls>, Memory>
+    /// The names of a program. A table that there is no memory for is left out, and its list is searched.
+    fn names<'a>(&self, program: &'a Program) -> ProgramNames<'a>
         requires { length program.now.functions ≤ most_functions }
-        ensures ok { IfOk result (λ list. list ≡ calls_of program.now threads.now) }
+        ensures { result ≡ program.now };
+
+    /// The calls of each thread by numbers and words.
+    fn resolve(
+        &self,
+        names: &ProgramNames<'_>,
+        threads: &[CaseThread],
+    ) -> Result<Items<Calls>, Memory>
+        ensures ok { IfOk result (λ list. list ≡ calls_of names.now threads.now) }
         ensures err { OnErr result (lacks self.now) };
 }
 
@@ -101,8 +110,16 @@ impl Means for Global {
         }
     }
 
-    fn resolve(&self, program: &Program, threads: &[CaseThread]) -> Result<Items<Calls>, Memory> {
-        let calls = resolve(*self, program, threads)?;
+    fn names<'a>(&self, program: &'a Program) -> ProgramNames<'a> {
+        ProgramNames::new(*self, program)
+    }
+
+    fn resolve(
+        &self,
+        names: &ProgramNames<'_>,
+        threads: &[CaseThread],
+    ) -> Result<Items<Calls>, Memory> {
+        let calls = resolve(*self, names, threads)?;
         Ok(calls)
     }
 }

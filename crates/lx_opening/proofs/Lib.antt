@@ -3,3 +3,4 @@ pub mod Globals
 pub mod Items
 pub mod Opened
 pub mod Typed
+pub mod Ordered

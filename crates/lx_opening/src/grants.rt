@@ -1,11 +1,12 @@
 //! What each module owns before the first call.
-ghost use Rattle.std.specs.Prelude.{◌≡◌, ◌≤◌, true, OnOk, Some, length, if◌then◌else◌};
+ghost use Rattle.std.specs.Prelude.{◌≡◌, ◌≤◌, true, OnOk, Some, length, nat_lt, if◌then◌else◌};
 ghost use Rattle.lx_caps.specs.History.{History};
 ghost use Rattle.lx_code.specs.Targets.{target_of};
 ghost use Rattle.lx_ir.specs.Layout.{size_of};
 ghost use Rattle.lx_link_texts.specs.WellFormed.{IsWellFormed};
 ghost use Rattle.lx_model.specs.Program.{module_of, target};
 ghost use Rattle.lx_model.specs.Opening.{call_granted, calls_granted, global_granted, global_of, globals_granted, is_global_of, module_opened, modules_opened};
+ghost use Rattle.lx_opening.specs.Ordered.{AreOrdered, IsSplit, rank};
 ghost use Rattle.lx_opening.specs.Placed.{IsGlobalPlaced};
 ghost use Rattle.lx_slot_types.specs.Gets.{below};
 
@@ -89,13 +90,39 @@ fn grant_own<C: CapStore>(
     Ok(())
 }
 
-/// Gives a module its globals.
+/// The place of a text among the texts: the kernel's is the first.
+fn rank(home: Option<u32>) -> u64
+    ensures { result ≡ rank home }
+{
+    match home {
+        None => 0,
+        Some(number) => u64::from(number) + 1,
+    }
+}
+
+/// How many globals stand in the texts before the one at this place. They stand in the order of their texts.
+fn count_before(globals: &[ProgramGlobal], text: u64) -> usize
+    requires { AreOrdered globals.now }
+    ensures within { result ≤ length globals.now }
+    ensures split { IsSplit text globals.now result }
+{
+    globals.partition_point(
+        |global: &ProgramGlobal| -> bool
+            ensures { result ≡ nat_lt (rank global.now.«module») text }
+        { rank(global.module) < text },
+    )
+}
+
+/// Gives a module its globals, which stand beside each other.
 fn grant_globals<C: CapStore>(caps: &mut C, code: &Code, home: u32) -> Result<(), Memory>
     requires { IsWellFormed code.now }
     ensures { OnOk result ((h : History) → C.stands caps.old h → C.stands caps.new (globals_granted code.now home code.now.globals h)) }
 {
-    for global in code.program().globals.as_slice() {
-        grant_own(caps, code, home, global)?;
+    let globals = code.program().globals.as_slice();
+    let start = count_before(globals, u64::from(home) + 1);
+    let end = count_before(globals, u64::from(home) + 2);
+    for place in start..end {
+        grant_own(caps, code, home, &globals[place])?;
     }
     Ok(())
 }

@@ -2,4 +2,6 @@ mod Numbered
 mod Runs
 mod Maximal
 mod FirstLine
-mod Slots
+mod Modules
+mod Tables
+mod Exports

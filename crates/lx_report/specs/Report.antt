@@ -184,11 +184,15 @@ calls_before calls k thread = count_by (λ c. nat_eq c.thread thread) (take k ca
 abbrev pub call_number_text : List CallOutcome → ℕ → ℕ → Text
 call_number_text calls k thread = codes "call " ++ number_text thread ++ codes "." ++ number_text (calls_before calls k thread)
 
-abbrev pub call_line : Program → Account → ℕ × CallOutcome → Text
-call_line p a x =
+-- a call at its place among calls, where instances have these names
+abbrev pub call_line_of : Program → List CallOutcome → List InstanceName → ℕ × CallOutcome → Text
+call_line_of p calls names x =
     line
-    (call_number_text a.outcomes x.0 x.1.thread ++ codes " " ++ called_text p x.1.function ++ codes " "
-    ++ outcome_text p a.names x.1.function x.1.outcome)
+    (call_number_text calls x.0 x.1.thread ++ codes " " ++ called_text p x.1.function ++ codes " "
+    ++ outcome_text p names x.1.function x.1.outcome)
+
+abbrev pub call_line : Program → Account → ℕ × CallOutcome → Text
+call_line p a x = call_line_of p a.outcomes a.names x
 
 abbrev pub note_line : Note → Text
 note_line n = line (codes "note " ++ number_text n.thread ++ codes " " ++ signed_word_text (word W64 n.value))

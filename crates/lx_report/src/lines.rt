@@ -2,16 +2,15 @@
 
 ghost use Rattle.std.specs.Prelude.{◌≡◌, ◌++◌, ◌≤◌, OnOk, count_by, flat_map, length, nat_eq};
 ghost use Rattle.std.specs.List.{enumerate_from};
-ghost use Rattle.lx_report.specs.Lawful.{HasLawfulModules};
-ghost use Rattle.lx_report.specs.Report.{call_line, call_number_text, called_text, counts_text, image_line, note_line, owner_line};
+ghost use Rattle.lx_report.specs.Report.{call_line_of, call_number_text, called_text, counts_text, image_line, note_line, owner_line};
 
 use crate::names::{module_name, put_called, put_principal};
 use crate::reply::{put_cap, put_outcome};
 use crate::text::{put, put_bytes, put_number, put_signed};
-use lx_model::account::{Account, CallOutcome, ImageCount, InstanceName, Note, Owned};
+use crate::told::Told;
+use lx_model::account::{CallOutcome, ImageCount, Note, Owned};
 use lx_model::program::Program;
 use lx_words::{Memory, Width, Word};
-use std::alloc::Global;
 
 /// How many of the calls are of the thread.
 fn calls_of(calls: &[CallOutcome], thread: u32) -> usize
@@ -39,43 +38,28 @@ fn put_call_number(
 }
 
 fn put_call(
-    alloc: Global,
     out: &mut Vec<u8>,
-    p: &Program,
-    a: &Account,
+    told: &Told,
+    calls: &[CallOutcome],
     k: usize,
     call: &CallOutcome,
 ) -> Result<(), Memory>
-    requires there { k ≤ length a.now.outcomes }
-    requires lawful { HasLawfulModules p.now }
-    ensures { OnOk result (out.new.items ≡ out.old.items ++ call_line p.now a.now (k, call.now)) }
+    requires { k ≤ length calls.now }
+    ensures { OnOk result (out.new.items ≡ out.old.items ++ call_line_of told.now.program.now calls.now told.now.names (k, call.now)) }
 {
-    put_call_number(out, a.outcomes.as_slice(), k, call.thread)?;
+    put_call_number(out, calls, k, call.thread)?;
     put(out, " ")?;
-    put_called(out, p, call.function)?;
+    put_called(out, told.program, call.function)?;
     put(out, " ")?;
-    put_outcome(
-        alloc,
-        out,
-        p,
-        a.names.as_slice(),
-        call.function,
-        call.outcome,
-    )?;
+    put_outcome(out, told, call.function, call.outcome)?;
     put(out, "\n")
 }
 
-pub(crate) fn put_calls(
-    alloc: Global,
-    out: &mut Vec<u8>,
-    p: &Program,
-    a: &Account,
-) -> Result<(), Memory>
-    requires { HasLawfulModules p.now }
-    ensures { OnOk result (out.new.items ≡ out.old.items ++ flat_map (call_line p.now a.now) (enumerate_from 0 a.now.outcomes)) }
+pub(crate) fn put_calls(out: &mut Vec<u8>, told: &Told, calls: &[CallOutcome]) -> Result<(), Memory>
+    ensures { OnOk result (out.new.items ≡ out.old.items ++ flat_map (call_line_of told.now.program.now calls.now told.now.names) (enumerate_from 0 calls.now)) }
 {
-    for (k, call) in a.outcomes.as_slice().iter().enumerate() {
-        put_call(alloc, out, p, a, k, call)?;
+    for (k, call) in calls.iter().enumerate() {
+        put_call(out, told, calls, k, call)?;
     }
     Ok(())
 }
@@ -138,31 +122,21 @@ pub(crate) fn put_images(
     Ok(())
 }
 
-fn put_owner(
-    out: &mut Vec<u8>,
-    p: &Program,
-    names: &[InstanceName],
-    owned: &Owned,
-) -> Result<(), Memory>
-    ensures { OnOk result (out.new.items ≡ out.old.items ++ owner_line p.now names.now owned.now) }
+fn put_owner(out: &mut Vec<u8>, told: &Told, owned: &Owned) -> Result<(), Memory>
+    ensures { OnOk result (out.new.items ≡ out.old.items ++ owner_line told.now.program.now told.now.names owned.now) }
 {
     put(out, "owns ")?;
-    put_principal(out, p, names, owned.who)?;
+    put_principal(out, told, owned.who)?;
     put(out, " ")?;
-    put_cap(out, &p.interface, owned.cap)?;
+    put_cap(out, &told.program.interface, owned.cap)?;
     put(out, "\n")
 }
 
-pub(crate) fn put_owners(
-    out: &mut Vec<u8>,
-    p: &Program,
-    names: &[InstanceName],
-    owners: &[Owned],
-) -> Result<(), Memory>
-    ensures { OnOk result (out.new.items ≡ out.old.items ++ flat_map (owner_line p.now names.now) owners.now) }
+pub(crate) fn put_owners(out: &mut Vec<u8>, told: &Told, owners: &[Owned]) -> Result<(), Memory>
+    ensures { OnOk result (out.new.items ≡ out.old.items ++ flat_map (owner_line told.now.program.now told.now.names) owners.now) }
 {
     for owned in owners {
-        put_owner(out, p, names, owned)?;
+        put_owner(out, told, owned)?;
     }
     Ok(())
 }

@@ -4,12 +4,13 @@ ghost use Rattle.std.specs.Prelude.{◌≡◌, ◌++◌, OnOk, codes, option_cop
 ghost use Rattle.lx_model.specs.Program.{function_of, home_or_kernel, module_of};
 ghost use Rattle.lx_report.specs.Report.{address_text, number_text, called_text, function_name, given_name, given_text, home_text, module_name, principal_text, result_type};
 
+use crate::given::GivenNames;
 use crate::text::{put, put_address, put_bytes};
+use crate::told::Told;
 use lx_annot::interface::Interface;
 use lx_caps::Principal;
 use lx_ir::module::Function;
 use lx_ir::types::Scalar;
-use lx_model::account::InstanceName;
 use lx_model::program::{Program, ProgramFunction};
 use lx_words::Memory;
 
@@ -100,23 +101,13 @@ pub(crate) fn put_called(out: &mut Vec<u8>, p: &Program, n: u32) -> Result<(), M
     put_bytes(out, function_name(p, n))
 }
 
-/// The value by which an instance was named first.
-fn given_name(names: &[InstanceName], m: u32, k: u32) -> u64
-    ensures { result ≡ given_name names.now m k }
-{
-    match names.iter().find(|n| n.module == m && n.instance == k) {
-        Some(name) => name.value,
-        None => 0,
-    }
-}
-
-fn put_given_name(out: &mut Vec<u8>, names: &[InstanceName], m: u32, k: u32) -> Result<(), Memory>
+fn put_given_name(out: &mut Vec<u8>, names: &GivenNames, m: u32, k: u32) -> Result<(), Memory>
     ensures { OnOk result (out.new.items ≡ out.old.items ++ address_text (given_name names.now m k)) }
 {
-    put_address(out, given_name(names, m, k))
+    put_address(out, names.value_of(m, k))
 }
 
-fn put_given(out: &mut Vec<u8>, names: &[InstanceName], m: u32, k: u32) -> Result<(), Memory>
+fn put_given(out: &mut Vec<u8>, names: &GivenNames, m: u32, k: u32) -> Result<(), Memory>
     ensures { OnOk result (out.new.items ≡ out.old.items ++ given_text names.now m k) }
 {
     put(out, "[")?;
@@ -124,27 +115,22 @@ fn put_given(out: &mut Vec<u8>, names: &[InstanceName], m: u32, k: u32) -> Resul
     put(out, "]")
 }
 
-pub(crate) fn put_principal(
-    out: &mut Vec<u8>,
-    p: &Program,
-    names: &[InstanceName],
-    who: Principal,
-) -> Result<(), Memory>
-    ensures { OnOk result (out.new.items ≡ out.old.items ++ principal_text p.now names.now who) }
+pub(crate) fn put_principal(out: &mut Vec<u8>, told: &Told, who: Principal) -> Result<(), Memory>
+    ensures { OnOk result (out.new.items ≡ out.old.items ++ principal_text told.now.program.now told.now.names who) }
 {
     match who {
         Principal::Kernel => put(out, "kernel"),
         Principal::Shared(m) => {
-            put_bytes(out, module_name(p, m as usize))?;
+            put_bytes(out, module_name(told.program, m as usize))?;
             put(out, ".shared")
         }
         Principal::Global(m) => {
-            put_bytes(out, module_name(p, m as usize))?;
+            put_bytes(out, module_name(told.program, m as usize))?;
             put(out, ".global")
         }
         Principal::Inst(m, k) => {
-            put_bytes(out, module_name(p, m as usize))?;
-            put_given(out, names, m, k)
+            put_bytes(out, module_name(told.program, m as usize))?;
+            put_given(out, &told.names, m, k)
         }
     }
 }

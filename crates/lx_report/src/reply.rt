@@ -2,20 +2,17 @@
 
 ghost use Rattle.std.specs.Prelude.{◌≡◌, ◌++◌, OnOk, codes};
 ghost use Rattle.lx_annot.specs.Canonical.{Text};
-ghost use Rattle.lx_report.specs.Lawful.{HasLawfulModules};
 ghost use Rattle.lx_report.specs.Report.{address_text, number_text, alias_text, call_text, cap_text, other_text, outcome_text, ref_text, refusal_text, refused, returned_text, slot_text, trap_text, value_text, write_text};
 
 use crate::annotations::{put_function_annotation, put_slot_annotation};
 use crate::names::{put_principal, reftype_name, result_type};
 use crate::text::{put, put_address, put_bytes, put_number, put_signed};
+use crate::told::Told;
 use lx_annot::interface::Interface;
 use lx_caps::{Cap, Principal};
 use lx_ir::types::Scalar;
-use lx_model::account::InstanceName;
-use lx_model::program::Program;
 use lx_model::request::{Outcome, Refusal, Trap};
 use lx_words::{Memory, Width, Word};
-use std::alloc::Global;
 
 fn put_write(out: &mut Vec<u8>, at: u64, size: u64) -> Result<(), Memory>
     ensures { OnOk result (out.new.items ≡ out.old.items ++ write_text at size) }
@@ -116,65 +113,50 @@ fn put_alias(out: &mut Vec<u8>, known: u64, further: u64) -> Result<(), Memory>
 
 /// The function that a slot holds, and the two annotations.
 fn put_other(
-    alloc: Global,
     out: &mut Vec<u8>,
-    p: &Program,
+    told: &Told,
     at: u64,
     slot: u32,
     function: u32,
 ) -> Result<(), Memory>
-    requires { HasLawfulModules p.now }
-    ensures { OnOk result (out.new.items ≡ out.old.items ++ other_text p.now at slot function) }
+    ensures { OnOk result (out.new.items ≡ out.old.items ++ other_text told.now.program.now at slot function) }
 {
     put_call(out, at)?;
     put(out, ": ")?;
-    put_slot_annotation(alloc, out, p, slot)?;
+    put_slot_annotation(out, told, slot)?;
     put(out, " | ")?;
-    put_function_annotation(alloc, out, p, function)
+    put_function_annotation(out, told, function)
 }
 
 /// The number of a refusal, and the principal that it meets.
-fn put_refused(
-    out: &mut Vec<u8>,
-    p: &Program,
-    names: &[InstanceName],
-    number: u64,
-    who: Principal,
-) -> Result<(), Memory>
-    ensures { OnOk result (out.new.items ≡ out.old.items ++ refused p.now names.now number who) }
+fn put_refused(out: &mut Vec<u8>, told: &Told, number: u64, who: Principal) -> Result<(), Memory>
+    ensures { OnOk result (out.new.items ≡ out.old.items ++ refused told.now.program.now told.now.names number who) }
 {
     put(out, "refused ")?;
     put_number(out, number)?;
     put(out, " ")?;
-    put_principal(out, p, names, who)?;
+    put_principal(out, told, who)?;
     put(out, " ")
 }
 
-fn put_refusal(
-    alloc: Global,
-    out: &mut Vec<u8>,
-    p: &Program,
-    names: &[InstanceName],
-    refusal: Refusal,
-) -> Result<(), Memory>
-    requires { HasLawfulModules p.now }
-    ensures { OnOk result (out.new.items ≡ out.old.items ++ refusal_text p.now names.now refusal) }
+fn put_refusal(out: &mut Vec<u8>, told: &Told, refusal: Refusal) -> Result<(), Memory>
+    ensures { OnOk result (out.new.items ≡ out.old.items ++ refusal_text told.now.program.now told.now.names refusal) }
 {
     match refusal {
         Refusal::Write { who, at, size } => {
-            put_refused(out, p, names, 1, who)?;
+            put_refused(out, told, 1, who)?;
             put_write(out, at, size)
         }
         Refusal::Call { who, at } => {
-            put_refused(out, p, names, 2, who)?;
+            put_refused(out, told, 2, who)?;
             put_call(out, at)
         }
         Refusal::Ref { who, ty, at } => {
-            put_refused(out, p, names, 3, who)?;
-            put_ref(out, &p.interface, ty, at)
+            put_refused(out, told, 3, who)?;
+            put_ref(out, &told.program.interface, ty, at)
         }
         Refusal::NotAnnotated { who, at } => {
-            put_refused(out, p, names, 4, who)?;
+            put_refused(out, told, 4, who)?;
             put_call(out, at)
         }
         Refusal::OtherAnnotation {
@@ -183,19 +165,19 @@ fn put_refusal(
             slot,
             function,
         } => {
-            put_refused(out, p, names, 5, who)?;
-            put_other(alloc, out, p, at, slot, function)
+            put_refused(out, told, 5, who)?;
+            put_other(out, told, at, slot, function)
         }
         Refusal::Writer { who, at, slot } => {
-            put_refused(out, p, names, 6, who)?;
+            put_refused(out, told, 6, who)?;
             put_slot(out, at, slot)
         }
         Refusal::OnStack { who, at, size } => {
-            put_refused(out, p, names, 7, who)?;
+            put_refused(out, told, 7, who)?;
             put_write(out, at, size)
         }
         Refusal::Outside { who, at, size } => {
-            put_refused(out, p, names, 8, who)?;
+            put_refused(out, told, 8, who)?;
             put_write(out, at, size)
         }
         Refusal::Alias {
@@ -203,31 +185,28 @@ fn put_refusal(
             known,
             further,
         } => {
-            put_refused(out, p, names, 9, who)?;
+            put_refused(out, told, 9, who)?;
             put_alias(out, known, further)
         }
         Refusal::Borrowed { who, cap } => {
-            put_refused(out, p, names, 10, who)?;
-            put_cap(out, &p.interface, cap)
+            put_refused(out, told, 10, who)?;
+            put_cap(out, &told.program.interface, cap)
         }
     }
 }
 
 /// How a call of the function with this number ended.
 pub(crate) fn put_outcome(
-    alloc: Global,
     out: &mut Vec<u8>,
-    p: &Program,
-    names: &[InstanceName],
+    told: &Told,
     function: u32,
     outcome: Outcome,
 ) -> Result<(), Memory>
-    requires { HasLawfulModules p.now }
-    ensures { OnOk result (out.new.items ≡ out.old.items ++ outcome_text p.now names.now function outcome) }
+    ensures { OnOk result (out.new.items ≡ out.old.items ++ outcome_text told.now.program.now told.now.names function outcome) }
 {
     match outcome {
-        Outcome::Returned(value) => put_returned(out, result_type(p, function), value),
-        Outcome::Refused(refusal) => put_refusal(alloc, out, p, names, refusal),
+        Outcome::Returned(value) => put_returned(out, result_type(told.program, function), value),
+        Outcome::Refused(refusal) => put_refusal(out, told, refusal),
         Outcome::Trapped(trap) => put_trap(out, trap),
         Outcome::Budget => put(out, "budget"),
     }

@@ -4,4 +4,4 @@ use Rattle.lx_link.specs.Calls.{thread_fault}
 use Rattle.lx_link.proofs.calls.check_script.Given as goal
 
 abbrev pub invariant-loop-calls : goal.invariant-loop-calls
-invariant-loop-calls l = first_some (thread_fault l.program) l.threads ≡ first_some (thread_fault l.program) (drop l.calls-index l.threads)
+invariant-loop-calls l = first_some (thread_fault l.names) l.threads ≡ first_some (thread_fault l.names) (drop l.calls-index l.threads)

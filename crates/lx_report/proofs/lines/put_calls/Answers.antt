@@ -1,13 +1,15 @@
-use Rattle.std.proofs.Common.{arith, length, ap}
-use Rattle.lx_report.specs.Report.{call_line}
+use Rattle.std.proofs.Common.{arith, refl}
+use Rattle.lx_report.specs.Report.{call_line_of}
 use Rattle.lx_report.proofs.Numbered.{numbered_more_at, numbered_all}
 use Rattle.lx_report.proofs.lines.put_calls.Goals as goal
 
 pub loop-k-preserved : goal.loop-k-preserved
 loop-k-preserved c =
-    numbered_more_at (call_line c.args.p.now c.args.a.now) c.args.a.now.outcomes c.as_slice-call-items.result.now c.loop-k.k c.call-item.result _ _ _ c.as_slice-call-items.ensures (omega arith)
-    c.call-item.is c.loop-k.invariant c.in_ok-put_call.ensures
+    let t = c.args.told.now in
+    numbered_more_at (call_line_of t.program.now c.args.calls.now t.names) c.args.calls.now c.args.calls.now c.loop-k.k c.index-calls-k.result _ _ _ refl (omega arith)
+    c.index-calls-k.is c.loop-k.invariant c.in_ok-put_call.ensures
 
 pub returns : goal.returns
 returns c =
-    numbered_all (call_line c.args.p.now c.args.a.now) c.args.a.now.outcomes c.loop-k.k _ _ (omega (arith, ap length c.as_slice-call-items.ensures)) c.loop-k.invariant
+    let t = c.args.told.now in
+    numbered_all (call_line_of t.program.now c.args.calls.now t.names) c.args.calls.now c.loop-k.k _ _ (omega arith) c.loop-k.invariant

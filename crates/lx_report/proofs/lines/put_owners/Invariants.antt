@@ -4,4 +4,5 @@ use Rattle.lx_report.specs.Report.{owner_line}
 use Rattle.lx_report.proofs.lines.put_owners.Given as goal
 
 abbrev pub invariant-loop-owned : goal.invariant-loop-owned
-invariant-loop-owned l = l.out.items ≡ l.fn.out.items ++ flat_map (owner_line l.p l.names) (take l.owned-index l.owners)
+invariant-loop-owned l =
+    l.out.items ≡ l.fn.out.items ++ flat_map (owner_line l.told.program.now l.told.names) (take l.owned-index l.owners)

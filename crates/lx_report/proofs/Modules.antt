@@ -1,12 +1,12 @@
 -- Slot types of modules that a program has or lacks.
-use Rattle.std.proofs.Common.{◌≡◌, refl, sym, ap, subst, ◌∙◌, ℕ, zero, suc, List, [], ◌∷◌, ◌++◌, Option, Some, None, Bool, true, false, length, slice_get, arith}
-use Rattle.std.specs.Prelude.{All, find}
+use Rattle.std.proofs.Common.{◌≡◌, refl, sym, subst, ℕ, List, [], ◌∷◌, Some, None, false, length, slice_get}
+use Rattle.std.specs.Prelude.{find}
 use Rattle.std.proofs.Common.{get_or}
 use Rattle.std.proofs.lemmas.List.Elements.{All-get_or}
 use Rattle.std.proofs.lemmas.Option.{slice_get_within, get_or_from_slice_get}
 use Rattle.lx_annot.specs.declared.interface.Interface.{Interface}
 use Rattle.lx_ir.specs.Lawful.{IsLawful}
-use Rattle.lx_slot_types.specs.Gets.{below, gets, slot_of}
+use Rattle.lx_slot_types.specs.Gets.{below, slot_of}
 use Rattle.lx_model.specs.declared.program.Program.{Program}
 use Rattle.lx_model.specs.declared.program.ProgramModule.{ProgramModule}
 use Rattle.lx_model.specs.Program.{empty_module}

@@ -1,7 +1,7 @@
 use Rattle.std.proofs.Common.{ap, arith, length}
 use Rattle.lx_model.specs.declared.program.ProgramFunction.TheVariants.{Native}
 use Rattle.lx_annotation_tables.proofs.Told.{entry_here, known_all}
-use Rattle.lx_annotation_tables.proofs.sources.sources_of.Goals as goal
+use Rattle.lx_annotation_tables.proofs.sources.named_sources.Goals as goal
 
 pub source_of-requires-clause-entry : goal.source_of-requires-clause-entry
 source_of-requires-clause-entry c =
