@@ -16,6 +16,7 @@ use Rattle.lx_cli.specs.declared.answer.Answer.TheVariants as answer
 use Rattle.lx_cli.proofs.Journal.{schedule_ran}
 use Rattle.lx_run_laws.specs.Authorised.{AreAuthorised}
 use Rattle.lx_run_laws.specs.PlainRuns.{IsPlainRun}
+use Rattle.lx_linked.specs.Explained.{IsExplainedRun}
 
 -- what stands behind the first line
 abbrev behind_line : Program → Account → List ℕ
@@ -48,9 +49,9 @@ account_is laws p w q a schedule text returned q_is a_is s_is lawful text_is ret
     }
 
 pub report_is : (p : Program) (script : List (List ScriptCall)) (s : List ℕ) (asked : Option (List ℕ)) (returned : Bool) (text : List ℕ)
-    → is_whole p s (opening p script) ≡ true → IsAsked asked s → AreAuthorised p s (opening p script) → IsPlainRun p script s
+    → is_whole p s (opening p script) ≡ true → IsAsked asked s → AreAuthorised p s (opening p script) → IsPlainRun p script s → IsExplainedRun p script s
     → IsAccountOf p (run p s (opening p script)) returned text → (r : IsReport p script returned text) × IsAsked asked r.schedule
-report_is p script s asked returned text whole is_asked authorised plain tells =
+report_is p script s asked returned text whole is_asked authorised plain explained tells =
     let same : schedule_of (run p s (opening p script)) ≡ s = schedule_ran p s (opening p script) refl whole in (
       record {
         schedule = s;
@@ -61,17 +62,18 @@ report_is p script s asked returned text whole is_asked authorised plain tells =
         status = tells.status;
         authorised = authorised;
         plain = plain;
+        explained = explained;
       },
       is_asked,
     )
 
 -- the answer tells of the run of a schedule
 pub told_of : (p : Program) (script : List (List ScriptCall)) (s : List ℕ) (asked : Option (List ℕ)) (a : Answer)
-    → is_whole p s (opening p script) ≡ true → IsAsked asked s → AreAuthorised p s (opening p script) → IsPlainRun p script s
+    → is_whole p s (opening p script) ≡ true → IsAsked asked s → AreAuthorised p s (opening p script) → IsPlainRun p script s → IsExplainedRun p script s
     → (text : List ℕ) × (returned : Bool) × (a ≡ answer.Report text returned) × IsAccountOf p (run p s (opening p script)) returned text
     → TellsRun p script asked a
-told_of p script s asked a whole is_asked authorised plain (text, returned, is, tells) =
-    subst (TellsRun p script asked) (sym is) (report_is p script s asked returned text whole is_asked authorised plain tells)
+told_of p script s asked a whole is_asked authorised plain explained (text, returned, is, tells) =
+    subst (TellsRun p script asked) (sym is) (report_is p script s asked returned text whole is_asked authorised plain explained tells)
 
 pub if_ok : {A E : Type 0} {P Q : A → Type 0} (r : Result A E) → ((a : A) → P a → Q a) → IfOk r P → IfOk r Q
 if_ok (Ok a) f is = f a is

@@ -28,6 +28,7 @@ use Rattle.lx_input.specs.declared.input.Input.{Input}
 use Rattle.lx_cli.specs.Command.{Command, Run, Replay, Instrument, Check, Generate}
 use Rattle.lx_run_laws.specs.Authorised.{AreAuthorised}
 use Rattle.lx_run_laws.specs.PlainRuns.{IsPlainRun}
+use Rattle.lx_linked.specs.Explained.{IsExplainedRun}
 
 abbrev pub is_returned : Outcome → Bool
 is_returned (Returned v) = true
@@ -59,6 +60,10 @@ pub record IsReport (p : Program) (script : List (List ScriptCall)) (returned : 
   -- each event that was not refused is the step of the programs as they are written, without the monitor; where no call
   -- came to a refusal the whole run is theirs
   pub plain : IsPlainRun p script schedule
+  -- each refusal has its cause, and names what was not met; what entered a function was what the call leads to; who owned what before the
+  -- first call; and in each world on the way everybody who owns or runs is listed, module text runs as its module, and a call that is
+  -- stopped leaves nothing but its outcome
+  pub explained : IsExplainedRun p script schedule
 
 -- the schedule is the one that is replayed, where one is
 abbrev pub IsAsked : Option (List ℕ) → List ℕ → Type 0

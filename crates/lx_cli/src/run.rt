@@ -17,6 +17,7 @@ use lx_cap_tables::CapTables;
 use lx_caps::CapStore;
 use lx_core::{EventFault, World};
 use lx_input::{Besides, Input};
+use lx_linked::linked_laws;
 use lx_model::account::{CallOutcome, ImageCount};
 use lx_model::request::Outcome;
 use lx_opening::open_world;
@@ -108,6 +109,7 @@ fn run_world<C: CapStore + Drop + Send, R: Threads + Wait + Sync, G: Gate + Sync
         → length script ≤ 16 → TellsRun p script None a) }
 {
     run_laws();
+    linked_laws();
     let done = run_threads(host.rt, host.alloc, world, host.gate)?;
     report_of(host.alloc, &done, images)
 }
@@ -125,6 +127,7 @@ fn replay_world<C: CapStore + Drop>(
         → length script ≤ 16 → TellsRun p script (Some schedule.now) a) }
 {
     run_laws();
+    linked_laws();
     match replay(world, schedule)? {
         Some(entry) => Ok(Answer::Broken(entry)),
         None => report_of(alloc, world, images),

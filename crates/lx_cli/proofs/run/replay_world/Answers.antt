@@ -1,7 +1,8 @@
-use Rattle.std.proofs.Common.{◌≡◌, refl, None, Some}
+use Rattle.std.proofs.Common.{◌≡◌, ◌∙◌, refl, sym, subst, None, Some}
 use Rattle.lx_model.specs.World.{opening, run}
 use Rattle.lx_cli.specs.Answer.{broken_at}
 use Rattle.lx_cli.proofs.Replays.{unbroken_whole}
+use Rattle.lx_link_texts.specs.WellFormed.{IsWellFormed}
 use Rattle.lx_cli.proofs.Reported.{if_ok, told_of}
 use Rattle.lx_cli.proofs.run.replay_world.Goals as goal
 
@@ -26,4 +27,5 @@ returns-in-None g c =
     let ran = c.in_ok-entry.ensures.whole p start stands (let n = c.in-None.is in cc) in
     told_of p script s (Some s) a (unbroken_whole p s start none) refl (c.run_laws.ensures.authorised p s start)
     (c.run_laws.ensures.plain p script s few stands.shared.keeps.history.placed)
+    (c.linked_laws.ensures.explained p (subst IsWellFormed (sym c.requires.2.program ∙ stands.program) c.requires.3) script s)
     (said.0, said.1, said.2, said.3 p (run p s start) ran)) c.report_of.ensures

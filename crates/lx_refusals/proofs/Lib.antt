@@ -1,0 +1,12 @@
+pub mod Decisions
+pub mod Entering
+pub mod Items
+pub mod Slots
+pub mod Refusing
+pub mod Causing
+pub mod Replying
+pub mod Needing
+pub mod Meeting
+pub mod Explaining
+pub mod Finishing
+pub mod Running
