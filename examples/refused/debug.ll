@@ -15,7 +15,7 @@ attributes #0 = { noinline nounwind optnone uwtable "frame-pointer"="all" "min-l
 !llvm.ident = !{!9}
 
 !0 = distinct !DICompileUnit(language: DW_LANG_C99, file: !1, producer: "Debian clang version 14.0.6", isOptimized: false, runtimeVersion: 0, emissionKind: FullDebug, splitDebugInlining: false, nameTableKind: None)
-!1 = !DIFile(filename: "debug.c", directory: "/home/driver", checksumkind: CSK_MD5, checksum: "1f6c6fe899c3df4dff68821383ede11f")
+!1 = !DIFile(filename: "debug.c", directory: "/usr/src/driver", checksumkind: CSK_MD5, checksum: "1f6c6fe899c3df4dff68821383ede11f")
 !2 = !{i32 7, !"Dwarf Version", i32 5}
 !3 = !{i32 2, !"Debug Info Version", i32 3}
 !4 = !{i32 1, !"wchar_size", i32 4}

@@ -59,6 +59,14 @@ store i32 7, ptr @g
 %v = load i32, ptr @g
 ret i32 %v
 }
+---- file constant.ll
+@limit = constant i32 7
+@count = global i32 0
+define void @main() {
+  store i32 1, ptr @count
+  store i32 8, ptr @limit
+  ret void
+}
 ---- file past.ll
 @g = global [7 x i8] zeroinitializer
 define void @main() {

@@ -47,6 +47,21 @@ call 0.0 m:main refused 1 m.shared write 0x1000000+8
 image m guards 1 checks 0 wrappers 0
 owns m.shared write 0x1000000+7
 owns m.shared call 0x10060
+---- a constant
+---- case
+lxfi case 1
+kernel none
+interface none
+module m constant.ll
+thread
+call m:main fuel 100
+---- whole
+status 1
+schedule 0*3
+call 0.0 m:main refused 1 m.shared write 0x1000000+4
+image m guards 2 checks 0 wrappers 0
+owns m.shared write 0x1000010+4
+owns m.shared call 0x10060
 ---- nothing
 ---- case
 lxfi case 1
