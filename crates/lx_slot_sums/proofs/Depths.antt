@@ -101,13 +101,6 @@ entry_is types d n t o few h e =
     found None e = absurd (cc)
     found (Some x) e = let k : t ≡ x.ty = cc in ap (λ u. entry_fields types (named_fields_at types 63) n u o) k
 
-pub lost_is : (types : List NamedType) (n o : ℕ) → None ≡ option_map (λ (e : NamedType). e.ty) (slice_get types n) → [] ≡ named_fields_at types 64 n o
-lost_is types n o e = lost (slice_get types n) e
-  where
-    lost : (f : Option NamedType) → None ≡ option_map (λ (x : NamedType). x.ty) f → [] ≡ fields_of_entry types (named_fields_at types 63) n f o
-    lost None e = refl
-    lost (Some x) e = absurd (cc)
-
 -- the parts of a type
 
 pub record Element (types : List NamedType) (depth : ℕ) (u : IrType) : Type 0 where

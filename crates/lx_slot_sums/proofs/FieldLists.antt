@@ -4,9 +4,10 @@ use Rattle.std.proofs.lemmas.List.{take_more, length-take-le}
 use Rattle.std.proofs.lemmas.Bool.Decides.{nat_tests}
 use Rattle.lx_ir.specs.declared.types.NamedType.{NamedType}
 use Rattle.lx_ir.specs.IrType.{IrType}
-use Rattle.lx_ir.specs.Layout.{Layout, layout, beside, layout_of, named_layouts, fields_in, laid_fields, field_start, size_of}
+use Rattle.lx_ir.specs.Layout.{Layout, layout, beside, layout_of, named_layouts, fields_in, laid_fields, field_start, align_of, size_of}
+use Rattle.std.specs.Int.{next_multiple_of}
 use Rattle.lx_ir.specs.TypeNodes.{types_of_list}
-use Rattle.lx_ir.proofs.Layouts.{fields_more, front_le, start_within}
+use Rattle.lx_ir.proofs.Layouts.{fields_more, front_le, next_le, start_within}
 use Rattle.lx_slot_types.specs.Sites.{FieldName, names_of, start_of, field_here, fields_at, struct_fields_at, array_fields_at}
 
 -- an array, by whether its elements have bytes
@@ -109,12 +110,7 @@ end_fits types packed xs i n e w =
     let c : (laid_fields types packed (types_of_list xs)).size ≤ 4294967296 = w in
     omega arith
 
--- an array, as it is gone over
-
-pub array_first : (inside : ℕ → List FieldName) (n s size o : ℕ) (p : Bool) → s ≡ 0 → s ≡ size → p ≡ (nat_lt 0 n && nat_eq o 0) → (if p then inside 0 else []) ≡ array_fields_at inside n size o
-array_first inside n s size o p h e a = ap (λ b. if b then inside 0 else []) a ∙ (sym (array_without inside n s o h) ∙ ap (λ k. array_fields_at inside n k o) e)
-
-pub array_both : (inside : ℕ → List FieldName) (n s size o : ℕ) (p q : Bool) → 0 < s → s ≡ size → p ≡ nat_lt (o / s) n → q ≡ (nat_lt 0 o && (nat_eq (o % s) 0 && nat_le (o / s) n)) → (if p then inside (o % s) else []) ++ (if q then inside s else []) ≡ array_fields_at inside n size o
-array_both inside n s size o p q h e a b =
-    (λ j. (if a j then inside (o % s) else []) ++ (if b j then inside s else []))
-    ∙ (sym (array_with inside n s o h) ∙ ap (λ k. array_fields_at inside n k o) e)
+-- a field begins at the end of the fields before it or behind it
+pub start_behind : (types : List NamedType) (packed : Bool) (t : IrType) (n start : ℕ) → start ≡ start_of types packed t (layout n 1) → n ≤ start
+start_behind types true t n start e = omega (arith, e)
+start_behind types false t n start e = let l : n ≤ next_multiple_of n (align_of types t) = next_le n (align_of types t) in omega (arith, e, l)

@@ -1,8 +1,11 @@
+pub mod Answering
 pub mod Classed
 pub mod Depths
+pub mod Edges
 pub mod FieldLists
 pub mod Joining
 pub mod Kept
-pub mod Making
+pub mod Laying
+pub mod Lawful
 pub mod Names
 pub mod Statements

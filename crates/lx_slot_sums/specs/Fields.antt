@@ -1,5 +1,5 @@
 -- The sums of the fields that an interface types.
-use Rattle.std.specs.Prelude.{◌≡◌, ℕ, Bool, ◌&&◌, Option, List, bytes_eq, nat_eq}
+use Rattle.std.specs.Prelude.{◌≡◌, ◌<◌, ◌≤◌, length, slice_index_or, ℕ, Bool, ◌&&◌, Option, List, bytes_eq, nat_eq}
 use Rattle.std.specs.List.{list_any}
 use Rattle.std.specs.Borrow.{Bor}
 use Rattle.std.specs.Map.{lookup}
@@ -29,3 +29,10 @@ typed_by fields name k s = list_any (λ f. bytes_eq name f.name && (nat_eq f.ind
 -- the table has the sum of each field
 unfoldable pub HasFields : Interface → Table → Type 0
 HasFields i table = (name : List ℕ) → (k : ℕ) → sum_at table name k ≡ sum_by i (typed_by i.fields name k)
+
+abbrev pub Typed : Type 0
+Typed = Interface
+
+-- no struct's name has more bytes
+unfoldable pub AreShort : List Field → ℕ → Type 0
+AreShort fields n = (k : ℕ) → (d : Field) → k < length fields → length (slice_index_or fields k d).name ≤ n

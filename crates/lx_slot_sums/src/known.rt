@@ -1,39 +1,38 @@
-//! What is known of the sums of named types, and the names and types of a module by their numbers.
+//! Numbers of spreads that are known, and the names and types of a module by their numbers.
 ghost use Rattle.std.specs.Prelude.{◌≡◌, ℕ, None, Some, IfOk, if◌then◌else◌, nat_eq, nat_lt, ◌&&◌, length, option_copied, option_map, slice_get};
 ghost use Rattle.lx_slot_sums.specs.Known.{known};
 
-use crate::sums::SlotSum;
 use lx_ir::module::Module;
 use lx_ir::types::IrType;
 use lx_words::Memory;
 use std::alloc::Global;
 
-/// The sum of the named type with a number, if it is known.
-pub(crate) fn known(sums: &[Option<SlotSum>], number: u32) -> Option<SlotSum>
-    ensures { result ≡ known sums.now number }
+/// The number of the spread of the type or the global with a number, if it has one.
+pub(crate) fn known(numbers: &[Option<u32>], number: u32) -> Option<u32>
+    ensures { result ≡ known numbers.now number }
 {
-    sums.get(number as usize).copied().flatten()
+    numbers.get(number as usize).copied().flatten()
 }
 
-/// Keeps the sum of the named type with a number, if there is such a type.
-pub(crate) fn keep(sums: &mut Vec<Option<SlotSum>>, number: u32, sum: SlotSum)
-    ensures { (n : ℕ) → known sums.new.items n ≡ (if nat_eq number n && nat_lt n (length sums.old.items) then Some sum else known sums.old.items n) }
+/// Keeps the number of the spread of the named type with a number, if there is such a type.
+pub(crate) fn keep(numbers: &mut Vec<Option<u32>>, number: u32, spread: Option<u32>)
+    ensures { (n : ℕ) → known numbers.new.items n ≡ (if nat_eq number n && nat_lt n (length numbers.old.items) then spread else known numbers.old.items n) }
 {
-    if (number as usize) < sums.len() {
-        sums[number as usize] = Some(sum);
+    if (number as usize) < numbers.len() {
+        numbers[number as usize] = spread;
     }
 }
 
-/// Of so many named types, no sums.
+/// Of so many named types, no spreads.
 #[tactic(auto, using(crate::proofs::Kept::none_more, crate::proofs::Kept::none_at_first))]
-pub(crate) fn nothing_known(alloc: Global, count: usize) -> Result<Vec<Option<SlotSum>>, Memory>
-    ensures { IfOk result (λ sums. (n : ℕ) → known sums.items n ≡ None) }
+pub(crate) fn nothing_known(alloc: Global, count: usize) -> Result<Vec<Option<u32>>, Memory>
+    ensures { IfOk result (λ numbers. (n : ℕ) → known numbers.items n ≡ None) }
 {
-    let mut sums = Vec::new(alloc);
+    let mut numbers = Vec::new(alloc);
     for _ in 0..count {
-        sums.push(None)?;
+        numbers.push(None)?;
     }
-    Ok(sums)
+    Ok(numbers)
 }
 
 /// The name of the named type with a number.

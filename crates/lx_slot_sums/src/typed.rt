@@ -1,10 +1,10 @@
 //! The sums of the fields that an interface types, by the names of their structs and their numbers there.
-ghost use Rattle.std.specs.Prelude.{◌≡◌, ℕ, Some, List, cond, IfOk, OnOk};
+ghost use Rattle.std.specs.Prelude.{◌≡◌, max, ℕ, Some, List, cond, IfOk, OnOk};
 ghost use Rattle.lx_slot_sums.specs.Classes.{IsClassed, class_differs};
-ghost use Rattle.lx_slot_sums.specs.Sums.{joined, single};
-ghost use Rattle.lx_slot_sums.specs.Fields.{HasFields, at_field, is_key, sum_at};
+ghost use Rattle.lx_slot_sums.specs.Sums.{joined, single, sum_by};
+ghost use Rattle.lx_slot_sums.specs.Fields.{AreShort, HasFields, Typed, at_field, is_key, sum_at, typed_by};
 
-use crate::sums::{SlotSum, join, single, sum_or_none};
+use crate::sums::{SlotSum, join, no_sum, single, sum_or_none};
 use indexmap::IndexMap;
 use lx_annot::interface::{Field, Interface};
 use lx_words::Memory;
@@ -18,6 +18,40 @@ pub(crate) fn sum_at<'a>(table: &IndexMap<Key<'a>, SlotSum>, name: &'a [u8], ind
     ensures { result ≡ sum_at table.now.entries name.now index }
 {
     sum_or_none(table.get(&(name, index)).copied())
+}
+
+/// The greater of two numbers.
+fn greater(a: usize, b: usize) -> usize
+    ensures { result ≡ max a b }
+{
+    a.max(b)
+}
+
+/// The bytes of the longest name of a struct of which an interface types a field.
+pub(crate) fn longest_name(i: &Interface) -> usize
+    ensures { AreShort i.now.fields result }
+{
+    let mut longest = 0;
+    for field in i.fields.as_slice() {
+        longest = greater(longest, field.name.as_slice().len());
+    }
+    longest
+}
+
+/// The sum of the field with a name and a number. A name that is longer than those in the table is not gone over.
+pub(crate) fn short_sum_at<'a>(
+    table: &IndexMap<Key<'a>, SlotSum>,
+    longest: usize,
+    name: &'a [u8],
+    index: u64,
+) -> SlotSum
+    ensures { (i : Typed) → HasFields i table.now.entries → AreShort i.fields longest → result ≡ sum_by i (typed_by i.fields name.now index) }
+{
+    if name.len() > longest {
+        no_sum()
+    } else {
+        sum_at(table, name, index)
+    }
 }
 
 /// Puts the sum of the field that a statement types.

@@ -3,4 +3,4 @@ use Rattle.lx_slot_sums.specs.Known.{known}
 use Rattle.lx_slot_sums.proofs.known.nothing_known.Given as goal
 
 abbrev pub invariant-loop : goal.invariant-loop
-invariant-loop l = (n : ℕ) → known l.sums.items n ≡ None
+invariant-loop l = (n : ℕ) → known l.numbers.items n ≡ None

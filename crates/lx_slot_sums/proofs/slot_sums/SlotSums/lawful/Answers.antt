@@ -1,7 +1,0 @@
-use Rattle.std.proofs.Common.{subst}
-use Rattle.lx_slot_sums.specs.Sums.{Typing}
-use Rattle.lx_slot_sums.specs.Within.{HasLawfulTypes}
-use Rattle.lx_slot_sums.proofs.slot_sums.SlotSums.lawful.Goals as goal
-
-pub returns : goal.returns
-returns c = subst (λ (t : Typing). HasLawfulTypes t.text) c.self.view_is c.self.invariant.lawful

@@ -1,7 +1,0 @@
-use Rattle.lx_slot_sums.proofs.Kept.{summed}
-use Rattle.lx_slot_sums.proofs.slot_sums.SlotSums.unfilled.Goals as goal
-
-pub invariant_of-result : goal.invariant_of-result
-invariant_of-result c =
-    summed c.args.interface.now c.args.module.now c.in_ok-classes.classes c.in_ok-typed.typed.entries c.in_ok-begins.begins.items c.in_ok-ends.ends.items
-    c.in_ok-classes.ensures c.in_ok-typed.ensures c.in_ok-begins.ensures c.in_ok-ends.ensures c.requires
