@@ -2,31 +2,16 @@
 use Rattle.std.specs.Prelude.{◌≡◌, ℕ, ◌≤◌, Bool, true, false, IsTrue, Option, Some, None, List, length, slice_get}
 use Rattle.std.specs.List.{list_all}
 use Rattle.lx_ir.specs.declared.types.NamedType.{NamedType}
-use Rattle.lx_ir.specs.declared.module.Block.{Block}
 use Rattle.lx_ir.specs.declared.module.Function.{Function}
 use Rattle.lx_ir.specs.declared.module.Module.{Module}
-use Rattle.lx_ir.specs.declared.instr.Instr.{Instr}
-use Rattle.lx_ir.specs.declared.instr.Op.{Op}
-use Rattle.lx_ir.specs.declared.instr.Op.TheVariants.{Alloca, GetElementPtr}
-use Rattle.lx_ir.specs.Layout.{is_lawful_type}
 use Rattle.lx_ir.specs.Lookup.{blocks_of}
 use Rattle.lx_model.specs.declared.program.Program.{Program}
 use Rattle.lx_model.specs.Thread.{routine}
 use Rattle.lx_model.specs.Next.{actions_of}
 use Rattle.lx_code.specs.declared.code.ActionCounts.{ActionCounts}
+pub use Rattle.lx_code_tables.specs.Sized.{is_sized, are_sized_instrs, are_sized}
 
--- the type whose layout an instruction asks for is within the limits
-abbrev pub is_sized : List NamedType → Op → Bool
-is_sized types (Alloca to ty) = is_lawful_type types ty
-is_sized types (GetElementPtr to ty base indices) = is_lawful_type types ty
-is_sized types _ = true
-
-abbrev pub are_sized_instrs : List NamedType → List Instr → Bool
-are_sized_instrs types instrs = list_all (λ i. is_sized types i.op) instrs
-
-abbrev pub are_sized : List NamedType → List Block → Bool
-are_sized types blocks = list_all (λ b. are_sized_instrs types b.instrs) blocks
-
+-- the types of a function's instructions are within the limits, and those of a text's functions
 abbrev pub is_sized_function : List NamedType → Function → Bool
 is_sized_function types f = are_sized types (blocks_of f)
 

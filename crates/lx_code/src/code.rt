@@ -1,19 +1,18 @@
 //! The code that a machine runs: what the numbers of a program name.
 ghost use Rattle.std.specs.Prelude.{◌≡◌, ℕ, ◌+◌, ◌<◌, Bool, true, IsTrue, IfOk, IfSome, Option, Some, List, length, map, bytes_eq, option_copied, option_and_then, position};
-ghost use Rattle.lx_model.specs.Program.{module_of, empty_module, function_of, function_of_entry, home_or_kernel, result_width, target, global_address};
+ghost use Rattle.lx_model.specs.Program.{module_of, function_of, function_of_entry, home_or_kernel, result_width, target};
 ghost use Rattle.lx_model.specs.Thread.{routine, routine_or_none, code_block_of};
 ghost use Rattle.lx_model.specs.Next.{actions_of, has_action};
 ghost use Rattle.lx_code.specs.Reach.{IsWithinReach, CountsActions, HasLocals, count_in};
-ghost use Rattle.lx_code.specs.Jumps.{op_at, IsCaseAt, IsEdgeAt};
+ghost use Rattle.lx_code.specs.Jumps.{op_at, IsCaseAt, IsEdgeAt, IsRoomAt, IsRouteAt};
 ghost use Rattle.lx_code.specs.Targets.{target_of};
 
 use crate::functions::{function_in, function_named};
-use crate::jumps::{first_block, first_case, first_edge, tables_of};
-use crate::tables::Tables;
+use crate::jumps::{first_block, first_case, first_edge, room_at, route_at, tables_of};
+use crate::named::Names;
 use crate::targets::Target;
 use crate::words::width_of;
-use lx_code_tables::JumpTables;
-use lx_ir::NamedTypes;
+use lx_code_tables::{CodeTables, Room, Route};
 use lx_ir::module::{Block, Function, Module};
 use lx_ir_uses::blocks_of;
 use lx_model::program::{Program, ProgramFunction};
@@ -32,16 +31,13 @@ pub struct ActionCounts {
 /// The code of a program, which others may hold too. Contracts see the program.
 #[derive(Drop)]
 pub struct Code {
-    program: Arc<Program>,
-    empty: Module,
+    names: Names,
     actions: Vec<ActionCounts>,
     most_locals: usize,
-    tables: Tables,
-    jumps: Items<JumpTables>,
+    jumps: Items<CodeTables>,
 }
 
 impl Model for Code {
-    ghost use Rattle.std.specs.Arc.{arc_value};
     ghost use Rattle.lx_model.specs.declared.program.Program.{Program as Meaning};
     ghost use Rattle.lx_code.specs.Runnable.{IsRunnable};
     ghost use Rattle.lx_model.specs.contracts.program.Program as program_row;
@@ -50,9 +46,9 @@ impl Model for Code {
 
     ghost coded = { program_row.the_row.coded };
 
-    ghost view = { λ c. arc_value c.program };
+    ghost view = { λ c. c.names };
 
-    ghost invariant = { λ c. IsRunnable (arc_value c.program) c.empty c.actions.items c.most_locals c.tables.kernel c.tables.modules c.tables.addresses.entries c.jumps };
+    ghost invariant = { λ c. IsRunnable c.names c.actions.items c.most_locals c.jumps };
 }
 
 // How many registers the instructions of an entry's function give.
@@ -93,17 +89,6 @@ fn result_of(function: &Function) -> Option<Width>
     }
 }
 
-// A text that has nothing.
-fn no_text(alloc: Global) -> Module
-    ensures { result ≡ empty_module }
-{
-    Module {
-        types: NamedTypes::empty(alloc),
-        globals: Items::new(alloc),
-        functions: Items::new(alloc),
-    }
-}
-
 impl Code {
     ghost use Rattle.std.specs.Arc.{arc_value};
 
@@ -120,17 +105,22 @@ impl Code {
         requires actions { CountsActions (arc_value program) actions.items }
         ensures { IfOk result (λ code. code ≡ arc_value program) }
     {
-        let most_locals = most_locals(&program);
-        let tables = Tables::new(alloc, &program)?;
-        let jumps = tables_of(alloc, &program)?;
+        let names = Names::new(alloc, program)?;
+        let most_locals = most_locals(names.program());
+        let jumps = tables_of(alloc, &names)?;
         Ok(Code {
-            program,
-            empty: no_text(alloc),
+            names,
             actions,
             most_locals,
-            tables,
             jumps,
         })
+    }
+
+    /// What the names of the program stand for.
+    pub(crate) fn names(&self) -> &Names
+        ensures { result.now ≡ self.now }
+    {
+        &self.names
     }
 
     /// The program that runs.
@@ -138,20 +128,14 @@ impl Code {
         ensures whole { result.now ≡ self.now }
         ensures reach { IsWithinReach self.now }
     {
-        &*self.program
+        self.names.program()
     }
 
     /// The text of a module, or of the kernel; an empty one, where there is none.
     pub fn text(&self, home: Option<u32>) -> &Module
         ensures { result.now ≡ module_of self.now home }
     {
-        match home {
-            None => &self.program().kernel,
-            Some(number) => match self.program().modules.items.get(number as usize) {
-                Some(found) => &found.module,
-                None => &self.empty,
-            },
-        }
+        self.names.text(home)
     }
 
     /// Whose text a function runs.
@@ -182,14 +166,7 @@ impl Code {
     pub fn target(&self, home: Option<u32>, function: u32) -> Target
         ensures { target_of result ≡ target self.now home function }
     {
-        self.tables.target(home, function)
-    }
-
-    /// The address of a global; 0, where there is none.
-    pub(crate) fn global_address(&self, home: Option<u32>, number: u32) -> u64
-        ensures { result ≡ global_address self.now home number }
-    {
-        self.tables.address(home, number).unwrap_or(0)
+        self.names.target(home, function)
     }
 
     /// How many registers the instructions of a function give.
@@ -265,7 +242,7 @@ impl Code {
     /// The place of the first case that is equal to a number, if one is, in the switch at a place of a function's block.
     /// None, where that has no table; then its cases have to be searched.
     pub fn case(&self, number: u32, block: usize, place: usize, bits: u64) -> Option<Option<usize>>
-        ensures { IfSome result (λ found. IsCaseAt self.now (op_at (routine self.now number).blocks block place) bits found) }
+        ensures { IfSome result (λ found. IsCaseAt self.now number (op_at (routine self.now number).blocks block place) bits found) }
     {
         first_case(self.jumps.as_slice(), number, block, place, bits)
     }
@@ -282,5 +259,21 @@ impl Code {
         ensures { IfSome result (λ found. IsEdgeAt (op_at (routine self.now number).blocks block place) label.now found) }
     {
         first_edge(self.jumps.as_slice(), number, block, place, label)
+    }
+
+    /// What room the `alloca` at a place of a function's block asks for. None, where that has no table; then its type has to
+    /// be laid out.
+    pub fn room(&self, number: u32, block: usize, place: usize) -> Option<Room>
+        ensures { IfSome result (λ room. IsRoomAt self.now number (op_at (routine self.now number).blocks block place) room) }
+    {
+        room_at(self.jumps.as_slice(), number, block, place)
+    }
+
+    /// How far the indices of the `getelementptr` at a place of a function's block go. None, where that has no table; then
+    /// they have to be followed through its type.
+    pub fn route(&self, number: u32, block: usize, place: usize) -> Option<&Route>
+        ensures { IfSome result (λ route. IsRouteAt self.now number (op_at (routine self.now number).blocks block place) route.now) }
+    {
+        route_at(self.jumps.as_slice(), number, block, place)
     }
 }

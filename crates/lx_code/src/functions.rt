@@ -1,6 +1,8 @@
 //! The functions that the entries of a program's list name.
 ghost use Rattle.std.specs.Prelude.{◌≡◌, Some, option_copied, slice_get, unwrap_or};
+ghost use Rattle.lx_ir.specs.declared.module.Function.{Function};
 ghost use Rattle.lx_model.specs.Program.{module_of, empty_module, function_of_entry};
+ghost use Rattle.lx_code.specs.Jumps.{home_in_entry, text_of_entry};
 
 use lx_ir::module::{Function, Module};
 use lx_model::program::{Program, ProgramFunction};
@@ -36,6 +38,29 @@ pub(crate) fn function_named<'a>(
             Some(text) => function_in(text, *function),
             None => None,
         },
+        ProgramFunction::Native(_) => None,
+    }
+}
+
+/// The text that defines the function which an entry of the program's list names; where none does, the kernel's.
+pub(crate) fn text_named<'a>(program: &'a Program, entry: &ProgramFunction) -> &'a Module
+    ensures { (g : Function) → function_of_entry program.now (Some entry.now) ≡ Some g → result.now ≡ text_of_entry program.now (Some entry.now) }
+{
+    match entry {
+        ProgramFunction::Of { module, .. } => match module_in(program, *module) {
+            Some(text) => text,
+            None => &program.kernel,
+        },
+        ProgramFunction::Native(_) => &program.kernel,
+    }
+}
+
+/// Whose text defines the function that an entry of the program's list names; the kernel's, where none does.
+pub(crate) fn home_named(entry: &ProgramFunction) -> Option<u32>
+    ensures { result ≡ home_in_entry (Some entry.now) }
+{
+    match entry {
+        ProgramFunction::Of { module, .. } => *module,
         ProgramFunction::Native(_) => None,
     }
 }

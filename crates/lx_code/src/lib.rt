@@ -5,6 +5,7 @@ mod code;
 mod constants;
 mod functions;
 mod jumps;
+mod named;
 mod places;
 mod tables;
 mod targets;

@@ -1,17 +1,17 @@
 -- Tables may be shared by threads.
 use denote.Param.Send.{IsSync, sendable}
 use Rattle.std.proofs.Crossing.{crosses}
-use Rattle.lx_code_tables.specs.contracts.choices.Choices as Choices
-use Rattle.lx_code_tables.specs.contracts.tables.JumpTables as JumpTables
+use Rattle.lx_code_tables.specs.contracts.instructions.Table as Table
+use Rattle.lx_code_tables.specs.contracts.tables.CodeTables as CodeTables
 
-pub choices_field : IsSync (Choices.the_field).row
-choices_field = search (crosses, sendable) depth 60 fits 20000
+pub table_field : IsSync (Table.the_field).row
+table_field = search (crosses, sendable) depth 60 fits 20000
 
-pub choices_sync : IsSync Choices.the_row
-choices_sync = search (choices_field, sendable) depth 60 fits 20000
+pub table_sync : IsSync Table.the_row
+table_sync = search (table_field, sendable) depth 60 fits 20000
 
-pub tables_field : IsSync (JumpTables.the_field).row
-tables_field = search (choices_sync, crosses, sendable) depth 60 fits 20000
+pub tables_field : IsSync (CodeTables.the_field).row
+tables_field = search (table_sync, crosses, sendable) depth 60 fits 20000
 
-pub tables_sync : IsSync JumpTables.the_row
+pub tables_sync : IsSync CodeTables.the_row
 tables_sync = search (tables_field, sendable) depth 60 fits 20000

@@ -10,21 +10,41 @@ use Rattle.lx_ir.specs.declared.instr.Op.{Op}
 use Rattle.lx_ir.specs.declared.instr.Op.TheVariants as op
 use Rattle.lx_ir.specs.declared.module.Block.{Block}
 use Rattle.lx_ir.specs.declared.module.Value.{Value}
+use Rattle.lx_ir.specs.declared.instr.Argument.{Argument}
+use Rattle.lx_ir.specs.declared.types.NamedType.{NamedType}
 use Rattle.lx_ir.specs.declared.types.Scalar.{Scalar}
+use Rattle.lx_ir.specs.IrType.{IrType}
+use Rattle.lx_ir.specs.Layout.{layout, layout_of}
+use Rattle.lx_code_tables.specs.Firsts.{Numbers}
 use Rattle.lx_code_tables.specs.Fits.{op_at, same_place, FitsAt, FitsOp}
-use Rattle.lx_code_tables.specs.declared.choices.Choices.{Choices}
+use Rattle.lx_code_tables.specs.Routes.{IsRoute}
+use Rattle.lx_code_tables.specs.declared.instructions.Table.TheVariants as table
+use Rattle.lx_code_tables.specs.declared.routes.Room.{Room}
+use Rattle.lx_code_tables.specs.declared.routes.Route.{Route}
+use Rattle.lx_code_tables.specs.declared.instructions.Table.{Table}
 
 -- the table of an instruction fits it
 
-pub switch_fits : (ty : Scalar) (v : Value) (otherwise : List ℕ) (cases xs : List SwitchCase) (found : Option Choices) → xs ≡ cases
-    → IfSome found (λ table. (ty : Scalar) → (v : Value) → (otherwise : List ℕ) → FitsOp (op.Switch ty v otherwise xs) table) → FitsAt (Some (op.Switch ty v otherwise cases)) found
-switch_fits ty v otherwise cases xs None is fits = _
-switch_fits ty v otherwise cases xs (Some table) is fits = subst (λ (l : List SwitchCase). FitsOp (op.Switch ty v otherwise l) table) is (fits ty v otherwise)
+module _ (types : List NamedType) (numbers : Numbers) where
+  pub switch_fits : (ty : Scalar) (v : Value) (otherwise : List ℕ) (cases xs : List SwitchCase) (found : Option Table) → xs ≡ cases
+      → IfSome found (λ t. (types : List NamedType) → (ty : Scalar) → (v : Value) → (otherwise : List ℕ) → FitsOp types numbers (op.Switch ty v otherwise xs) t)
+      → FitsAt types numbers (Some (op.Switch ty v otherwise cases)) found
+  switch_fits ty v otherwise cases xs None is fits = _
+  switch_fits ty v otherwise cases xs (Some t) is fits = subst (λ (l : List SwitchCase). FitsOp types numbers (op.Switch ty v otherwise l) t) is (fits types ty v otherwise)
 
-pub phi_fits : (to : ℕ) (ty : Scalar) (edges xs : List Edge) (found : Option Choices) → xs ≡ edges
-    → IfSome found (λ table. (to : ℕ) → (ty : Scalar) → FitsOp (op.Phi to ty xs) table) → FitsAt (Some (op.Phi to ty edges)) found
-phi_fits to ty edges xs None is fits = _
-phi_fits to ty edges xs (Some table) is fits = subst (λ (l : List Edge). FitsOp (op.Phi to ty l) table) is (fits to ty)
+  pub phi_fits : (to : ℕ) (ty : Scalar) (edges xs : List Edge) (found : Option Table) → xs ≡ edges
+      → IfSome found (λ t. (types : List NamedType) → (numbers : Numbers) → (to : ℕ) → (ty : Scalar) → FitsOp types numbers (op.Phi to ty xs) t) → FitsAt types numbers (Some (op.Phi to ty edges)) found
+  phi_fits to ty edges xs None is fits = _
+  phi_fits to ty edges xs (Some t) is fits = subst (λ (l : List Edge). FitsOp types numbers (op.Phi to ty l) t) is (fits types numbers to ty)
+
+  pub room_fits : (to : ℕ) (ty : IrType) (found : Option Table) → IfSome found (λ t. (numbers : Numbers) → (to : ℕ) → FitsOp types numbers (op.Alloca to ty) t) → FitsAt types numbers (Some (op.Alloca to ty)) found
+  room_fits to ty None fits = _
+  room_fits to ty (Some t) fits = fits numbers to
+
+  pub route_fits : (to : ℕ) (ty : IrType) (base : Value) (indices xs : List Argument) (found : Option Table) → xs ≡ indices
+      → IfSome found (λ t. (numbers : Numbers) → (to : ℕ) → (base : Value) → FitsOp types numbers (op.GetElementPtr to ty base xs) t) → FitsAt types numbers (Some (op.GetElementPtr to ty base indices)) found
+  route_fits to ty base indices xs None is fits = _
+  route_fits to ty base indices xs (Some t) is fits = subst (λ (l : List Argument). FitsOp types numbers (op.GetElementPtr to ty base l) t) is (fits numbers to base)
 
 -- the instruction at a place of a block
 pub op_placed : (blocks : List Block) (b : Block) (n k : ℕ) (instrs : List Instr) (i : Instr) → slice_get blocks n ≡ Some b → b.instrs ≡ instrs → slice_get instrs k ≡ Some i → op_at blocks n k ≡ Some i.op
@@ -37,15 +57,15 @@ same_number : (m n : ℕ) → nat_eq m n ≡ true → m ≡ n
 same_number m n e = grind (arith, nat_tests, e)
 
 -- one table more
-module _ (blocks : List Block) (block place b k : ℕ) (o : Op) (table : Choices) (old : Option Choices)
-    (fits : FitsAt (Some o) (Some table)) (at : op_at blocks block place ≡ Some o) (kept : FitsAt (op_at blocks b k) old) where
-  by_test : (t : Bool) → same_place (block, place) (b, k) ≡ t → FitsAt (op_at blocks b k) (cond t (Some table) old)
+module _ (types : List NamedType) (numbers : Numbers) (blocks : List Block) (block place b k : ℕ) (o : Op) (table : Table) (old : Option Table)
+    (fits : FitsAt types numbers (Some o) (Some table)) (at : op_at blocks block place ≡ Some o) (kept : FitsAt types numbers (op_at blocks b k) old) where
+  by_test : (t : Bool) → same_place (block, place) (b, k) ≡ t → FitsAt types numbers (op_at blocks b k) (cond t (Some table) old)
   by_test true e =
       let both = and_parts (nat_eq block b) (nat_eq place k) e in
       let here : op_at blocks b k ≡ Some o =
       ap (λ (n : ℕ). op_at blocks n k) (sym (same_number block b both.0)) ∙ ap (op_at blocks block) (sym (same_number place k both.1)) ∙ at in
-      subst (λ (x : Option Op). FitsAt x (Some table)) (sym here) fits
+      subst (λ (x : Option Op). FitsAt types numbers x (Some table)) (sym here) fits
   by_test false e = kept
 
-  pub one_more : (found : Option Choices) → found ≡ cond (same_place (block, place) (b, k)) (Some table) old → FitsAt (op_at blocks b k) found
-  one_more found is = subst (FitsAt (op_at blocks b k)) (sym is) (by_test (same_place (block, place) (b, k)) refl)
+  pub one_more : (found : Option Table) → found ≡ cond (same_place (block, place) (b, k)) (Some table) old → FitsAt types numbers (op_at blocks b k) found
+  one_more found is = subst (FitsAt types numbers (op_at blocks b k)) (sym is) (by_test (same_place (block, place) (b, k)) refl)

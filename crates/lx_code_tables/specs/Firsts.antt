@@ -1,12 +1,11 @@
 -- What stands first: maps from names and from numbers to the first places of what they name.
-use Rattle.std.specs.Prelude.{◌≡◌, ℕ, Bool, true, false, Option, Some, None, List, nat_eq, bytes_eq, is_some, position}
+use Rattle.std.specs.Prelude.{◌≡◌, ℕ, Bool, true, false, Option, Some, None, List, nat_eq, bytes_eq, position}
 use Rattle.std.specs.Global.{Vec}
 use Rattle.std.specs.Map.{lookup}
 use Rattle.lx_ir.specs.declared.instr.Edge.{Edge}
 use Rattle.lx_ir.specs.declared.instr.SwitchCase.{SwitchCase}
 use Rattle.lx_ir.specs.declared.module.Block.{Block}
 use Rattle.lx_ir.specs.declared.module.Constant.{Constant}
-use Rattle.lx_ir.specs.declared.module.Constant.TheVariants as constant
 use Rattle.lx_ir.specs.declared.module.Value.{Value}
 use Rattle.lx_ir.specs.declared.module.Value.TheVariants as value
 
@@ -25,34 +24,34 @@ is_named name b = bytes_eq b.name name
 abbrev pub is_from : List ℕ → Edge → Bool
 is_from label e = bytes_eq e.label label
 
--- the number that a constant is in every program, if it is one
-abbrev pub number_in : Constant → Option ℕ
-number_in (constant.Number w) = Some w.bits
-number_in (constant.Truth true) = Some 1
-number_in (constant.Truth false) = Some 0
-number_in (constant.Blank b w) = Some 0
-number_in _ = None
+-- what each constant of a text comes to
+abbrev pub Numbers : Type 0
+Numbers = Constant → ℕ
 
-abbrev pub number_of : Value → Option ℕ
-number_of (value.Constant c) = number_in c
-number_of (value.Register r) = None
+abbrev pub number_of : Numbers → Value → Option ℕ
+number_of numbers (value.Constant c) = Some (numbers c)
+number_of numbers (value.Register r) = None
 
 -- there is a number, and it is this one
 abbrev pub is_number : Option ℕ → ℕ → Bool
 is_number None n = false
 is_number (Some k) n = nat_eq k n
 
-abbrev pub is_case : ℕ → SwitchCase → Bool
-is_case n c = is_number (number_of c.value) n
+abbrev pub is_case : Numbers → ℕ → SwitchCase → Bool
+is_case numbers n c = is_number (number_of numbers c.value) n
 
--- the case is a number in every program
-abbrev pub is_numbered : SwitchCase → Bool
-is_numbered c = is_some (number_of c.value)
+abbrev pub is_constant : Value → Bool
+is_constant (value.Constant c) = true
+is_constant (value.Register r) = false
+
+-- the case is the same number each time that the switch runs
+abbrev pub is_fixed : SwitchCase → Bool
+is_fixed c = is_constant c.value
 
 -- the map has the place of the first thing of each name
 abbrev pub HasNames : {A : Type 0} → (List ℕ → A → Bool) → List A → List (Vec ℕ × ℕ) → Type 0
 HasNames test xs table = (name : List ℕ) → at_name table name ≡ position (test name) xs
 
 -- and of the first case of each number
-abbrev pub HasCases : List SwitchCase → List (ℕ × ℕ) → Type 0
-HasCases cases table = (n : ℕ) → at_number table n ≡ position (is_case n) cases
+abbrev pub HasCases : Numbers → List SwitchCase → List (ℕ × ℕ) → Type 0
+HasCases numbers cases table = (n : ℕ) → at_number table n ≡ position (is_case numbers n) cases

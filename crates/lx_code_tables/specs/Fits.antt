@@ -5,10 +5,13 @@ use Rattle.std.specs.Map.{lookup}
 use Rattle.lx_ir.specs.declared.instr.Op.{Op}
 use Rattle.lx_ir.specs.declared.instr.Op.TheVariants as op
 use Rattle.lx_ir.specs.declared.module.Block.{Block}
-use Rattle.lx_code_tables.specs.Firsts.{HasCases, HasNames, is_from, is_named, is_numbered}
-use Rattle.lx_code_tables.specs.declared.choices.Choices.{Choices}
-use Rattle.lx_code_tables.specs.declared.choices.Choices.TheVariants.{Cases, Edges}
-use Rattle.lx_code_tables.specs.declared.tables.JumpTables.{JumpTables}
+use Rattle.lx_ir.specs.declared.types.NamedType.{NamedType}
+use Rattle.lx_ir.specs.Layout.{layout, layout_of}
+use Rattle.lx_code_tables.specs.Firsts.{HasCases, HasNames, Numbers, is_fixed, is_from, is_named}
+use Rattle.lx_code_tables.specs.Routes.{IsRoute}
+use Rattle.lx_code_tables.specs.declared.instructions.Table.{Table}
+use Rattle.lx_code_tables.specs.declared.instructions.Table.TheVariants.{Cases, Edges, Room, Route}
+use Rattle.lx_code_tables.specs.declared.tables.CodeTables.{CodeTables}
 
 -- the number of a block, and the place of an instruction there
 abbrev pub Place : Type 0
@@ -25,21 +28,24 @@ at_place table b k = lookup (same_place (b, k)) table
 abbrev pub op_at : List Block → ℕ → ℕ → Option Op
 op_at blocks b k = option_map (λ i. i.op) (option_and_then (λ x. slice_get x.instrs k) (slice_get blocks b))
 
--- the table has the first of the instruction's cases, each of which is a number, or the first of its edges
-abbrev pub FitsOp : Op → Choices → Type 0
-FitsOp (op.Switch ty v otherwise cases) (Cases table) = (list_all is_numbered cases ≡ true) × HasCases cases table.entries
-FitsOp (op.Phi to ty edges) (Edges table) = HasNames is_from edges table.entries
-FitsOp _ _ = ⊤
+-- the table has the first of the instruction's cases, each of which is a constant, the first of its edges, the room of its type,
+-- or the route of its indices
+abbrev pub FitsOp : List NamedType → Numbers → Op → Table → Type 0
+FitsOp types numbers (op.Switch ty v otherwise cases) (Cases table) = (list_all is_fixed cases ≡ true) × HasCases numbers cases table.entries
+FitsOp types numbers (op.Phi to ty edges) (Edges table) = HasNames is_from edges table.entries
+FitsOp types numbers (op.Alloca to ty) (Room room) = layout room.size room.align ≡ layout_of types ty
+FitsOp types numbers (op.GetElementPtr to ty base indices) (Route route) = IsRoute types ty indices route
+FitsOp types numbers _ _ = ⊤
 
 -- where there is an instruction and a table, they fit
-abbrev pub FitsAt : Option Op → Option Choices → Type 0
-FitsAt (Some o) (Some table) = FitsOp o table
-FitsAt _ _ = ⊤
+abbrev pub FitsAt : List NamedType → Numbers → Option Op → Option Table → Type 0
+FitsAt types numbers (Some o) (Some table) = FitsOp types numbers o table
+FitsAt types numbers _ _ = ⊤
 
-abbrev pub HasChoices : List Block → List (Place × Choices) → Type 0
-HasChoices blocks table = (b k : ℕ) → FitsAt (op_at blocks b k) (at_place table b k)
+abbrev pub HasTables : List NamedType → Numbers → List Block → List (Place × Table) → Type 0
+HasTables types numbers blocks table = (b k : ℕ) → FitsAt types numbers (op_at blocks b k) (at_place table b k)
 
--- the tables are those of the blocks: of the first block of each label, and of some switches and phis
-pub record AreTablesOf (blocks : List Block) (t : JumpTables) : Type 0 where
+-- the tables are those of the blocks in a text with these types, whose constants come to these numbers: of the first block of each label, and of some instructions
+pub record AreTablesOf (types : List NamedType) (numbers : Numbers) (blocks : List Block) (t : CodeTables) : Type 0 where
   pub labels : HasNames is_named blocks t.labels.entries
-  pub choices : HasChoices blocks t.choices.entries
+  pub tables : HasTables types numbers blocks t.tables.entries

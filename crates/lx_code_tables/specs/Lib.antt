@@ -1,2 +1,5 @@
 pub mod Firsts
 pub mod Fits
+pub mod Parts
+pub mod Routes
+pub mod Sized

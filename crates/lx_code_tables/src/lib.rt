@@ -1,9 +1,16 @@
-//! Where the jumps of a function go, in tables, so that no label, case or edge is searched for while it runs.
+//! What is known of a function's instructions before they run, in tables: so that while it runs no label, case or edge is
+//! searched for, and no large type is laid out.
 #![tactic(auto)]
 
-mod choices;
+mod instructions;
 mod names;
 mod numbers;
+mod parts;
+mod routes;
 mod tables;
+mod text;
 
-pub use tables::JumpTables;
+pub use parts::{Part, element_of, field_named};
+pub use routes::{Leg, Room, Route};
+pub use tables::CodeTables;
+pub use text::PlacedText;

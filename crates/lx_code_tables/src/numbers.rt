@@ -2,59 +2,57 @@
 //! equal cases the first stays.
 ghost use Rattle.std.specs.Prelude.{◌≡◌, ℕ, Some, List, cond, IfOk, OnOk};
 ghost use Rattle.std.specs.List.{list_all};
-ghost use Rattle.lx_code_tables.specs.Firsts.{at_number, is_case, is_numbered, number_in, number_of, HasCases};
+ghost use Rattle.lx_code_tables.specs.Firsts.{at_number, is_case, is_constant, is_fixed, number_of, HasCases};
 
+use crate::text::PlacedText;
 use indexmap::IndexMap;
 use lx_ir::instr::SwitchCase;
-use lx_ir::module::{Constant, Value};
+use lx_ir::module::Value;
 use lx_words::Memory;
 use std::alloc::Global;
 
-// The number that a constant is in every program, if it is one.
-fn number_in(constant: &Constant) -> Option<u64>
-    ensures { result ≡ number_in constant.now }
-{
-    match constant {
-        Constant::Number(word) => Some(word.bits),
-        Constant::Truth(true) => Some(1),
-        Constant::Truth(false) => Some(0),
-        Constant::Blank(_, _) => Some(0),
-        Constant::Pointer(_) => None,
-        Constant::Cast(_, _) => None,
-    }
-}
-
-fn number_of(value: &Value) -> Option<u64>
-    ensures { result ≡ number_of value.now }
+// The number that a value is each time, if it is a constant.
+fn number_of<C: PlacedText>(text: &C, value: &Value) -> Option<u64>
+    ensures { result ≡ number_of (C.comes_to text.now) value.now }
 {
     match value {
-        Value::Constant(constant) => number_in(constant),
+        Value::Constant(constant) => Some(text.number(constant)),
         Value::Register(_) => None,
     }
 }
 
-fn is_numbered(case: &SwitchCase) -> bool
-    ensures { result ≡ is_numbered case.now }
+fn is_constant(value: &Value) -> bool
+    ensures { result ≡ is_constant value.now }
 {
-    number_of(&case.value).is_some()
+    match value {
+        Value::Constant(_) => true,
+        Value::Register(_) => false,
+    }
 }
 
-/// Whether each case is a number in every program.
-pub(crate) fn are_numbered(cases: &[SwitchCase]) -> bool
-    ensures { result ≡ list_all is_numbered cases.now }
+fn is_fixed(case: &SwitchCase) -> bool
+    ensures { result ≡ is_fixed case.now }
 {
-    cases.iter().all(|case| is_numbered(case))
+    is_constant(&case.value)
 }
 
-// Puts a case at its number, if it is one.
-fn put_case(
+/// Whether each case is the same number each time.
+pub(crate) fn are_fixed(cases: &[SwitchCase]) -> bool
+    ensures { result ≡ list_all is_fixed cases.now }
+{
+    cases.iter().all(|case| is_fixed(case))
+}
+
+// Puts a case at its number, if it is a constant.
+fn put_case<C: PlacedText>(
+    text: &C,
     numbers: &mut IndexMap<u64, usize>,
     case: &SwitchCase,
     place: usize,
 ) -> Result<(), Memory>
-    ensures { OnOk result ((n : ℕ) → at_number numbers.new.entries n ≡ cond (is_case n case.now) (Some place) (at_number numbers.old.entries n)) }
+    ensures { OnOk result ((n : ℕ) → at_number numbers.new.entries n ≡ cond (is_case (C.comes_to text.now) n case.now) (Some place) (at_number numbers.old.entries n)) }
 {
-    match number_of(&case.value) {
+    match number_of(text, &case.value) {
         Some(number) => {
             numbers.insert(number, place)?;
             Ok(())
@@ -64,14 +62,18 @@ fn put_case(
 }
 
 /// The place of the first case of each number.
-pub(crate) fn cases_of(alloc: Global, cases: &[SwitchCase]) -> Result<IndexMap<u64, usize>, Memory>
-    ensures { IfOk result (λ numbers. HasCases cases.now numbers.entries) }
+pub(crate) fn cases_of<C: PlacedText>(
+    alloc: Global,
+    text: &C,
+    cases: &[SwitchCase],
+) -> Result<IndexMap<u64, usize>, Memory>
+    ensures { IfOk result (λ numbers. HasCases (C.comes_to text.now) cases.now numbers.entries) }
 {
     let mut numbers = IndexMap::new(alloc);
     let mut left = cases.len();
     while left > 0 {
         left -= 1;
-        put_case(&mut numbers, &cases[left], left)?;
+        put_case(text, &mut numbers, &cases[left], left)?;
     }
     Ok(numbers)
 }

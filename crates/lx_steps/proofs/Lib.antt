@@ -1,6 +1,7 @@
 pub mod Choices
 pub mod Firsts
 pub mod Jumping
+pub mod Legs
 pub mod Places
 pub mod Tabled
 pub mod Sized

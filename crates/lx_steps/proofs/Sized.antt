@@ -1,6 +1,6 @@
 -- The types of a program within reach are within the limits, wherever an instruction stands.
 use Rattle.std.proofs.Common.{◌≡◌, ℕ, zero, suc, Bool, true, false, not, ◌&&◌, Option, Some, None, List, [], ◌∷◌, map, drop, IsTrue, refl, sym, ap, ◌∙◌}
-use Rattle.std.specs.Prelude.{slice_get, filter, unwrap_or, cond}
+use Rattle.std.specs.Prelude.{slice_get, cond}
 use Rattle.std.specs.List.{list_all}
 use Rattle.std.proofs.lemmas.Bool.{and_parts, and_from}
 use Rattle.lx_ir.specs.declared.types.NamedType.{NamedType}
@@ -10,37 +10,12 @@ use Rattle.lx_ir.specs.declared.instr.Instr.{Instr}
 use Rattle.lx_ir.specs.declared.instr.Op.{Op}
 use Rattle.lx_ir.specs.Lookup.{blocks_of}
 use Rattle.lx_model.specs.declared.program.Program.{Program}
-use Rattle.lx_model.specs.declared.program.ProgramModule.{ProgramModule}
-use Rattle.lx_model.specs.declared.program.ProgramFunction.{ProgramFunction}
-use Rattle.lx_model.specs.declared.program.ProgramFunction.TheVariants.{Native, Of}
-use Rattle.lx_model.specs.Program.{Home, module_of, module_or_empty, function_of, function_of_entry, home_of_entry, home_or_kernel}
+use Rattle.lx_model.specs.Program.{module_of, function_of, home_or_kernel}
 use Rattle.lx_model.specs.Thread.{code_block_of, routine_or_none, routine}
 use Rattle.lx_model.specs.Effect.{is_phi, without_phis}
-use Rattle.lx_code.specs.Reach.{IsWithinReach, is_sized, are_sized, are_sized_instrs, is_sized_function, is_sized_module}
+use Rattle.lx_code.specs.Reach.{IsWithinReach, is_sized, are_sized, are_sized_instrs, is_sized_function}
+use Rattle.lx_code.proofs.Sized.{in_entry}
 use Rattle.lx_steps.specs.Standing.{block_or_none, block_at, rest_from, head_of}
-
-pub all_at : {A : Type 0} (test : A → Bool) (xs : List A) (k : ℕ) (x : A) → list_all test xs ≡ true → slice_get xs k ≡ Some x → test x ≡ true
-all_at test [] k x all is = absurd (cc)
-all_at test (y ∷ ys) zero x all is =
-    let e : y ≡ x = cc in
-    ap test (sym e) ∙ (and_parts (test y) (list_all test ys) all).0
-all_at test (y ∷ ys) (suc k) x all is = all_at test ys k x ((and_parts (test y) (list_all test ys) all).1) is
-
-in_module : (e : Option ProgramModule) (f : ℕ) (g : Function) → ((m : ProgramModule) → e ≡ Some m → is_sized_module m.«module» ≡ true) →
-    slice_get (module_or_empty e).functions f ≡ Some g → is_sized_function (module_or_empty e).types g ≡ true
-in_module None f g h is = absurd (cc)
-in_module (Some m) f g h is = all_at (is_sized_function m.«module».types) m.«module».functions f g (h m refl) is
-
-in_home : (p : Program) (home : Home) (f : ℕ) (g : Function) → IsWithinReach p → slice_get (module_of p home).functions f ≡ Some g → is_sized_function (module_of p home).types g ≡ true
-in_home p None f g r is = all_at (is_sized_function p.kernel.types) p.kernel.functions f g r.kernel is
-in_home p (Some m) f g r is =
-    in_module (slice_get p.modules m) f g (λ x e. all_at (λ m. is_sized_module m.«module») p.modules m x r.modules e) is
-
-in_entry : (p : Program) (e : Option ProgramFunction) (g : Function) → IsWithinReach p → function_of_entry p e ≡ Some g →
-    is_sized_function (module_of p (unwrap_or (home_of_entry e) None)).types g ≡ true
-in_entry p None g r is = absurd (cc)
-in_entry p (Some (Native k)) g r is = absurd (cc)
-in_entry p (Some (Of home f)) g r is = in_home p home f g r is
 
 all_ops : (types : List NamedType) (is : List Instr) → are_sized_instrs types is ≡ true → list_all (is_sized types) (map (λ i. i.op) is) ≡ true
 all_ops types [] h = refl

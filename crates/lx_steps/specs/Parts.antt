@@ -1,24 +1,14 @@
 -- Parts of types, as code finds them.
-use Rattle.std.specs.Prelude.{◌≡◌, ℕ, ◌+◌, ◌%◌, ◌^◌, IsTrue, Option, Some, None, List, ℤ, pos}
+use Rattle.std.specs.Prelude.{◌≡◌, ℕ, ◌+◌, ◌%◌, ◌^◌, IsTrue, List, ℤ}
 use Rattle.lx_words.specs.Word.{modulo}
 use Rattle.lx_ir.specs.declared.types.NamedType.{NamedType}
-use Rattle.lx_ir.specs.IrType.{IrType, Array}
+use Rattle.lx_ir.specs.IrType.{IrType}
 use Rattle.lx_ir.specs.Layout.{Part, is_lawful_type, part_at, unnamed}
 
--- a part, by the type that its name stands for
-pub record IsPart (types : List NamedType) (n : ℕ) (t : IrType) (part : Part) : Type 0 where
-  pub offset : pos n ≡ part.offset
-  pub ty : unnamed types t ≡ unnamed types part.ty
-
--- and modulo 2^64
+-- a part, by the type that its name stands for, and how far it lies modulo 2^64
 pub record IsPartModulo (types : List NamedType) (n : ℕ) (t : IrType) (part : Part) : Type 0 where
   pub offset : n ≡ modulo part.offset (2 ^ 64)
   pub ty : unnamed types t ≡ unnamed types part.ty
-
--- the type of an array's elements
-abbrev pub element_in : IrType → Option IrType
-element_in (Array n t) = Some t
-element_in t = None
 
 -- how far indices go from a type on, where those before have led to an offset and another type
 pub record IsOnTheWay (types : List NamedType) (start : IrType) (all : List ℤ) (offset : ℕ) (inner : IrType) (rest : List ℤ) : Type 0 where

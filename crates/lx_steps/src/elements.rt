@@ -1,9 +1,8 @@
 //! Addresses of parts of values.
-ghost use Rattle.std.specs.Prelude.{◌≡◌, ℕ, ◌+◌, ◌%◌, ◌^◌, IsTrue, map, nat_abs, negsuc, option_copied, slice_get, true};
+ghost use Rattle.std.specs.Prelude.{◌≡◌, ℕ, ◌+◌, ◌%◌, ◌^◌, IsTrue};
 ghost use Rattle.lx_words.specs.Word.{signed, modulo};
-ghost use Rattle.lx_model.specs.Program.{module_of};
-ghost use Rattle.lx_ir.specs.Layout.{element_offset, fields_of, field_of, is_lawful_type, part_at, part_of, part_or, unnamed};
-ghost use Rattle.lx_steps.specs.Parts.{IsPart, IsPartModulo, element_in};
+ghost use Rattle.lx_ir.specs.Layout.{element_offset, is_lawful_type, part_at, part_of, unnamed};
+ghost use Rattle.lx_steps.specs.Parts.{IsPartModulo};
 ghost use Rattle.lx_ir.specs.declared.instr.Op.TheVariants as op;
 ghost use Rattle.lx_model.specs.Effect.{effect, types_of, indices_of};
 ghost use Rattle.lx_steps.specs.Effects.{effect_of};
@@ -13,82 +12,21 @@ use crate::activation::Activation;
 use crate::effect::Effect;
 use crate::operand::operand;
 use lx_code::Code;
+use lx_code_tables::{Part, element_of, field_named};
 use lx_ir::instr::Argument;
 use lx_ir::module::{Module, Value};
-use lx_ir::types::{IrType, TypeNode};
-use lx_ir::{offset_at, size_of, unnamed};
-use lx_words::{Width, Word, below_minus_one, is_negative, resize};
+use lx_ir::types::IrType;
+use lx_ir::{size_of, unnamed};
+use lx_words::{Width, Word, resize};
 
-/// A part of a type: how far it lies behind the start, modulo 2^64, and its type.
-#[derive(Clone, Copy)]
-struct Part<'a> {
-    offset: u64,
-    ty: &'a IrType,
-}
-
-// The signed value of a word, modulo 2^64.
-fn signed_bits(word: Word) -> u64
+/// The signed value of a word, modulo 2^64.
+pub(crate) fn signed_bits(word: Word) -> u64
     ensures { result ≡ modulo (signed word) (2 ^ 64) }
 {
     resize(word, Width::W64, true).bits
 }
 
-// How far a word lies from 0.
-fn magnitude(word: Word) -> u64
-    ensures { result ≡ nat_abs (signed word) }
-{
-    if is_negative(word) {
-        below_minus_one(word) + 1
-    } else {
-        word.bits
-    }
-}
-
-// The fields of a struct.
-#[tactic(auto, using(crate::proofs::Parts::listed))]
-fn fields_of(ty: &IrType) -> &[IrType]
-    ensures { result.now ≡ fields_of ty.now }
-{
-    match &ty.node {
-        TypeNode::Struct(fields) | TypeNode::Packed(fields) => fields.as_slice(),
-        _ => &[],
-    }
-}
-
-fn field_at(fields: &[IrType], number: usize) -> Option<&IrType>
-    ensures { option_copied result ≡ slice_get fields.now number }
-{
-    fields.get(number)
-}
-
-// The type of an array's elements.
-fn element_of(ty: &IrType) -> Option<&IrType>
-    ensures { option_copied result ≡ element_in ty.now }
-{
-    match &ty.node {
-        TypeNode::Array(_, element) => Some(element),
-        _ => None,
-    }
-}
-
-// The field with a number; where there is none, the type itself.
-fn field_of<'a>(text: &'a Module, ty: &'a IrType, number: u64) -> Part<'a>
-    requires { IsTrue (is_lawful_type text.now.types ty.now) }
-    ensures part { IsPart text.now.types result.offset result.ty.now (part_or (field_of text.now.types (unnamed text.now.types ty.now) number) (unnamed text.now.types ty.now)) }
-    ensures sized { IsTrue (is_lawful_type text.now.types result.ty.now) }
-{
-    let number = number as usize;
-    let fields = fields_of(unnamed(text, ty));
-    match offset_at(text, ty, number) {
-        Some(offset) => match field_at(fields, number) {
-            Some(field) => Part { offset, ty: field },
-            None => unreachable!(),
-        },
-        None => Part { offset: 0, ty },
-    }
-}
-
-// The part that an index names: an element of an array, or a field of a struct.
+// The part that an index names, an element of an array or a field of a struct: how far it lies is modulo 2^64.
 fn part_of<'a>(text: &'a Module, ty: &'a IrType, index: Word) -> Part<'a>
     requires { IsTrue (is_lawful_type text.now.types ty.now) }
     ensures part { IsPartModulo text.now.types result.offset result.ty.now (part_of text.now.types (unnamed text.now.types ty.now) (signed index)) }
@@ -99,7 +37,7 @@ fn part_of<'a>(text: &'a Module, ty: &'a IrType, index: Word) -> Part<'a>
             offset: signed_bits(index).wrapping_mul(size_of(text, element)),
             ty: element,
         },
-        None => field_of(text, ty, magnitude(index)),
+        None => field_named(text, ty, index),
     }
 }
 

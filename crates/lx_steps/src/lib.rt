@@ -9,6 +9,7 @@ mod jumps;
 mod memory;
 mod next;
 mod operand;
+mod routes;
 mod steps;
 mod values;
 

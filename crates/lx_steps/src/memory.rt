@@ -1,6 +1,11 @@
 //! Instructions that ask for memory.
-ghost use Rattle.std.specs.Prelude.{◌≡◌, IsTrue};
-ghost use Rattle.lx_model.specs.Effect.{effect, types_of};
+ghost use Rattle.std.specs.Prelude.{◌≡◌, ◌<◌, ◌≤◌, Some, IfSome, IsTrue};
+ghost use Rattle.std.specs.Int.{next_multiple_of};
+ghost use Rattle.lx_code.specs.Jumps.{op_at};
+ghost use Rattle.lx_model.specs.declared.program.Program.{Program};
+ghost use Rattle.lx_model.specs.declared.request.What.TheVariants as what;
+ghost use Rattle.lx_model.specs.Thread.{routine};
+ghost use Rattle.lx_model.specs.Effect.{effect, types_of, Wants};
 ghost use Rattle.lx_ir.specs.declared.instr.Op.TheVariants as op;
 ghost use Rattle.lx_steps.specs.Effects.{effect_of};
 ghost use Rattle.lx_ir.specs.Layout.{is_lawful_type};
@@ -11,7 +16,8 @@ use crate::activation::Activation;
 use crate::effect::Effect;
 use crate::operand::operand;
 use lx_code::{Code, width_of};
-use lx_ir::instr::Argument;
+use lx_code_tables::Room;
+use lx_ir::instr::{Argument, Op};
 use lx_ir::module::Value;
 use lx_ir::types::{IrType, Scalar};
 use lx_ir::{align_of, size_of};
@@ -29,6 +35,37 @@ pub(crate) fn alloca(code: &Code, run: &Activation, ty: &IrType) -> Effect
         at: run.high.next_multiple_of(align),
         size: size_of(text, ty),
     })
+}
+
+// Bytes of the stack for a room.
+fn alloca_of(run: &Activation, room: Room) -> Effect
+    requires nonzero { 0 < room.align }
+    requires small { room.align ≤ 8 }
+    ensures { (p : Program) → effect_of p (run_of p run.now) result ≡ Wants (what.Alloca (next_multiple_of run.now.high room.align) room.size) }
+{
+    Effect::Wants(What::Alloca {
+        at: run.high.next_multiple_of(room.align),
+        size: room.size,
+    })
+}
+
+/// What an `alloca` at a place of the block that runs does, by the room that a table has; none, where it has none.
+pub(crate) fn alloca_by_table(
+    code: &Code,
+    run: &Activation,
+    place: usize,
+    op: &Op,
+) -> Option<Effect>
+    requires { op_at (routine code.now run.now.function).blocks run.now.block place ≡ Some op.now }
+    ensures { IfSome result (λ e. effect_of code.now (run_of code.now run.now) e ≡ effect code.now (run_of code.now run.now) op.now) }
+{
+    match op {
+        Op::Alloca { .. } => match code.room(run.function, run.block, place) {
+            Some(room) => Some(alloca_of(run, room)),
+            None => None,
+        },
+        _ => None,
+    }
 }
 
 /// A word of memory.

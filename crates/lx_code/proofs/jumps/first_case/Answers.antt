@@ -1,5 +1,5 @@
 use Rattle.std.proofs.Common.{refl, sym}
-use Rattle.lx_code.specs.Jumps.{blocks_in}
+use Rattle.lx_code.specs.Jumps.{blocks_in, types_in}
 use Rattle.lx_code.proofs.Found.{case_at}
 use Rattle.lx_code.proofs.jumps.first_case.Goals as goal
 
@@ -7,4 +7,4 @@ pub returns-in-Some : goal.returns-in-Some
 returns-in-Some c = λ p has.
     let n = c.args.number in
     let t = c.in-Some.tables.now in
-    case_at p (blocks_in p n) t n c.args.block c.args.place c.args.bits c.case.result refl (has.each n t (sym c.in-Some.ensures)) c.case.ensures.numbered c.case.ensures.first
+    case_at p (types_in p n) (blocks_in p n) t n c.args.block c.args.place refl refl (has.each n t (sym c.in-Some.ensures)) c.args.bits c.case.result c.case.ensures.fixed c.case.ensures.first

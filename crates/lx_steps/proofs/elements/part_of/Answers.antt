@@ -1,7 +1,8 @@
 use Rattle.std.proofs.Common.{◌≡◌, ap, ◌∙◌, arith}
 use Rattle.lx_words.specs.Word.{signed}
-use Rattle.lx_steps.specs.Parts.{element_in}
-use Rattle.lx_steps.proofs.Parts.{element_part, other_part, sized_element}
+use Rattle.lx_code_tables.specs.Parts.{element_in}
+use Rattle.lx_code_tables.proofs.TypeParts.{sized_element}
+use Rattle.lx_steps.proofs.Parts.{element_part, other_part}
 use Rattle.lx_steps.proofs.elements.part_of.Goals as goal
 
 pub size_of-requires : goal.size_of-requires
@@ -19,5 +20,5 @@ returns-in-Some-clause-sized c =
 
 pub returns-in-None-clause-part : goal.returns-in-None-clause-part
 returns-in-None-clause-part c =
-    other_part c.args.text.now.types c.args.ty.now c.field_of.result.ty.now (signed c.args.index) c.field_of.result.offset c.magnitude.result
-    (c.in-None.ensures ∙ ap element_in c.unnamed.ensures) c.magnitude.ensures (omega arith) c.field_of.ensures.part
+    other_part c.args.text.now.types c.args.ty.now c.field_named.result.ty.now (signed c.args.index) c.field_named.result.offset
+    (c.in-None.ensures ∙ ap element_in c.unnamed.ensures) (omega arith) c.field_named.ensures.part

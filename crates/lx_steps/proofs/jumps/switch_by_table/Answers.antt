@@ -1,4 +1,4 @@
-use Rattle.std.proofs.Common.{◌≡◌, ◌∙◌, ap, sym, List, Some, nat_eq}
+use Rattle.std.proofs.Common.{◌≡◌, ◌∙◌, ap, refl, sym, List, Some, nat_eq}
 use Rattle.std.specs.Prelude.{position}
 use Rattle.lx_words.specs.Word.{Word}
 use Rattle.lx_ir.specs.declared.instr.Op.{Op}
@@ -19,7 +19,7 @@ returns-in-Some c =
     let place = c.in-Some.found in
     let here : c.args.op.now ≡ op.Switch c.in-Switch.ty c.in-Switch.value otherwise cases = c.in-Switch.is in
     let first : place ≡ position (λ (x : SwitchCase). nat_eq (bits p a x.value) n) cases =
-    c.in-Some.ensures c.in-Switch.ty c.in-Switch.value otherwise cases (c.requires ∙ ap (λ (o : Op). Some o) here) a in
+    c.in-Some.ensures c.in-Switch.ty c.in-Switch.value otherwise cases (c.requires ∙ ap (λ (o : Op). Some o) here) a refl in
     c.jump.ensures
     ∙ ap (jump_effect p a)
     (c.label_at.ensures ∙ ap (λ (xs : List SwitchCase). label_at xs place otherwise) c.as_slice.ensures

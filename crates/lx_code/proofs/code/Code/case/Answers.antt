@@ -1,5 +1,4 @@
 use Rattle.std.proofs.Common.{subst, sym}
-use Rattle.std.specs.Arc.{arc_value}
 use Rattle.std.specs.Prelude.{IfSome}
 use Rattle.lx_model.specs.declared.program.Program.{Program}
 use Rattle.lx_model.specs.Thread.{routine}
@@ -8,6 +7,6 @@ use Rattle.lx_code.proofs.code.Code.case.Goals as goal
 
 pub returns : goal.returns
 returns c =
-    let p = arc_value c.self.inside.program in
-    subst (λ (q : Program). IfSome c.first_case.result (λ found. IsCaseAt q (op_at (routine q c.args.number).blocks c.args.block c.args.place) c.args.bits found)) c.self.view_is
+    let p = c.self.inside.names in
+    subst (λ (q : Program). IfSome c.first_case.result (λ found. IsCaseAt q c.args.number (op_at (routine q c.args.number).blocks c.args.block c.args.place) c.args.bits found)) c.self.view_is
     (c.first_case.ensures p (subst (HasJumps p) (sym c.as_slice.ensures) c.self.invariant.jumps))

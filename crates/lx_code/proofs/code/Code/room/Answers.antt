@@ -1,0 +1,12 @@
+use Rattle.std.proofs.Common.{subst, sym}
+use Rattle.std.specs.Prelude.{IfSome}
+use Rattle.lx_model.specs.declared.program.Program.{Program}
+use Rattle.lx_model.specs.Thread.{routine}
+use Rattle.lx_code.specs.Jumps.{op_at, HasJumps, IsRoomAt}
+use Rattle.lx_code.proofs.code.Code.room.Goals as goal
+
+pub returns : goal.returns
+returns c =
+    let p = c.self.inside.names in
+    subst (λ (q : Program). IfSome c.room_at.result (λ found. IsRoomAt q c.args.number (op_at (routine q c.args.number).blocks c.args.block c.args.place) found)) c.self.view_is
+    (c.room_at.ensures p (subst (HasJumps p) (sym c.as_slice.ensures) c.self.invariant.jumps))
