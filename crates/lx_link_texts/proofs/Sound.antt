@@ -92,7 +92,7 @@ import_of s f (Some g) false i is h =
     let never : Some (fault_of Unannotated s f) ≡ None = subst (λ b. (if b then fault_unless (have_same_signature f g) (fault_of SignatureDiffers s f) else Some (fault_of Unannotated s f)) ≡ None) is h in
     absurd (cc)
 
-alias_or : (a k n e : Bool) (x y : Fault) (o : Option Fault) → (o ≡ None → e ≡ true) → (if a then fault_unless n x else if k then Some y else o) ≡ None → (a && n || not k && e) ≡ true
+alias_or : (a k n e : Bool) (x y : Fault) (o : Option Fault) → (o ≡ None → e ≡ true) → (if a then fault_unless n x else if k then Some y else o) ≡ None → (a && n || not a && (not k && e)) ≡ true
 alias_or true true true e x y o g h = refl
 alias_or true true false e x y o g h = absurd (cc)
 alias_or true false true e x y o g h = refl

@@ -44,12 +44,12 @@ abbrev pub is_import_of : Function → Option Function → Bool
 is_import_of f None = false
 is_import_of f (Some g) = have_same_signature f g
 
--- the alias of its signature, or an exported function of the kernel of that function's
+-- the alias of its signature, or by any other name an exported function of the kernel of that function's
 abbrev pub is_module_import : Module → Interface → Function → Bool
 is_module_import kernel i f =
     is_defined f
     || (is_alias f.name && has_native_signature 5 f
-    || not (is_kernel_name f.name) && (is_exported i f.name && is_import_of f (defined kernel f.name)))
+    || not (is_alias f.name) && (not (is_kernel_name f.name) && (is_exported i f.name && is_import_of f (defined kernel f.name))))
 
 abbrev pub has_slot_of : Option Slot → Option Function → Bool
 has_slot_of (Some t) (Some f) = has_slot_signature t f

@@ -1,0 +1,12 @@
+pub mod Widths
+pub mod Functions
+pub mod Reading
+pub mod Running
+pub mod Jumping
+pub mod Aligns
+pub mod Callees
+pub mod Effects
+pub mod Steps
+pub mod Taking
+pub mod Serving
+pub mod Runs
