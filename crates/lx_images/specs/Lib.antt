@@ -8,3 +8,4 @@ pub mod Places
 pub mod Fitting
 pub mod HasImages
 pub mod Lines
+pub mod Shown

@@ -1,10 +1,9 @@
 -- Accepted images run as their programs do under the monitor.
-use Rattle.std.specs.Prelude.{◌≡◌, ℕ, suc, ◌+◌, ◌*◌, ◌<◌, ◌≤◌, false, Some, Option, List, length, map, slice_get}
+use Rattle.std.specs.Prelude.{◌≡◌, ℕ, suc, ◌+◌, ◌*◌, ◌<◌, ◌≤◌, false, Option, List, length, map}
 use Rattle.lx_ir.specs.declared.module.Module.{Module}
 use Rattle.lx_ir.specs.declared.instr.Op.{Op}
 use Rattle.lx_ir.specs.Verified.{IsVerified}
 use Rattle.lx_image_texts.specs.Marks.{without_marks}
-use Rattle.lx_image_texts.specs.Guards.{Guards}
 use Rattle.lx_link_texts.specs.WellFormed.{IsWellFormed, FitsCalls}
 use Rattle.lx_model.specs.declared.program.Program.{Program}
 use Rattle.lx_model.specs.declared.program.ScriptCall.{ScriptCall}
@@ -22,18 +21,12 @@ use Rattle.lx_images.specs.Fitting.{ScriptFits}
 use Rattle.lx_images.specs.Kept.{WorldKept}
 use Rattle.lx_images.specs.Places.{WorldPlaces}
 use Rattle.lx_images.specs.Lines.{LineLaws}
+use Rattle.lx_simulation.specs.Images.{code_of, AreImages}
+use Rattle.lx_simulation.specs.Showing.{ShowingLaws}
 
 -- each store of the images has its guard
 abbrev pub AllGuarded : Code → Type 0
 AllGuarded c = (n : ℕ) (label : List ℕ) (k : ℕ) → bare_of c n label k ≡ false
-
--- a program with these images
-abbrev pub code_of : Program → List Module → Code
-code_of p images = record { program = p; images = images }
-
--- each module of the program has its image
-abbrev pub AreImages : Program → List Module → Type 0
-AreImages p images = (m : ℕ) → m < length p.modules → (x : Module) × (slice_get images m ≡ Some x) × Guards p.interface (module_of p (Some m)) x
 
 pub record SimulationLaws : Type 0 where
   -- whatever the schedule, the world of a well-formed program's images stands for the monitor's world of the program
@@ -58,5 +51,7 @@ pub record SimulationLaws : Type 0 where
   pub image_asks : (n : ℕ) (c : Code) (v : ImageThread) → 2 * v.fuel + length v.frames < n → image_next_within (suc n) c v ≡ image_next_within n c v
   -- the machine that passes marks and free lines at once does what the machine of lines does
   pub by_lines : LineLaws
+  -- what a world of images shows is what the monitor's world shows that it stands for
+  pub showing : ShowingLaws
   -- without its marks an image's text is the program's, with the calls of imports to their wrappers
   pub erases : (text : Option Module) (bare : Bare) (os : List Op) → without_marks (image_ops text bare os) ≡ map (text_op text) os
