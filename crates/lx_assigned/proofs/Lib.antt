@@ -1,0 +1,11 @@
+pub mod Reading
+pub mod Standing
+pub mod Arriving
+pub mod Effects
+pub mod Signatures
+pub mod Calling
+pub mod Entering
+pub mod Frames
+pub mod Stepping
+pub mod Replying
+pub mod Running
