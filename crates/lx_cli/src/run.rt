@@ -3,7 +3,7 @@ ghost use Rattle.std.specs.Prelude.{◌≡◌, ◌<◌, ◌≤◌, ℕ, List, []
 ghost use Rattle.lx_model.specs.declared.program.Program.{Program};
 ghost use Rattle.lx_model.specs.declared.program.ScriptCall.{ScriptCall};
 ghost use Rattle.lx_model.specs.World.{World as Meaning, opening, run};
-ghost use Rattle.lx_link_texts.specs.WellFormed.{IsWellFormed};
+ghost use Rattle.lx_link_texts.specs.WellFormed.{IsWellFormed, FitsCalls};
 ghost use Rattle.lx_input.specs.Laws.{IsReady};
 ghost use Rattle.lx_core.specs.Worlds.{StandsForWorld};
 ghost use Rattle.lx_report.specs.Laws.{IsSchedule};
@@ -106,7 +106,7 @@ fn run_world<C: CapStore + Drop + Send, R: Threads + Wait + Sync, G: Gate + Sync
     requires { (p : Program) × (script : List (List ScriptCall)) × StandsForWorld C.stands p world (opening p script)
         × IsWellFormed p × (images ≡ images_of p) }
     ensures { IfOk result (λ a. (p : Program) (script : List (List ScriptCall)) → StandsForWorld C.stands p world (opening p script)
-        → length script ≤ 16 → TellsRun p script None a) }
+        → length script ≤ 16 → FitsCalls p script → TellsRun p script None a) }
 {
     run_laws();
     linked_laws();
@@ -124,7 +124,7 @@ fn replay_world<C: CapStore + Drop>(
     requires { (p : Program) × (script : List (List ScriptCall)) × StandsForWorld C.stands p world.old (opening p script)
         × IsWellFormed p × (images ≡ images_of p) }
     ensures { IfOk result (λ a. (p : Program) (script : List (List ScriptCall)) → StandsForWorld C.stands p world.old (opening p script)
-        → length script ≤ 16 → TellsRun p script (Some schedule.now) a) }
+        → length script ≤ 16 → FitsCalls p script → TellsRun p script (Some schedule.now) a) }
 {
     run_laws();
     linked_laws();
@@ -145,7 +145,7 @@ fn replay_opened<C: CapStore + Drop>(
     requires { (p : Program) × (script : List (List ScriptCall)) × StandsForWorld C.stands p world (opening p script)
         × IsWellFormed p × (images ≡ images_of p) }
     ensures { IfOk result (λ a. (p : Program) (script : List (List ScriptCall)) → StandsForWorld C.stands p world (opening p script)
-        → length script ≤ 16 → TellsRun p script (Some schedule.now) a) }
+        → length script ≤ 16 → FitsCalls p script → TellsRun p script (Some schedule.now) a) }
 {
     replay_world(alloc, &mut world, schedule, images)
 }
@@ -160,7 +160,7 @@ fn run_opened<C: CapStore + Drop + Send, R: Threads + Wait + Sync, G: Gate + Syn
     requires { (p : Program) × (script : List (List ScriptCall)) × StandsForWorld C.stands p world (opening p script)
         × IsWellFormed p × (images ≡ images_of p) }
     ensures { IfOk result (λ a. (p : Program) (script : List (List ScriptCall)) → StandsForWorld C.stands p world (opening p script)
-        → length script ≤ 16 → TellsRun p script schedule a) }
+        → length script ≤ 16 → FitsCalls p script → TellsRun p script schedule a) }
 {
     match schedule {
         None => run_world(host, world, images),

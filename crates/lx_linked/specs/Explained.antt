@@ -1,7 +1,14 @@
 -- What is known of a linked program's run beside its account.
-use Rattle.std.specs.Prelude.{ℕ, List}
+use Rattle.std.specs.Prelude.{◌≡◌, ℕ, ◌<◌, true, Some, None, List, length, slice_get}
+use Rattle.lx_ir.specs.declared.module.Module.{Module}
+use Rattle.lx_annot.specs.declared.interface.Interface.{Interface}
+use Rattle.lx_slot_types.specs.Gets.{gets, slot_of}
 use Rattle.lx_model.specs.declared.program.Program.{Program}
 use Rattle.lx_model.specs.declared.program.ScriptCall.{ScriptCall}
+use Rattle.lx_model.specs.Fits.{Fits}
+use Rattle.lx_model.specs.Next.{next}
+use Rattle.lx_model.specs.Program.{module_of}
+use Rattle.lx_model.specs.Thread.{Thread}
 use Rattle.lx_model.specs.World.{World, opening, run}
 use Rattle.lx_refusals.specs.Caused.{AreCaused}
 use Rattle.lx_refusals.specs.Explained.{AreExplained}
@@ -9,6 +16,20 @@ use Rattle.lx_reached.specs.Listed.{ListsPrincipals, NumbersInstances, WritersHo
 use Rattle.lx_reached.specs.Opened.{FirstOwned, StandApart}
 use Rattle.lx_reached.specs.Stopped.{StopsCleanly}
 use Rattle.lx_reached.specs.Texts.{AllRunAsTexts, AsksByText}
+use Rattle.lx_assigned.specs.Alike.{AlikeWorlds}
+use Rattle.lx_assigned.specs.Filled.{Fill, filled_run}
+use Rattle.lx_site_laws.specs.Members.{Exactly}
+use Rattle.lx_site_laws.specs.Typed.{GetsType, IsFirstType}
+
+-- the functions of a module have the slot types of the fields where they stand: by an initialiser, by a store at a constant address,
+-- or by a store at the address of a field
+pub record HasTypesByFields (i : Interface) (m : Module) : Type 0 where
+  -- a function gets those, and no others
+  pub got : (f s : ℕ) → Exactly (gets i m f s ≡ true) (GetsType i m f s)
+  -- what it is annotated with is the first of them by number
+  pub first : (f s : ℕ) → Exactly (slot_of i m f ≡ Some s) (IsFirstType i m f s)
+  -- and it is not annotated where it gets none of the interface
+  pub none : (f : ℕ) → Exactly (slot_of i m f ≡ None) ((s : ℕ) → s < length i.slots → GetsType i m f s → ⊥)
 
 -- a world that a run reaches
 pub record IsReachedWell (p : Program) (w : World) : Type 0 where
@@ -22,6 +43,8 @@ pub record IsReachedWell (p : Program) (w : World) : Type 0 where
   pub texts : AllRunAsTexts p w
   -- and so they ask for what they do
   pub asked : (t : ℕ) → AsksByText p t w
+  -- each names what is there, with as many arguments as it takes and as wide ones, and keeps to the thread's stack
+  pub lawful : (t : ℕ) (thread : Thread) → slice_get w.threads t ≡ Some thread → Fits p t (next p t thread).request
   -- a call that is stopped leaves its outcome, the end of its stack and its loans, and nothing else
   pub stopped : (t : ℕ) → StopsCleanly p t w
 
@@ -36,5 +59,10 @@ pub record IsExplainedRun (p : Program) (script : List (List ScriptCall)) (sched
   -- its functions and imports, and nobody else owns anything
   pub first : FirstOwned p
   pub apart : StandApart p
+  -- a module's function is annotated by the fields where it stands
+  pub typed : (m : ℕ) → HasTypesByFields p.interface (module_of p (Some m))
+  -- whatever words functions begin with in the place of blank ones, the run is the same, and what an instruction reads is the same word:
+  -- nobody reads a register that is no parameter and that nothing has given
+  pub assigned : (fill : Fill) → AlikeWorlds fill p (run p schedule (opening p script)) (filled_run fill p schedule (opening p script))
   -- each world on the way
   pub reached : (s : List ℕ) → IsReachedWell p (run p s (opening p script))

@@ -1,5 +1,5 @@
 -- What holds of programs that are linked.
-use Rattle.std.specs.Prelude.{◌≡◌, ℕ, true, ◌&&◌, List, length, nat_lt}
+use Rattle.std.specs.Prelude.{◌≡◌, ℕ, ◌≤◌, true, ◌&&◌, List, length, nat_lt}
 use Rattle.std.specs.List.{list_any}
 use Rattle.lx_caps.specs.declared.Atom.TheVariants.{Byte}
 use Rattle.lx_caps.specs.declared.Principal.TheVariants.{Shared}
@@ -10,7 +10,7 @@ use Rattle.lx_model.specs.Opening.{opening_history}
 use Rattle.lx_model.specs.World.{opening, run}
 use Rattle.lx_link_texts.specs.declared.sources.Sources.{Sources}
 use Rattle.lx_link_texts.specs.Placing.{globals_of, program_of}
-use Rattle.lx_link_texts.specs.WellFormed.{IsWellFormed}
+use Rattle.lx_link_texts.specs.WellFormed.{IsWellFormed, FitsCalls}
 use Rattle.lx_reached.specs.Listed.{has_homes, ListsPrincipals, WritersHold}
 use Rattle.lx_reached.specs.Opened.{gives_byte, StandApart}
 use Rattle.lx_linked.specs.Explained.{IsExplainedRun}
@@ -26,5 +26,5 @@ pub record LinkedLaws : Type 0 where
   pub slot_calls : (s : Sources) (script : List (List ScriptCall)) (schedule : List ℕ) (t : ℕ) → WritersHold (program_of s) t (run (program_of s) schedule (opening (program_of s) script))
   -- and before the first call a module's shared principal owns the bytes of its variables, and no others
   pub bytes : (s : Sources) (m b : ℕ) → owns (opening_history (program_of s)) (Shared m) (Byte b) ≡ (nat_lt m (length s.modules) && list_any (gives_byte (program_of s) m b) (globals_of s))
-  -- so it is with each well-formed program, and each of its runs is explained
-  pub explained : (p : Program) → IsWellFormed p → (script : List (List ScriptCall)) (schedule : List ℕ) → IsExplainedRun p script schedule
+  -- so it is with each well-formed program, and each of its runs is explained, of sixteen threads at most whose calls fit
+  pub explained : (p : Program) → IsWellFormed p → (script : List (List ScriptCall)) (schedule : List ℕ) → length script ≤ 16 → FitsCalls p script → IsExplainedRun p script schedule

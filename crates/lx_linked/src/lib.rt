@@ -3,15 +3,22 @@
 
 ghost use Rattle.lx_linked.specs.Laws.{LinkedLaws};
 
+use lx_assigned::assigned_laws;
+use lx_fitting::fitting_laws;
 use lx_reached::reached_laws;
 use lx_refusals::refusal_laws;
+use lx_site_laws::site_laws;
 
 /// The program of whatever texts has functions of its own, and globals that stand apart; so every principal is listed, and a
-/// module owns the bytes of its variables before the first call. Of each run of a well-formed program it is known why what was refused
-/// was refused, and what stood before what was performed.
+/// module owns the bytes of its variables before the first call. A module's functions are annotated by the fields where they
+/// stand. Of each run of a well-formed program whose calls fit it is known why what was refused was refused, what stood before what
+/// was performed, that threads ask as they may, and that no register is read before it is given.
 pub fn linked_laws()
     ensures { LinkedLaws }
 {
+    site_laws();
+    fitting_laws();
+    assigned_laws();
     refusal_laws();
     reached_laws();
 }

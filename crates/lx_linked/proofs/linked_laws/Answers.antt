@@ -12,5 +12,11 @@ returns c = record {
   listed = λ s script schedule. c.reached_laws.ensures.listed (program_of s) script schedule (homes s);
   slot_calls = λ s script schedule t. c.reached_laws.ensures.slot_calls (program_of s) script schedule t (homes s);
   bytes = λ s m b. (c.reached_laws.ensures.first (program_of s)).apart (apart s) m b;
-  explained = explained c.refusal_laws.ensures c.reached_laws.ensures;
+  explained = explained (record {
+    sites = c.site_laws.ensures;
+    refusals = c.refusal_laws.ensures;
+    reached = c.reached_laws.ensures;
+    fitting = c.fitting_laws.ensures;
+    assigned = c.assigned_laws.ensures;
+  });
 }

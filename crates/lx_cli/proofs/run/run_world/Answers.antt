@@ -14,11 +14,11 @@ report_of-requires g c =
 
 pub returns : goal.returns
 returns g c =
-    if_ok c.report_of.result (λ a said. λ p script stands few.
+    if_ok c.report_of.result (λ a said. λ p script stands few fits.
     let start = opening p script in
     let schedule = threads_of c.in_ok-done.ensures.runs.history in
     let ran = c.in_ok-done.ensures.runs.runs p start stands in
     told_of p script schedule None a ran.1.whole tt (c.run_laws.ensures.authorised p schedule start)
     (c.run_laws.ensures.plain p script schedule few stands.shared.keeps.history.placed)
-    (c.linked_laws.ensures.explained p (subst IsWellFormed (sym c.requires.2.program ∙ stands.program) c.requires.3) script schedule)
+    (c.linked_laws.ensures.explained p (subst IsWellFormed (sym c.requires.2.program ∙ stands.program) c.requires.3) script schedule few fits)
     (said.0, said.1, said.2, said.3 p (run p schedule start) (subst (λ (w : Meaning). StandsForWorld g.C.CapStore.stands p c.in_ok-done.done w) ran.1.run.run ran.1.stands_for))) c.report_of.ensures
