@@ -67,7 +67,7 @@ free_if true h = absurd (true≢false (sym (h refl)))
 free_if false h = refl
 
 -- nobody owns the last byte of the address space
-last_free : (h : History) → AllPlaced h → LastIsFree h
+pub last_free : (h : History) → AllPlaced h → LastIsFree h
 unfolding LastIsFree
 last_free h placed = λ q. free_if (owns h q (Byte (2 ^ 64 - 1))) (owned_mapped h (same_principal q) none_end (2 ^ 64 - 1) placed)
 
@@ -80,7 +80,7 @@ outcomes_stand p t (r ∷ rs) (x ∷ xs) a =
     let rest = outcomes_stand p (t + 1) rs xs (subst (λ n. AllStand p n rs xs) (sym (add-one t)) a.1) in
     λ i. map (call_outcome t) (a.0.runs.ended i) ++ rest i
 
-owned_opened : (types : ℕ) (h : History) (qs : List Principal) → flat_map (owned_in types h) qs ≡ flat_map (λ q. map (owned_as q) (owned_caps types h q)) qs
+pub owned_opened : (types : ℕ) (h : History) (qs : List Principal) → flat_map (owned_in types h) qs ≡ flat_map (λ q. map (owned_as q) (owned_caps types h q)) qs
 unfolding owned_in
 owned_opened types h qs = refl
 

@@ -3,7 +3,7 @@ ghost use Rattle.std.specs.Prelude.{◌≡◌, IfOk, length, map};
 
 use crate::instances::instance_names;
 use crate::outcomes::outcomes;
-use crate::owners::owners;
+use crate::ownership::owners;
 use crate::world::World;
 use lx_caps::CapStore;
 use lx_model::account::{Account, ImageCount};

@@ -51,8 +51,11 @@ fn put_module(out: &mut Vec<InstanceName>, names: &Principals, home: u32) -> Res
     Ok(())
 }
 
-/// The first names of the instances of the first modules, module by module.
-pub(crate) fn instance_names(
+/// The first names of the instances of the first `modules` modules, module by module.
+///
+/// # Errors
+/// Want of memory.
+pub fn instance_names(
     alloc: Global,
     names: &Principals,
     modules: u32,

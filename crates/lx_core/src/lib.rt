@@ -10,13 +10,15 @@ mod instances;
 mod laws;
 mod outcomes;
 mod owned;
-mod owners;
+mod ownership;
 mod runners;
 mod turn;
 mod world;
 
 pub use fault::EventFault;
+pub use instances::instance_names;
 pub use laws::answer_laws;
+pub use ownership::owners;
 pub use runners::Runners;
 pub use world::World;
 

@@ -1,0 +1,4 @@
+pub mod Filled
+pub mod Found
+pub mod Sized
+pub mod Crossing

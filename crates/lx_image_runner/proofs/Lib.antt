@@ -1,0 +1,9 @@
+pub mod Calls
+pub mod Counting
+pub mod Falling
+pub mod Lines
+pub mod Marking
+pub mod Takings
+pub mod Goings
+pub mod Entering
+pub mod Replies

@@ -1,0 +1,26 @@
+//! The runner of images: register steps of one thread of a program's instrumented code, up to its next request.
+//!
+//! ```text
+//! let mut runner = Runner::open(alloc, 0, &calls)?;
+//! while !runner.done() {
+//!     runner.local(&code)?;
+//!     if let Some(request) = runner.request() {
+//!         let reply = monitor.serve(0, request)?;
+//!         runner.absorb(&code, &reply);
+//!     }
+//! }
+//! // Every call has ended.
+//! runner.endings();
+//! ```
+#![tactic(auto)]
+
+mod callers;
+mod copies;
+mod ending;
+mod frame;
+mod registers;
+mod runner;
+
+pub use ending::Ending;
+pub use lx_image_code::Code;
+pub use runner::Runner;

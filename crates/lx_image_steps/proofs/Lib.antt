@@ -1,0 +1,12 @@
+pub mod Choices
+pub mod Firsts
+pub mod Jumping
+pub mod Legs
+pub mod Places
+pub mod Tabled
+pub mod Sized
+pub mod Sizes
+pub mod Moduli
+pub mod Parts
+pub mod Phis
+pub mod Marking

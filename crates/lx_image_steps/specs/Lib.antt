@@ -1,0 +1,5 @@
+pub mod Standing
+pub mod Effects
+pub mod Parts
+pub mod Phis
+pub mod Marks

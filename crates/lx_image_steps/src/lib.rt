@@ -1,0 +1,26 @@
+//! What the next instruction of a running function does in a machine of images: its value, where control goes, or what it asks, and
+//! for whom; what guards and checks leave for it; and which wrapper it calls.
+#![tactic(auto)]
+
+mod activation;
+mod askers;
+mod calls;
+mod effect;
+mod elements;
+mod jumps;
+mod marks;
+mod memory;
+mod next;
+mod operand;
+mod routes;
+mod steps;
+mod values;
+mod wrapped;
+
+pub use activation::{Activation, Range};
+pub use askers::asker;
+pub use effect::Effect;
+pub use marks::{Guarded, Marks};
+pub use next::next_effect;
+pub use steps::{call_result, instruction, registers_of, returned};
+pub use wrapped::{call_arguments, wrapped_call};

@@ -1,0 +1,10 @@
+pub mod Wrapped
+pub mod Asked
+pub mod Replies
+pub mod Calls
+pub mod Counted
+pub mod Numbered
+pub mod Turns
+pub mod Standing
+pub mod Wanted
+pub mod Gathered
