@@ -1,0 +1,3 @@
+pub mod Schedules
+mod Worlds
+mod Crossing
