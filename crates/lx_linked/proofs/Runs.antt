@@ -1,4 +1,4 @@
--- A well-formed program is that of its texts, so each of its runs is explained.
+-- A well-formed program is that of its texts, so each of its runs is explained, and lawful where its calls fit.
 use Rattle.std.proofs.Common.{◌≡◌, ℕ, zero, suc, ◌≤◌, true, Some, List, [], ◌∷◌, length, slice_get, refl, sym, subst}
 use Rattle.std.specs.Prelude.{All}
 use Rattle.std.proofs.lemmas.List.Elements.{All-head, All-tail}
@@ -20,6 +20,7 @@ use Rattle.lx_assigned.specs.Laws.{AssignedLaws}
 use Rattle.lx_site_laws.specs.Laws.{SiteLaws}
 use Rattle.lx_site_laws.specs.Paths.{HasLawfulGlobals}
 use Rattle.lx_linked.specs.Explained.{HasTypesByFields, IsExplainedRun}
+use Rattle.lx_linked.specs.Fitting.{IsFittingRun}
 use Rattle.lx_linked.proofs.Apart.{apart}
 use Rattle.lx_linked.proofs.Homes.{homes}
 
@@ -52,11 +53,9 @@ pub record Laws : Type 0 where
   pub sites : SiteLaws
   pub refusals : RefusalLaws
   pub reached : ReachedLaws
-  pub fitting : FittingLaws
-  pub assigned : AssignedLaws
 
-pub explained : Laws → (p : Program) → IsWellFormed p → (script : List (List ScriptCall)) (schedule : List ℕ) → length script ≤ 16 → FitsCalls p script → IsExplainedRun p script schedule
-explained laws p w script schedule few fits =
+pub explained : Laws → (p : Program) → IsWellFormed p → (script : List (List ScriptCall)) (schedule : List ℕ) → IsExplainedRun p script schedule
+explained laws p w script schedule =
     let is = of_texts p w in
     let homed : has_homes p ≡ true = subst (λ q. has_homes q ≡ true) is (homes (texts_of p)) in
     record {
@@ -65,14 +64,20 @@ explained laws p w script schedule few fits =
       first = laws.reached.first p;
       apart = subst StandApart is (apart (texts_of p));
       typed = λ m. typed_by_fields laws.sites p.interface (module_of p (Some m)) (lawful_in laws.sites p.kernel p.interface p.modules w.modules m);
-      assigned = laws.assigned.assigned p w script schedule fits;
       reached = λ s. record {
         listed = laws.reached.listed p script s homed;
         slot_calls = λ t. laws.reached.slot_calls p script s t homed;
         numbered = laws.reached.numbered p script s;
         texts = laws.reached.texts p script s;
         asked = laws.reached.asked p script s;
-        lawful = λ t thread is_at. (laws.fitting.runs p script s t thread w few fits is_at).1;
         stopped = λ t. laws.reached.stopped p t (run p s (opening p script));
       };
     }
+
+-- where calls fit, so does all that is asked for, and no register is read before it is given
+pub fitting_run : FittingLaws → AssignedLaws → (p : Program) → IsWellFormed p → (script : List (List ScriptCall)) (schedule : List ℕ) → length script ≤ 16 → FitsCalls p script
+    → IsFittingRun p script schedule
+fitting_run fitting assigned p w script schedule few fits = record {
+  assigned = assigned.assigned p w script schedule fits;
+  lawful = λ s t thread is_at. (fitting.runs p script s t thread w few fits is_at).1;
+}

@@ -1,14 +1,11 @@
 -- What is known of a linked program's run beside its account.
-use Rattle.std.specs.Prelude.{◌≡◌, ℕ, ◌<◌, true, Some, None, List, length, slice_get}
+use Rattle.std.specs.Prelude.{◌≡◌, ℕ, ◌<◌, true, Some, None, List, length}
 use Rattle.lx_ir.specs.declared.module.Module.{Module}
 use Rattle.lx_annot.specs.declared.interface.Interface.{Interface}
 use Rattle.lx_slot_types.specs.Gets.{gets, slot_of}
 use Rattle.lx_model.specs.declared.program.Program.{Program}
 use Rattle.lx_model.specs.declared.program.ScriptCall.{ScriptCall}
-use Rattle.lx_model.specs.Fits.{Fits}
-use Rattle.lx_model.specs.Next.{next}
 use Rattle.lx_model.specs.Program.{module_of}
-use Rattle.lx_model.specs.Thread.{Thread}
 use Rattle.lx_model.specs.World.{World, opening, run}
 use Rattle.lx_refusals.specs.Caused.{AreCaused}
 use Rattle.lx_refusals.specs.Explained.{AreExplained}
@@ -16,8 +13,6 @@ use Rattle.lx_reached.specs.Listed.{ListsPrincipals, NumbersInstances, WritersHo
 use Rattle.lx_reached.specs.Opened.{FirstOwned, StandApart}
 use Rattle.lx_reached.specs.Stopped.{StopsCleanly}
 use Rattle.lx_reached.specs.Texts.{AllRunAsTexts, AsksByText}
-use Rattle.lx_assigned.specs.Alike.{AlikeWorlds}
-use Rattle.lx_assigned.specs.Filled.{Fill, filled_run}
 use Rattle.lx_site_laws.specs.Members.{Exactly}
 use Rattle.lx_site_laws.specs.Typed.{GetsType, IsFirstType}
 
@@ -43,8 +38,6 @@ pub record IsReachedWell (p : Program) (w : World) : Type 0 where
   pub texts : AllRunAsTexts p w
   -- and so they ask for what they do
   pub asked : (t : ℕ) → AsksByText p t w
-  -- each names what is there, with as many arguments as it takes and as wide ones, and keeps to the thread's stack
-  pub lawful : (t : ℕ) (thread : Thread) → slice_get w.threads t ≡ Some thread → Fits p t (next p t thread).request
   -- a call that is stopped leaves its outcome, the end of its stack and its loans, and nothing else
   pub stopped : (t : ℕ) → StopsCleanly p t w
 
@@ -61,8 +54,5 @@ pub record IsExplainedRun (p : Program) (script : List (List ScriptCall)) (sched
   pub apart : StandApart p
   -- a module's function is annotated by the fields where it stands
   pub typed : (m : ℕ) → HasTypesByFields p.interface (module_of p (Some m))
-  -- whatever words functions begin with in the place of blank ones, the run is the same, and what an instruction reads is the same word:
-  -- nobody reads a register that is no parameter and that nothing has given
-  pub assigned : (fill : Fill) → AlikeWorlds fill p (run p schedule (opening p script)) (filled_run fill p schedule (opening p script))
   -- each world on the way
   pub reached : (s : List ℕ) → IsReachedWell p (run p s (opening p script))

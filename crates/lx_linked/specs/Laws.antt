@@ -14,6 +14,7 @@ use Rattle.lx_link_texts.specs.WellFormed.{IsWellFormed, FitsCalls}
 use Rattle.lx_reached.specs.Listed.{has_homes, ListsPrincipals, WritersHold}
 use Rattle.lx_reached.specs.Opened.{gives_byte, StandApart}
 use Rattle.lx_linked.specs.Explained.{IsExplainedRun}
+use Rattle.lx_linked.specs.Fitting.{IsFittingRun}
 
 pub record LinkedLaws : Type 0 where
   -- each function by number is a native, the kernel's, or of a module of the program
@@ -26,5 +27,7 @@ pub record LinkedLaws : Type 0 where
   pub slot_calls : (s : Sources) (script : List (List ScriptCall)) (schedule : List ℕ) (t : ℕ) → WritersHold (program_of s) t (run (program_of s) schedule (opening (program_of s) script))
   -- and before the first call a module's shared principal owns the bytes of its variables, and no others
   pub bytes : (s : Sources) (m b : ℕ) → owns (opening_history (program_of s)) (Shared m) (Byte b) ≡ (nat_lt m (length s.modules) && list_any (gives_byte (program_of s) m b) (globals_of s))
-  -- so it is with each well-formed program, and each of its runs is explained, of sixteen threads at most whose calls fit
-  pub explained : (p : Program) → IsWellFormed p → (script : List (List ScriptCall)) (schedule : List ℕ) → length script ≤ 16 → FitsCalls p script → IsExplainedRun p script schedule
+  -- so it is with each well-formed program, and each of its runs is explained,
+  pub explained : (p : Program) → IsWellFormed p → (script : List (List ScriptCall)) (schedule : List ℕ) → IsExplainedRun p script schedule
+  -- and is one of requests that fit and of registers that are given, where sixteen threads at most make calls that fit
+  pub fitting : (p : Program) → IsWellFormed p → (script : List (List ScriptCall)) (schedule : List ℕ) → length script ≤ 16 → FitsCalls p script → IsFittingRun p script schedule

@@ -2,7 +2,7 @@
 use Rattle.lx_link_texts.specs.Placing.{program_of}
 use Rattle.lx_linked.proofs.Apart.{apart}
 use Rattle.lx_linked.proofs.Homes.{homes}
-use Rattle.lx_linked.proofs.Runs.{explained}
+use Rattle.lx_linked.proofs.Runs.{explained, fitting_run}
 use Rattle.lx_linked.proofs.linked_laws.Goals as goal
 
 pub returns : goal.returns
@@ -16,7 +16,6 @@ returns c = record {
     sites = c.site_laws.ensures;
     refusals = c.refusal_laws.ensures;
     reached = c.reached_laws.ensures;
-    fitting = c.fitting_laws.ensures;
-    assigned = c.assigned_laws.ensures;
   });
+  fitting = fitting_run c.fitting_laws.ensures c.assigned_laws.ensures;
 }

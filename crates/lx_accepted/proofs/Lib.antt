@@ -1,0 +1,4 @@
+pub mod Alike
+pub mod Marked
+pub mod Wrappers
+pub mod Images
