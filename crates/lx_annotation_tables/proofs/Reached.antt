@@ -20,7 +20,7 @@ use Rattle.lx_model.specs.declared.program.ProgramModule.{ProgramModule}
 use Rattle.lx_code.specs.Reach.{is_sized, are_sized, are_sized_instrs, is_sized_function, is_sized_module}
 use Rattle.lx_annot.specs.Lawful.{IsLawfulIterator}
 use Rattle.lx_link_texts.specs.WellFormed.{IsModuleOf}
-use Rattle.lx_annotation_tables.specs.Laws.{AreWithinReach, AreLinked}
+use Rattle.lx_annotation_tables.specs.Laws.{AreWithinReach, AreLinked, AreSized}
 
 all_more : {A : Type 0} (f g : A → Bool) → ((x : A) → f x ≡ true → g x ≡ true) → (xs : List A) → list_all f xs ≡ true → list_all g xs ≡ true
 all_more f g h [] k = refl
@@ -91,7 +91,7 @@ sized_function m f h =
     let a = and_parts (is_name f.name) (if is_defined f then is_lawful_body m f else is_lawful_import f) h in
     sized_blocks m f f.blocks (λ e. body_lawful m f (then_is (is_defined f) (is_lawful_body m f) (is_lawful_import f) a.1 e))
 
-sized_module : (m : Module) → IsLawful m → is_sized_module m ≡ true
+pub sized_module : AreSized
 sized_module m lawful = all_more (is_lawful_function m) (is_sized_function m.types) (sized_function m) m.functions lawful.functions
 
 sized_modules : (kernel : Module) (p : Program) (ms : List ProgramModule) → All (λ (m : ProgramModule). IsModuleOf kernel p.interface m.«module») ms → list_all (λ (m : ProgramModule). is_sized_module m.«module») ms ≡ true

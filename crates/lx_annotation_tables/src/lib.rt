@@ -1,7 +1,7 @@
 //! Tables of a linked program: where annotations stand, how many actions they have, and what the images of modules have.
 #![tactic(auto)]
 
-ghost use Rattle.lx_annotation_tables.specs.Laws.{AreLinked, AreWithinReach};
+ghost use Rattle.lx_annotation_tables.specs.Laws.{AreLinked, AreSized, AreWithinReach};
 
 mod counts;
 mod images;
@@ -12,9 +12,11 @@ pub use counts::action_counts;
 pub use images::image_counts;
 pub use sources::sources_of;
 
-/// A machine runs every well-formed program, and the monitor serves it.
-#[tactic(auto, using(crate::proofs::Reached::within_reach, crate::proofs::Reached::linked))]
+/// A machine runs every well-formed program, and the monitor serves it. In every lawful module, an image too, the types that are
+/// laid out are within the limits.
+#[tactic(auto, using(crate::proofs::Reached::within_reach, crate::proofs::Reached::linked, crate::proofs::Reached::sized_module))]
 pub fn reach_laws()
     ensures reach { AreWithinReach }
     ensures linked { AreLinked }
+    ensures sized { AreSized }
 {}

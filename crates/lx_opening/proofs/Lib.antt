@@ -1,3 +1,5 @@
+pub mod Accepted
+pub mod Compared
 pub mod PutBytes
 pub mod Globals
 pub mod Items

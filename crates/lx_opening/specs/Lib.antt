@@ -1,2 +1,3 @@
-pub mod Placed
+pub mod Differing
 pub mod Ordered
+pub mod Placed

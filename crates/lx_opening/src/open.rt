@@ -1,155 +1,163 @@
 //! The world of a program before the first call.
-ghost use Rattle.std.specs.Prelude.{◌≡◌, ◌≤◌, [], IfOk, length};
+ghost use Rattle.std.specs.Prelude.{◌≡◌, ◌≤◌, ℕ, [], IfOk, IsErrOf, length};
 ghost use Rattle.std.specs.Arc.{arc_value};
-ghost use Rattle.lx_code.specs.Reach.{CountsActions};
+ghost use Rattle.lx_accepted.specs.Accepted.{AreAccepted, AreOfTexts};
+ghost use Rattle.lx_annotation_tables.specs.Entries.{all_annotated};
+ghost use Rattle.lx_image_code.specs.Code.{code_of};
+ghost use Rattle.lx_image_world.specs.Worlds.{HasEndsRoom, HasRoom, StandsForWorld, script_events, code_of as code_in};
+ghost use Rattle.lx_images.specs.ImageWorld.{image_opening};
 ghost use Rattle.lx_link_texts.specs.WellFormed.{IsWellFormed};
-ghost use Rattle.lx_model.specs.Opening.{opening_state};
-ghost use Rattle.lx_model.specs.World.{opening};
+ghost use Rattle.lx_opening.specs.Differing.{IsFirstDifferent};
+ghost use Rattle.lx_opening.specs.declared.fault.OpenFault.{OpenFault};
 ghost use Rattle.lx_serve.specs.Room.{journal_room};
 ghost use Rattle.lx_serve.specs.Sources.{Knows};
 ghost use Rattle.lx_serve.specs.Stands.{StandsForState};
-ghost use Rattle.lx_annotation_tables.specs.Entries.{all_annotated};
-ghost use Rattle.lx_core.specs.Worlds.{HasEndsRoom, HasRoom, StandsForWorld, program_of, script_events};
+ghost use Rattle.lx_simulation.specs.Images.{AreImages};
+ghost use Rattle.lx_model.specs.Opening.{opening_state};
 
+use crate::code::{Annotations, compared_code};
 use crate::events::script_events;
+use crate::fault::OpenFault;
 use crate::part::open_part;
-use lx_annotation_tables::{action_counts, reach_laws, sources_of};
+use lx_annotation_tables::sources_of;
 use lx_caps::CapStore;
-use lx_code::{ActionCounts, Code};
-use lx_core::World;
+use lx_code::Code as ProgramCode;
+use lx_image_check::Checked;
+use lx_image_code::Code;
+use lx_image_world::World;
 use lx_model::program::{Calls, Program};
-use lx_serve::{SharedPart, Source};
+use lx_serve::SharedPart;
 use lx_slot_types::Annotated;
 use lx_words::Memory;
 use std::alloc::Global;
 use std::sync::Arc;
 
-/// What the opening reckons before it takes a program in: where annotations stand, how many actions each function has, and
-/// how many events there may be.
-#[derive(Drop)]
-struct Reckoning {
-    sources: Vec<Option<Source>>,
-    counts: Vec<ActionCounts>,
-    events: usize,
-}
-
-fn reckoned(
+/// What threads share before the first call of a script.
+fn open_shared<C: CapStore + Drop>(
     alloc: Global,
-    program: &Program,
+    code: &ProgramCode,
+    annotations: Annotations,
     script: &[Calls],
-    annotated: &[Annotated],
-) -> Result<Reckoning, Memory>
-    requires well_formed { IsWellFormed program.now }
-    requires annotated { annotated.now ≡ all_annotated program.now }
-    ensures known { IfOk result (λ reckoning. Knows program.now reckoning.sources.items) }
-    ensures counted { IfOk result (λ reckoning. CountsActions program.now reckoning.counts.items) }
-    ensures events { IfOk result (λ reckoning. reckoning.events ≡ script_events script.now) }
-{
-    let events = script_events(script)?;
-    let sources = sources_of(alloc, program, annotated)?;
-    let counts = action_counts(alloc, program, sources.as_slice())?;
-    Ok(Reckoning {
-        sources,
-        counts,
-        events,
-    })
-}
-
-/// A program with two owners.
-fn owned_twice(alloc: Global, program: Program) -> Result<(Arc<Program>, Arc<Program>), Memory>
-    ensures { IfOk result (λ owners. (arc_value owners.0 ≡ program) × (arc_value owners.1 ≡ program)) }
-{
-    match Arc::new(alloc, program) {
-        Ok(first) => match Arc::try_clone(&first) {
-            Ok(second) => Ok((first, second)),
-            Err(_) => {
-                drop(first);
-                Err(Memory)
-            }
-        },
-        Err(failed) => {
-            drop(failed);
-            Err(Memory)
-        }
-    }
-}
-
-/// The code of a program, and what its threads share before the first call.
-fn open_parts<C: CapStore + Drop>(
-    alloc: Global,
-    program: Program,
-    reckoning: Reckoning,
     caps: C,
-) -> Result<(Code, SharedPart<C>), Memory>
-    requires well_formed { IsWellFormed program }
-    requires known { Knows program reckoning.sources.items }
-    requires counted { CountsActions program reckoning.counts.items }
+) -> Result<SharedPart<C>, Memory>
+    requires same { arc_value annotations.program ≡ code.now }
+    requires well_formed { IsWellFormed code.now }
+    requires known { Knows code.now annotations.sources.items }
     requires new { C.stands caps [] }
-    ensures code { IfOk result (λ parts. parts.0 ≡ program) }
-    ensures opens { IfOk result (λ parts. StandsForState C.stands program parts.1 (opening_state program)) }
-    ensures room { IfOk result (λ parts. reckoning.events ≤ journal_room parts.1) }
+    ensures opens { IfOk result (λ part. StandsForState C.stands code.now part (opening_state code.now)) }
+    ensures room { IfOk result (λ part. script_events script.now ≤ journal_room part) }
 {
-    reach_laws();
-    let Reckoning {
-        sources,
-        counts,
-        events,
-    } = reckoning;
-    match owned_twice(alloc, program) {
-        Ok((first, second)) => match Code::new(alloc, first, counts) {
-            Ok(code) => match open_part(alloc, &code, second, caps, sources, events) {
-                Ok(shared) => Ok((code, shared)),
-                Err(why) => {
-                    drop(code);
-                    Err(why)
-                }
-            },
-            Err(why) => {
-                drop(second);
-                drop(caps);
-                drop(sources);
-                Err(why)
-            }
-        },
+    let Annotations { program, sources } = annotations;
+    match script_events(script) {
+        Ok(events) => open_part(alloc, code, program, caps, sources, events),
         Err(why) => {
-            drop(counts);
-            drop(caps);
+            drop(program);
             drop(sources);
+            drop(caps);
             Err(why)
         }
     }
 }
 
-/// The opening of a script, a list of calls for each thread, over a well-formed program. `annotated` has the functions
-/// of each module that get a slot type, and `caps` is new. The world has room in its journal for every event that the fuel
-/// of the script allows, and in its store for the end of each call.
+/// The opening of a script over code of whose program is known where the annotations stand.
+fn open_annotated<C: CapStore + Drop>(
+    alloc: Global,
+    code: Code,
+    annotations: Annotations,
+    script: &[Calls],
+    caps: C,
+) -> Result<World<C>, Memory>
+    requires same { arc_value annotations.program ≡ code.program }
+    requires well_formed { IsWellFormed code.program }
+    requires known { Knows code.program annotations.sources.items }
+    requires threads { length script.now ≤ 16 }
+    requires new { C.stands caps [] }
+    ensures opens { IfOk result (λ world. StandsForWorld C.stands code world (image_opening code script.now)) }
+    ensures code { IfOk result (λ world. code_in world ≡ code) }
+    ensures room { IfOk result (λ world. HasRoom world) }
+    ensures ends { IfOk result (λ world. HasEndsRoom C.spare world) }
+{
+    match open_shared(alloc, code.program_code(), annotations, script, caps) {
+        Ok(shared) => World::open(alloc, code, script, shared),
+        Err(why) => {
+            drop(code);
+            Err(why)
+        }
+    }
+}
+
+/// The opening of a script, a list of calls for each thread, over any code, also over images that a checker refuses. `program`
+/// is that of the code, `annotated` has the functions of each of its modules that get a slot type, and `caps` is new. The world
+/// has room in its journal for every event that the fuel of the script allows, and in its store for the end of each call.
 ///
 /// # Errors
-/// Want of memory; more modules, functions of a module or actions of a function than a number of 32 bits counts are that
-/// too, and so are more events than a `usize` counts.
+/// Want of memory; more modules or functions of a module than a number of 32 bits counts are that too, and so are more events
+/// than a `usize` counts.
+pub fn open_code<C: CapStore + Drop>(
+    alloc: Global,
+    code: Code,
+    program: Arc<Program>,
+    annotated: &[Annotated],
+    script: &[Calls],
+    caps: C,
+) -> Result<World<C>, Memory>
+    requires same { arc_value program ≡ code.program }
+    requires well_formed { IsWellFormed code.program }
+    requires annotated { annotated.now ≡ all_annotated code.program }
+    requires threads { length script.now ≤ 16 }
+    requires new { C.stands caps [] }
+    ensures opens { IfOk result (λ world. StandsForWorld C.stands code world (image_opening code script.now)) }
+    ensures code { IfOk result (λ world. code_in world ≡ code) }
+    ensures room { IfOk result (λ world. HasRoom world) }
+    ensures ends { IfOk result (λ world. HasEndsRoom C.spare world) }
+{
+    match sources_of(alloc, code.program(), annotated) {
+        Ok(sources) => open_annotated(alloc, code, Annotations { program, sources }, script, caps),
+        Err(why) => {
+            drop(code);
+            drop(program);
+            drop(caps);
+            Err(why)
+        }
+    }
+}
+
+/// The opening of a script, a list of calls for each thread, over a well-formed program and checked images of its modules, one
+/// for each in the modules' order. `annotated` has the functions of each module that get a slot type, and `caps` is new. The
+/// world has room in its journal for every event that the fuel of the script allows, and in its store for the end of each call.
+///
+/// # Errors
+/// `ImageDiffers` where the program of an image is not the module whose image it is to be, lines apart; it names the first such
+/// module, and nothing has been opened. Want of memory; more modules, functions of a module or actions of a function than a
+/// number of 32 bits counts are that too, and so are more events than a `usize` counts.
 pub fn open_world<C: CapStore + Drop>(
     alloc: Global,
     program: Program,
+    images: Vec<Checked>,
     script: &[Calls],
     annotated: &[Annotated],
     caps: C,
-) -> Result<World<C>, Memory>
+) -> Result<World<C>, OpenFault>
     requires well_formed { IsWellFormed program }
     requires annotated { annotated.now ≡ all_annotated program }
     requires threads { length script.now ≤ 16 }
     requires new { C.stands caps [] }
-    ensures opens { IfOk result (λ world. StandsForWorld C.stands program world (opening program script.now)) }
-    ensures program { IfOk result (λ world. program_of world ≡ program) }
+    requires count { length images.items ≡ length program.modules }
+    requires accepted { AreAccepted program images.items }
+    ensures opens { IfOk result (λ world. StandsForWorld C.stands (code_of program images.items) world (image_opening (code_of program images.items) script.now)) }
+    ensures images { IfOk result (λ world. AreImages program images.items) }
+    ensures code { IfOk result (λ world. code_in world ≡ code_of program images.items) }
     ensures room { IfOk result (λ world. HasRoom world) }
     ensures ends { IfOk result (λ world. HasEndsRoom C.spare world) }
+    ensures same { IfOk result (λ world. AreOfTexts program images.items) }
+    ensures differs { (n : ℕ) → IsErrOf result (OpenFault.ImageDiffers n) → IsFirstDifferent program images.items n }
 {
-    match reckoned(alloc, &program, script, annotated) {
-        Ok(reckoning) => match open_parts(alloc, program, reckoning, caps) {
-            Ok((code, shared)) => World::open(alloc, code, script, shared),
-            Err(why) => Err(why),
+    match compared_code(alloc, program, images, annotated) {
+        Ok((code, annotations)) => match open_annotated(alloc, code, annotations, script, caps) {
+            Ok(world) => Ok(world),
+            Err(why) => Err(OpenFault::from(why)),
         },
         Err(why) => {
-            drop(program);
             drop(caps);
             Err(why)
         }

@@ -1,0 +1,7 @@
+use Rattle.std.proofs.Common.{ℕ, ◌<◌}
+use Rattle.lx_opening.specs.Differing.{HasImageAt}
+use Rattle.lx_opening.proofs.differing.compare_images.Given as goal
+
+-- each module before this one has its image
+abbrev pub invariant-loop-place : goal.invariant-loop-place
+invariant-loop-place l = (m : ℕ) → m < l.place → HasImageAt l.program l.images m
