@@ -1,9 +1,5 @@
-pub mod Booleans
-pub mod Formed
-pub mod Journal
 pub mod Judging
 pub mod Replays
-pub mod Reported
 pub mod Statuses
 pub mod Telling
 pub mod Written

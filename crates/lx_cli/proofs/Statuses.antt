@@ -11,7 +11,8 @@ use Rattle.lx_input.specs.Files.Laws.{IsOne, EndsAt}
 use Rattle.lx_input.specs.declared.input.Input.{Input}
 use Rattle.lx_input.specs.Laws.{OneInput, MissingFilesEnd}
 use Rattle.lx_input.specs.Files.ImageFile.{ImageFile}
-use Rattle.lx_cli.specs.Answer.{IsAsked, IsBroken, IsReportOf, IsAccepted, IsRefusedBy, HasProgram, MadeBy, BrokenBy, RefusedBy, EndedBy, HasEnded, accepted_line, unread_line}
+use Rattle.lx_runs.specs.Reports.{IsAsked}
+use Rattle.lx_cli.specs.Answer.{IsBroken, IsReportOf, IsAccepted, IsRefusedBy, HasProgram, MadeBy, BrokenBy, RefusedBy, EndedBy, HasEnded, accepted_line, unread_line}
 use Rattle.lx_cli.specs.Command.{Command, Run, Replay, Instrument, Check, Generate, CommandTurn, ComesTo, IsRun, IsGenerated, asked_of, case_of, command_of, files_by, files_of}
 use Rattle.lx_cli.specs.declared.answer.Answer.{Answer}
 use Rattle.lx_cli.specs.declared.answer.Answer.TheVariants as answer

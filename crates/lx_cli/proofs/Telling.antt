@@ -10,7 +10,10 @@ use Rattle.lx_input.specs.declared.input.Input.{Input}
 use Rattle.lx_cli.specs.Command.{Command, Run, Replay, Instrument, Check, Generate, CommandTurn, asked_of, case_of, count_asked, generated_files}
 use Rattle.lx_cli.specs.declared.answer.Answer.{Answer}
 use Rattle.lx_cli.specs.declared.answer.Answer.TheVariants as answer
-use Rattle.lx_cli.specs.Told.{TellsInput, TellsOf, TellsRun}
+use Rattle.lx_runs.specs.Reports.{TellsRun}
+use Rattle.lx_runs.specs.declared.told.Told.{Told}
+use Rattle.lx_runs.specs.declared.told.Told.TheVariants as runs
+use Rattle.lx_cli.specs.Told.{TellsInput, TellsOf, answer_of}
 
 -- the answer to an input that was read: a run has no schedule that could be broken
 
@@ -18,36 +21,33 @@ scheduled : (o : Option (List ℕ)) (s : List ℕ) → is_some o ≡ false → o
 scheduled None s none is = absurd cc
 scheduled (Some x) s none is = absurd cc
 
-told_run : (case : List ℕ) (turn : Result Input InputStop → Type 0) (i : Input) (a : Answer) → is_some i.besides.schedule ≡ false → turn (Ok i) → TellsRun i.program i.script i.besides.schedule a → TellsInput (Some (Run case)) turn a
-told_run case turn i (answer.Fault f) none comes is = absurd is
-told_run case turn i (answer.Unread file) none comes is = absurd is
-told_run case turn i (answer.Broken entry) none comes is = absurd (scheduled i.besides.schedule is.0 none is.1)
-told_run case turn i (answer.Report text returned) none comes is = (i, comes, record { report = is.0; asked = is.1 })
-told_run case turn i (answer.Text text) none comes is = absurd is
-told_run case turn i answer.Accepted none comes is = absurd is
-told_run case turn i (answer.Refused f) none comes is = absurd is
+told_run : (case : List ℕ) (turn : Result Input InputStop → Type 0) (i : Input) (t : Told) → is_some i.besides.schedule ≡ false → turn (Ok i)
+    → TellsRun i.program i.script i.besides.schedule t → TellsInput (Some (Run case)) turn (answer_of t)
+told_run case turn i (runs.Broken entry) none comes is = absurd (scheduled i.besides.schedule is.0 none is.1)
+told_run case turn i (runs.Report text returned) none comes is = (i, comes, record { report = is.0; asked = is.1 })
 
-told_replay : (case schedule : List ℕ) (turn : Result Input InputStop → Type 0) (i : Input) (a : Answer) → turn (Ok i) → TellsRun i.program i.script i.besides.schedule a → TellsInput (Some (Replay case schedule)) turn a
-told_replay case schedule turn i (answer.Fault f) comes is = absurd is
-told_replay case schedule turn i (answer.Unread file) comes is = absurd is
-told_replay case schedule turn i (answer.Broken entry) comes is = (i, comes, is)
-told_replay case schedule turn i (answer.Report text returned) comes is = (i, comes, record { report = is.0; asked = is.1 })
-told_replay case schedule turn i (answer.Text text) comes is = absurd is
-told_replay case schedule turn i answer.Accepted comes is = absurd is
-told_replay case schedule turn i (answer.Refused f) comes is = absurd is
+told_replay : (case schedule : List ℕ) (turn : Result Input InputStop → Type 0) (i : Input) (t : Told) → turn (Ok i)
+    → TellsRun i.program i.script i.besides.schedule t → TellsInput (Some (Replay case schedule)) turn (answer_of t)
+told_replay case schedule turn i (runs.Broken entry) comes is = (i, comes, is)
+told_replay case schedule turn i (runs.Report text returned) comes is = (i, comes, record { report = is.0; asked = is.1 })
 
 pub told_input : (c : Command) (turn : Result Input InputStop → Type 0) (i : Input) (a : Answer) → AreThere (asked_of c) i.besides → turn (Ok i) → TellsOf c i a → TellsInput (Some c) turn a
-told_input (Run case) turn i a there comes is = told_run case turn i a there.schedule comes is
-told_input (Replay case schedule) turn i a there comes is = told_replay case schedule turn i a comes is
+told_input (Run case) turn i a there comes (t, same, is) = subst (TellsInput (Some (Run case)) turn) (sym same) (told_run case turn i t there.schedule comes is)
+told_input (Replay case schedule) turn i a there comes (t, same, is) = subst (TellsInput (Some (Replay case schedule)) turn) (sym same) (told_replay case schedule turn i t comes is)
 told_input (Instrument case part) turn i a there comes (text, same, is) = subst (TellsInput (Some (Instrument case part)) turn) (sym same) (i, comes, is)
 told_input (Check case part image) turn i a there comes (inl (same, is)) = subst (TellsInput (Some (Check case part image)) turn) (sym same) (i, comes, (is, refl))
 told_input (Check case part image) turn i a there comes (inr (line, same, is)) = subst (TellsInput (Some (Check case part image)) turn) (sym same) (i, comes, is)
 told_input (Generate count) turn i a there comes (text, same, is) = subst (TellsInput (Some (Generate count)) turn) (sym same) (i, comes, is)
 
 -- an answer to an input names no file that was not read
+
+no_unread : (t : Told) (file : List ℕ) → answer.Unread file ≡ answer_of t → ⊥
+no_unread (runs.Broken entry) file same = cc
+no_unread (runs.Report text returned) file same = cc
+
 pub names_none : (c : Command) (i : Input) (file : List ℕ) → TellsOf c i (answer.Unread file) → ⊥
-names_none (Run case) i file is = is
-names_none (Replay case schedule) i file is = is
+names_none (Run case) i file (t, same, is) = no_unread t file same
+names_none (Replay case schedule) i file (t, same, is) = no_unread t file same
 names_none (Instrument case part) i file (text, same, is) = absurd cc
 names_none (Check case part image) i file (inl (same, is)) = absurd cc
 names_none (Check case part image) i file (inr (line, same, is)) = absurd cc
@@ -69,6 +69,11 @@ pub moved_turn : (files : List FileText) (case other : List ℕ) (a b : Asked) (
 moved_turn files case other a b r e f turn = subst (λ (q : Asked). InputTurn files other q r) f (subst (λ (q : List ℕ). InputTurn files q a r) e turn)
 
 -- what holds of the value of a result
+
+pub if_ok : {A E : Type 0} {P Q : A → Type 0} (r : Result A E) → ((a : A) → P a → Q a) → IfOk r P → IfOk r Q
+if_ok (Ok a) f is = f a is
+if_ok (Err e) f is = is
+
 pub if_ok_at : {A E : Type 0} (P : A → Type 0) (r : Result A E) (a : A) → IfOk r P → r ≡ Ok a → P a
 if_ok_at {A} {E} P (Ok b) a is same = let e : b ≡ a = cc in subst P e is
 if_ok_at {A} {E} P (Err e) a is same = absurd cc

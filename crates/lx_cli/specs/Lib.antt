@@ -1,5 +1,4 @@
 pub mod Answer
 pub mod Command
 pub mod Rows
-pub mod Runs
 pub mod Told

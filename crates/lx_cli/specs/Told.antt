@@ -2,28 +2,27 @@
 use Rattle.std.specs.Prelude.{◌≡◌, ◌⊎◌, ℕ, true, List, Option, Some, None, Result, Ok, Err}
 use Rattle.lx_annot.specs.declared.interface.Interface.{Interface}
 use Rattle.lx_image_texts.specs.ImageFaults.{ImageFault, first_image_fault}
-use Rattle.lx_model.specs.declared.program.Program.{Program}
-use Rattle.lx_model.specs.declared.program.ScriptCall.{ScriptCall}
-use Rattle.lx_model.specs.World.{opening}
 use Rattle.lx_input.specs.Files.FaultLine.{FaultLine}
 use Rattle.lx_input.specs.Files.ImageFile.{ImageFile}
 use Rattle.lx_input.specs.Files.InputStop.{InputStop}
 use Rattle.lx_input.specs.Files.InputStop.TheVariants as stops
 use Rattle.lx_input.specs.declared.input.Input.{Input}
-use Rattle.lx_cli.specs.Answer.{IsReport, IsAsked, IsImageText, IsSummary, IsAccepted, IsRefusedBy, HasProgram, image_line, MadeBy, BrokenBy, RefusedBy, accepted_line, broken_at}
+use Rattle.lx_runs.specs.Reports.{TellsRun}
+use Rattle.lx_runs.specs.declared.told.Told.{Told}
+use Rattle.lx_runs.specs.declared.told.Told.TheVariants as runs
+use Rattle.lx_cli.specs.Answer.{IsImageText, IsSummary, IsAccepted, IsRefusedBy, HasProgram, image_line, MadeBy, BrokenBy, RefusedBy, accepted_line}
 use Rattle.lx_cli.specs.Command.{Command, Run, Replay, Instrument, Check, Generate}
 use Rattle.lx_cli.specs.declared.answer.Answer.{Answer}
 use Rattle.lx_cli.specs.declared.answer.Answer.TheVariants as answer
 
--- of a program and its calls, under the schedule that is replayed, where one is
-abbrev pub TellsRun : Program → List (List ScriptCall) → Option (List ℕ) → Answer → Type 0
-TellsRun p script asked (answer.Fault f) = ⊥
-TellsRun p script asked (answer.Unread file) = ⊥
-TellsRun p script asked (answer.Broken entry) = (s : List ℕ) × (asked ≡ Some s) × (broken_at p s (opening p script) ≡ Some entry)
-TellsRun p script asked (answer.Report text returned) = (r : IsReport p script returned text) × IsAsked asked r.schedule
-TellsRun p script asked (answer.Text text) = ⊥
-TellsRun p script asked answer.Accepted = ⊥
-TellsRun p script asked (answer.Refused f) = ⊥
+-- the answer of a run
+abbrev pub answer_of : Told → Answer
+answer_of (runs.Broken entry) = answer.Broken entry
+answer_of (runs.Report text returned) = answer.Report text returned
+
+-- of a run of the input, under the schedule that is replayed, where one is
+abbrev pub TellsRunOf : Input → Answer → Type 0
+TellsRunOf i a = (t : Told) × (a ≡ answer_of t) × TellsRun i.program i.script i.besides.schedule t
 
 -- of what the files of a command come to
 abbrev pub TellsInput : Option Command → (Result Input InputStop → Type 0) → Answer → Type 0
@@ -43,8 +42,8 @@ Judges i x a = ⊥
 
 -- of an input that was read, by the command
 abbrev pub TellsOf : Command → Input → Answer → Type 0
-TellsOf (Run case) i a = TellsRun i.program i.script i.besides.schedule a
-TellsOf (Replay case schedule) i a = TellsRun i.program i.script i.besides.schedule a
+TellsOf (Run case) i a = TellsRunOf i a
+TellsOf (Replay case schedule) i a = TellsRunOf i a
 TellsOf (Instrument case part) i a = (text : List ℕ) × (a ≡ answer.Text text) × IsImageText i text
 TellsOf (Check case part image) i a = ((a ≡ answer.Accepted) × IsAccepted i) ⊎ ((line : FaultLine) × (a ≡ answer.Refused line) × IsRefusedBy i line)
 TellsOf (Generate count) i a = (text : List ℕ) × (a ≡ answer.Text text) × IsSummary count i.program i.script text

@@ -2,8 +2,10 @@
 ghost use Rattle.std.specs.Prelude.{◌≡◌, ◌++◌, IfOk};
 ghost use Rattle.lx_cli.specs.Answer.{accepted_line, broken_line, unread_line};
 ghost use Rattle.lx_cli.specs.Rows.{answer_text, status_of};
+ghost use Rattle.lx_cli.specs.Told.{answer_of};
 
 use lx_input::{FaultLine, fault_text};
+use lx_runs::Told;
 use lx_words::{Memory, Name, put_decimal};
 use std::alloc::Global;
 
@@ -25,6 +27,16 @@ pub enum Answer {
     Accepted,
     /// No program has the image: its first fault.
     Refused(FaultLine),
+}
+
+/// The answer of a run.
+pub(crate) fn answer_of_run(told: Told) -> Answer
+    ensures { result ≡ answer_of told }
+{
+    match told {
+        Told::Broken(entry) => Answer::Broken(entry),
+        Told::Report(text, returned) => Answer::Report(text, returned),
+    }
 }
 
 /// The exit status.

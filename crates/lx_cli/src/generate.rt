@@ -1,29 +1,18 @@
 //! Cases that are generated, and the summary of their run.
-ghost use Rattle.std.specs.Prelude.{◌≡◌, ◌++◌, List, ℕ, [], IfOk, IfSome, OnOk};
+ghost use Rattle.std.specs.Prelude.{◌≡◌, ◌++◌, List, ℕ, IfOk, IfSome, OnOk};
 ghost use Rattle.lx_cli.specs.Answer.{IsSummary, count_refused, count_returned, counted, number_returned, one_refused, one_returned, sum_returned, summary_counts, summary_end, summary_head, summary_text};
 ghost use Rattle.lx_cli.specs.Command.{generated_files};
-ghost use Rattle.lx_cli.specs.Runs.{images_of};
-ghost use Rattle.lx_core.specs.Worlds.{StandsForWorld};
 ghost use Rattle.lx_input.specs.Laws.{IsReady};
-ghost use Rattle.lx_link_texts.specs.WellFormed.{IsWellFormed};
-ghost use Rattle.lx_model.specs.Account.{account};
-ghost use Rattle.lx_model.specs.World.{World as Meaning, opening};
-ghost use Rattle.lx_model.specs.declared.program.Program.{Program};
-ghost use Rattle.lx_model.specs.declared.program.ScriptCall.{ScriptCall};
 
 use crate::answer::Answer;
 use crate::command::GENERATED_CASE;
-use crate::run::{Host, Opened, open_input};
-use lx_cap_tables::CapTables;
-use lx_caps::CapStore;
-use lx_core::World;
 use lx_generate::{Generated, generate};
 use lx_input::Input;
-use lx_model::account::{Account, CallOutcome, ImageCount};
+use lx_model::account::{Account, CallOutcome};
 use lx_model::request::Outcome;
 use lx_outside::{Bytes, CallNumbers, FileText, Files, Gate, MemShelf, Name as FileName, Names};
-use lx_threads::run_threads;
-use lx_words::{Items, Memory, Name, put_decimal};
+use lx_runs::{Host, account_input};
+use lx_words::{Memory, Name, put_decimal};
 use std::alloc::Global;
 use std::sync::Wait;
 use std::thread::Threads;
@@ -210,57 +199,6 @@ fn summary_text(alloc: Global, count: u32, account: &Account) -> Result<Name, Me
     Ok(Name::from_vec(text))
 }
 
-/// The summary of what the world did in so many calls.
-fn summary_of<C: CapStore + Drop>(
-    alloc: Global,
-    world: &World<C>,
-    images: Items<ImageCount>,
-    count: u32,
-) -> Result<Name, Memory>
-    requires { (p : Program) × (w : Meaning) × StandsForWorld C.stands p world.now w × IsWellFormed p × (images ≡ images_of p) }
-    ensures { IfOk result (λ text. (p : Program) (w : Meaning) → StandsForWorld C.stands p world.now w → text ≡ summary_text count (account p w)) }
-{
-    let account = world.account(alloc, images)?;
-    summary_text(alloc, count, &account)
-}
-
-/// Runs the threads of a world beside each other, and sums up what so many calls did.
-fn sum_up<C: CapStore + Drop + Send, R: Threads + Wait + Sync, G: Gate + Sync>(
-    host: &Host<'_, R, G>,
-    world: World<C>,
-    images: Items<ImageCount>,
-    count: u32,
-) -> Result<Answer, Memory>
-    requires { (p : Program) × (script : List (List ScriptCall)) × StandsForWorld C.stands p world (opening p script)
-        × IsWellFormed p × (images ≡ images_of p) }
-    ensures { IfOk result (λ a. (p : Program) (script : List (List ScriptCall)) → StandsForWorld C.stands p world (opening p script)
-        → (text : List ℕ) × (a ≡ Answer.Text text) × IsSummary count p script text) }
-{
-    let done = run_threads(host.rt, host.alloc, world, host.gate)?;
-    let text = summary_of(host.alloc, &done, images, count)?;
-    Ok(Answer::Text(text))
-}
-
-/// Runs an input of so many calls, and sums up.
-fn sum_up_over<C: CapStore + Drop + Send, R: Threads + Wait + Sync, G: Gate + Sync>(
-    host: &Host<'_, R, G>,
-    input: Input,
-    caps: C,
-    count: u32,
-) -> Result<Answer, Memory>
-    requires ready { IsReady input }
-    requires new { C.stands caps [] }
-    ensures { IfOk result (λ a. (text : List ℕ) × (a ≡ Answer.Text text) × IsSummary count input.program input.script text) }
-{
-    let Opened {
-        world,
-        schedule,
-        images,
-    } = open_input(host.alloc, input, caps)?;
-    drop(schedule);
-    sum_up(host, world, images, count)
-}
-
 /// The summary of an input of so many calls.
 pub(crate) fn sum_up_input<R: Threads + Wait + Sync, G: Gate + Sync>(
     host: &Host<'_, R, G>,
@@ -270,11 +208,7 @@ pub(crate) fn sum_up_input<R: Threads + Wait + Sync, G: Gate + Sync>(
     requires { IsReady input }
     ensures { IfOk result (λ a. (text : List ℕ) × (a ≡ Answer.Text text) × IsSummary count input.program input.script text) }
 {
-    match CapTables::new(host.alloc) {
-        Ok(caps) => sum_up_over(host, input, caps, count),
-        Err(_) => {
-            drop(input);
-            Err(Memory)
-        }
-    }
+    let account = account_input(host, input)?;
+    let text = summary_text(host.alloc, count, &account)?;
+    Ok(Answer::Text(text))
 }

@@ -5,7 +5,6 @@ mod answer;
 mod command;
 mod generate;
 mod images;
-mod run;
 mod top;
 
 pub use top::{WANT_OF_MEMORY, lxfi};

@@ -12,16 +12,16 @@ ghost use Rattle.lx_input.specs.Laws.{IsReady};
 ghost use Rattle.lx_cli.specs.Answer.{BrokenBy, EndedBy, RefusedBy, unread_line, usage_line};
 ghost use Rattle.lx_cli.specs.Command.{CommandTurn, ComesTo, Generate, IsGenerated, IsRun, asked_of, case_of, command_of, files_by, generated_files, said, texts};
 ghost use Rattle.lx_cli.specs.Rows.{Wrote, FellShort, Headline, NoNewFault};
-ghost use Rattle.lx_cli.specs.Told.{TellsInput, TellsOf};
+ghost use Rattle.lx_cli.specs.Told.{TellsInput, TellsOf, TellsRunOf};
 
-use crate::answer::{Answer, answer_text, status_of};
+use crate::answer::{Answer, answer_of_run, answer_text, status_of};
 use crate::command::{asked_of, case_of, count_asked};
 use crate::generate::{generated_shelf, sum_up_input};
 use crate::images::{check_input, instrument_input};
-use crate::run::{Host, run_input};
 use lx_command::{Command, command_of};
 use lx_input::{Input, InputStop, input_laws, read_input};
 use lx_outside::{Gate, Shelf, Sink, put_all};
+use lx_runs::{Host, run_input};
 use lx_words::Memory;
 use std::alloc::Global;
 use std::sync::Wait;
@@ -63,6 +63,18 @@ fn stopped(stop: InputStop) -> Result<Answer, Memory>
     }
 }
 
+/// The answer to an input that is run.
+fn answer_run<R: Threads + Wait + Sync, G: Gate + Sync>(
+    host: &Host<'_, R, G>,
+    input: Input,
+) -> Result<Answer, Memory>
+    requires { IsReady input }
+    ensures { IfOk result (TellsRunOf input) }
+{
+    let told = run_input(host, input)?;
+    Ok(answer_of_run(told))
+}
+
 /// The answer to a command whose files were read.
 fn answer_input<R: Threads + Wait + Sync, G: Gate + Sync>(
     host: &Host<'_, R, G>,
@@ -74,9 +86,17 @@ fn answer_input<R: Threads + Wait + Sync, G: Gate + Sync>(
     ensures { IfOk result (λ a. TellsOf (said command.entry) input a) }
 {
     match command {
-        Command::Run { .. } | Command::Replay { .. } => run_input(host, input),
-        Command::Instrument { .. } => instrument_input(host.alloc, &input),
-        Command::Check { .. } => check_input(host.alloc, &input),
+        Command::Run { .. } | Command::Replay { .. } => answer_run(host, input),
+        Command::Instrument { .. } => {
+            let answer = instrument_input(host.alloc, &input);
+            drop(input);
+            answer
+        }
+        Command::Check { .. } => {
+            let answer = check_input(host.alloc, &input);
+            drop(input);
+            answer
+        }
         Command::Generate { count } => sum_up_input(host, input, count),
     }
 }

@@ -1,7 +1,6 @@
 use Rattle.std.proofs.Common.{sym}
 use Rattle.lx_cli.specs.Command.{said}
-use Rattle.lx_cli.proofs.Reported.{if_ok}
-use Rattle.lx_cli.proofs.Telling.{generated_turn, shelf_turn, not_generated}
+use Rattle.lx_cli.proofs.Telling.{if_ok, generated_turn, shelf_turn, not_generated}
 use Rattle.lx_cli.proofs.top.answer_of.Goals as goal
 
 pub returns-in-Some-clause-answer : goal.returns-in-Some-clause-answer

@@ -6,8 +6,7 @@ use Rattle.lx_input.specs.Inputs.{InputTurn}
 use Rattle.lx_cli.specs.Command.{asked_of, case_of, said}
 use Rattle.lx_cli.specs.declared.answer.Answer.TheVariants as answer
 use Rattle.lx_cli.specs.Told.{TellsInput, TellsOf}
-use Rattle.lx_cli.proofs.Reported.{if_ok}
-use Rattle.lx_cli.proofs.Telling.{told_input, told_stop, noted_stop, names_none, moved_turn, if_ok_at}
+use Rattle.lx_cli.proofs.Telling.{if_ok, told_input, told_stop, noted_stop, names_none, moved_turn, if_ok_at}
 use Rattle.lx_cli.proofs.top.answer_to.Goals as goal
 
 pub answer_input-requires-clause-there : goal.answer_input-requires-clause-there

@@ -1,0 +1,9 @@
+pub mod Booleans
+pub mod Formed
+pub mod Imaged
+pub mod Journal
+pub mod Made
+pub mod Ran
+pub mod Replays
+pub mod Reported
+pub mod Wholes

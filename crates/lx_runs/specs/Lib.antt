@@ -1,0 +1,5 @@
+pub mod Images
+pub mod Opened
+pub mod Replays
+pub mod Reports
+pub mod Runs
