@@ -3,7 +3,6 @@ use denote.Param.Send.{IsSync, sendable}
 use Rattle.std.proofs.Crossing.{crosses}
 use Rattle.lx_ir.proofs.Crossing.{module_field_sync}
 use Rattle.lx_model.proofs.Crossing.{program_sync, program_send}
-use Rattle.lx_code_tables.proofs.Crossing.{tables_sync as jumps_sync}
 use Rattle.lx_code.specs.contracts.targets.Target as Target
 use Rattle.lx_code.specs.contracts.tables.Tables as Tables
 use Rattle.lx_code.specs.contracts.code.ActionCounts as ActionCounts
@@ -35,7 +34,7 @@ pub names_sync : IsSync Names.the_row
 names_sync = search (names_field, sendable) depth 60 fits 20000
 
 pub code_field : IsSync (Code.the_field).row
-code_field = search (names_field, counts_sync, jumps_sync, crosses, sendable) depth 60 fits 20000
+code_field = search (names_field, counts_sync, crosses, sendable) depth 60 fits 20000
 
 pub code_sync : IsSync Code.the_row
 code_sync = search (code_field, sendable) depth 60 fits 20000

@@ -1,4 +1,3 @@
-pub mod Jumps
 pub mod Places
 pub mod Reach
 pub mod Runnable

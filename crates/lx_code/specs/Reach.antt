@@ -6,7 +6,6 @@ use Rattle.lx_ir.specs.declared.module.Function.{Function}
 use Rattle.lx_ir.specs.declared.module.Module.{Module}
 use Rattle.lx_ir.specs.Lookup.{blocks_of}
 use Rattle.lx_model.specs.declared.program.Program.{Program}
-use Rattle.lx_model.specs.Thread.{routine}
 use Rattle.lx_model.specs.Next.{actions_of}
 use Rattle.lx_code.specs.declared.code.ActionCounts.{ActionCounts}
 pub use Rattle.lx_code_tables.specs.Sized.{is_sized, are_sized_instrs, are_sized}
@@ -34,7 +33,3 @@ count_in false (Some c) = c.pre
 -- the table has the number of actions of each function; a function that it lacks has none
 abbrev pub CountsActions : Program → List ActionCounts → Type 0
 CountsActions p table = (n : ℕ) → (post : Bool) → count_in post (slice_get table n) ≡ length (actions_of p n post)
-
--- no function has more registers beside its parameters
-abbrev pub HasLocals : Program → ℕ → Type 0
-HasLocals p most = (n : ℕ) → (routine p n).locals ≤ most

@@ -1,22 +1,16 @@
 //! The code that a machine runs: what the numbers of a program name.
-ghost use Rattle.std.specs.Prelude.{◌≡◌, ℕ, ◌+◌, ◌<◌, Bool, true, IsTrue, IfOk, IfSome, Option, Some, List, length, map, bytes_eq, option_copied, option_and_then, position};
-ghost use Rattle.lx_model.specs.Program.{module_of, function_of, function_of_entry, home_or_kernel, result_width, target};
-ghost use Rattle.lx_model.specs.Thread.{routine, routine_or_none, code_block_of};
+ghost use Rattle.std.specs.Prelude.{◌≡◌, ◌+◌, ◌<◌, true, IfOk, Some, length, option_copied, option_and_then, slice_get};
+ghost use Rattle.lx_model.specs.Program.{module_of, function_of, home_or_kernel, result_width, target};
 ghost use Rattle.lx_model.specs.Next.{actions_of, has_action};
-ghost use Rattle.lx_code.specs.Reach.{IsWithinReach, CountsActions, HasLocals, count_in};
-ghost use Rattle.lx_code.specs.Jumps.{op_at, IsCaseAt, IsEdgeAt, IsRoomAt, IsRouteAt};
+ghost use Rattle.lx_code.specs.Reach.{IsWithinReach, CountsActions, count_in};
 ghost use Rattle.lx_code.specs.Targets.{target_of};
 
-use crate::functions::{function_in, function_named};
-use crate::jumps::{first_block, first_case, first_edge, room_at, route_at, tables_of};
 use crate::named::Names;
 use crate::targets::Target;
 use crate::words::width_of;
-use lx_code_tables::{CodeTables, Room, Route};
-use lx_ir::module::{Block, Function, Module};
-use lx_ir_uses::blocks_of;
+use lx_ir::module::{Function, Module};
 use lx_model::program::{Program, ProgramFunction};
-use lx_words::{Items, Memory, Width};
+use lx_words::{Memory, Width};
 use std::alloc::Global;
 use std::marker::Model;
 use std::sync::Arc;
@@ -33,8 +27,6 @@ pub struct ActionCounts {
 pub struct Code {
     names: Names,
     actions: Vec<ActionCounts>,
-    most_locals: usize,
-    jumps: Items<CodeTables>,
 }
 
 impl Model for Code {
@@ -48,28 +40,14 @@ impl Model for Code {
 
     ghost view = { λ c. c.names };
 
-    ghost invariant = { λ c. IsRunnable c.names c.actions.items c.most_locals c.jumps };
+    ghost invariant = { λ c. IsRunnable c.names c.actions.items };
 }
 
-// How many registers the instructions of an entry's function give.
-fn locals_of(program: &Program, entry: &ProgramFunction) -> usize
-    ensures { result ≡ (routine_or_none (function_of_entry program.now (Some entry.now))).locals }
+// The function of a text with this number.
+fn function_in<'a>(text: &'a Module, number: u32) -> Option<&'a Function>
+    ensures { option_copied result ≡ slice_get text.now.functions number }
 {
-    match function_named(program, entry) {
-        Some(function) => function.locals.items.len(),
-        None => 0,
-    }
-}
-
-// The greatest number of registers that a function's instructions give.
-fn most_locals(program: &Program) -> usize
-    ensures { HasLocals program.now result }
-{
-    let mut most = 0usize;
-    for entry in program.functions.as_slice() {
-        most = most.max(locals_of(program, entry));
-    }
-    most
+    text.functions.items.get(number as usize)
 }
 
 // How many actions stand behind the body, or before it.
@@ -106,14 +84,7 @@ impl Code {
         ensures { IfOk result (λ code. code ≡ arc_value program) }
     {
         let names = Names::new(alloc, program)?;
-        let most_locals = most_locals(names.program());
-        let jumps = tables_of(alloc, &names)?;
-        Ok(Code {
-            names,
-            actions,
-            most_locals,
-            jumps,
-        })
+        Ok(Code { names, actions })
     }
 
     /// What the names of the program stand for.
@@ -149,8 +120,8 @@ impl Code {
         }
     }
 
-    /// The function with this number, if a text defines it.
-    pub fn function(&self, number: u32) -> Option<&Function>
+    // The function with this number, if a text defines it.
+    fn function(&self, number: u32) -> Option<&Function>
         ensures { option_copied result ≡ function_of self.now number }
     {
         match self.program().functions.items.get(number as usize) {
@@ -167,23 +138,6 @@ impl Code {
         ensures { target_of result ≡ target self.now home function }
     {
         self.names.target(home, function)
-    }
-
-    /// How many registers the instructions of a function give.
-    pub fn locals(&self, number: u32) -> usize
-        ensures { result ≡ (routine self.now number).locals }
-    {
-        match self.function(number) {
-            Some(function) => function.locals.items.len(),
-            None => 0,
-        }
-    }
-
-    /// As many registers as the instructions of any function give, or more.
-    pub fn most_locals(&self) -> usize
-        ensures { HasLocals self.now result }
-    {
-        self.most_locals
     }
 
     // How many actions a function has behind its body, or before it.
@@ -220,60 +174,5 @@ impl Code {
             Some(function) => result_of(function),
             None => None,
         }
-    }
-
-    /// The blocks of a function.
-    pub fn blocks(&self, number: u32) -> &[Block]
-        ensures { map code_block_of result.now ≡ (routine self.now number).blocks }
-    {
-        match self.function(number) {
-            Some(function) => blocks_of(function),
-            None => &[],
-        }
-    }
-
-    /// The number of a function's first block with a label.
-    pub fn block_named(&self, number: u32, label: &[u8]) -> Option<usize>
-        ensures { result ≡ position (λ b. bytes_eq b.label label.now) (routine self.now number).blocks }
-    {
-        first_block(self.jumps.as_slice(), number, label)
-    }
-
-    /// The place of the first case that is equal to a number, if one is, in the switch at a place of a function's block.
-    /// None, where that has no table; then its cases have to be searched.
-    pub fn case(&self, number: u32, block: usize, place: usize, bits: u64) -> Option<Option<usize>>
-        ensures { IfSome result (λ found. IsCaseAt self.now number (op_at (routine self.now number).blocks block place) bits found) }
-    {
-        first_case(self.jumps.as_slice(), number, block, place, bits)
-    }
-
-    /// The place of the first edge from a label, if one is, in the phi at a place of a function's block. None, where that
-    /// has no table; then its edges have to be searched.
-    pub fn edge(
-        &self,
-        number: u32,
-        block: usize,
-        place: usize,
-        label: &[u8],
-    ) -> Option<Option<usize>>
-        ensures { IfSome result (λ found. IsEdgeAt (op_at (routine self.now number).blocks block place) label.now found) }
-    {
-        first_edge(self.jumps.as_slice(), number, block, place, label)
-    }
-
-    /// What room the `alloca` at a place of a function's block asks for. None, where that has no table; then its type has to
-    /// be laid out.
-    pub fn room(&self, number: u32, block: usize, place: usize) -> Option<Room>
-        ensures { IfSome result (λ room. IsRoomAt self.now number (op_at (routine self.now number).blocks block place) room) }
-    {
-        room_at(self.jumps.as_slice(), number, block, place)
-    }
-
-    /// How far the indices of the `getelementptr` at a place of a function's block go. None, where that has no table; then
-    /// they have to be followed through its type.
-    pub fn route(&self, number: u32, block: usize, place: usize) -> Option<&Route>
-        ensures { IfSome result (λ route. IsRouteAt self.now number (op_at (routine self.now number).blocks block place) route.now) }
-    {
-        route_at(self.jumps.as_slice(), number, block, place)
     }
 }

@@ -3,8 +3,6 @@
 
 mod code;
 mod constants;
-mod functions;
-mod jumps;
 mod named;
 mod places;
 mod tables;

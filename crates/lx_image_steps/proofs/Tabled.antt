@@ -7,7 +7,7 @@ use Rattle.lx_ir.specs.declared.instr.Op.{Op}
 use Rattle.lx_ir.specs.declared.instr.Op.TheVariants as op
 use Rattle.lx_ir.specs.declared.types.Scalar.{Scalar}
 use Rattle.lx_model.specs.Thread.{CodeBlock}
-use Rattle.lx_code.specs.Jumps.{op_at, IsEdgeAt}
+use Rattle.lx_image_code.specs.Jumps.{op_at, IsEdgeAt}
 use Rattle.lx_image_steps.specs.Standing.{block_at, block_or_none}
 use Rattle.lx_image_steps.proofs.Places.{op_at as op_in}
 

@@ -1,6 +1,6 @@
 //! Instructions that end a block.
 ghost use Rattle.std.specs.Prelude.{◌≡◌, Some, nat_eq, IfSome};
-ghost use Rattle.lx_code.specs.Jumps.{op_at};
+ghost use Rattle.lx_image_code.specs.Jumps.{op_at};
 ghost use Rattle.lx_model.specs.Effect.{effect, jump_effect, chosen_label, bits, choice};
 ghost use Rattle.lx_images.specs.Image.{image_routine};
 ghost use Rattle.lx_image_steps.specs.Effects.{effect_of};

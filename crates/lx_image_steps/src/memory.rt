@@ -1,7 +1,7 @@
 //! Instructions that ask for memory.
 ghost use Rattle.std.specs.Prelude.{◌≡◌, ◌<◌, ◌≤◌, Some, IfSome, IsTrue};
 ghost use Rattle.std.specs.Int.{next_multiple_of};
-ghost use Rattle.lx_code.specs.Jumps.{op_at};
+ghost use Rattle.lx_image_code.specs.Jumps.{op_at};
 ghost use Rattle.lx_model.specs.declared.request.What.TheVariants as what;
 ghost use Rattle.lx_images.specs.Image.{Code as Images, image_routine};
 ghost use Rattle.lx_model.specs.Effect.{effect, types_of, Wants};

@@ -1,6 +1,6 @@
 //! The effect of the next instruction.
 ghost use Rattle.std.specs.Prelude.{◌≡◌, Some, IfOk, IfSome, IsTrue, option_map};
-ghost use Rattle.lx_code.specs.Jumps.{op_at};
+ghost use Rattle.lx_image_code.specs.Jumps.{op_at};
 ghost use Rattle.lx_code.specs.Reach.{is_sized};
 ghost use Rattle.lx_model.specs.Effect.{effect, types_of};
 ghost use Rattle.lx_images.specs.Image.{image_routine};

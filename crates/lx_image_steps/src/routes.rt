@@ -4,7 +4,7 @@ ghost use Rattle.lx_words.specs.Word.{signed, modulo};
 ghost use Rattle.lx_ir.specs.IrType.{IrType};
 ghost use Rattle.lx_ir.specs.Layout.{element_offset};
 ghost use Rattle.lx_ir.specs.declared.instr.Op.TheVariants as op;
-ghost use Rattle.lx_code.specs.Jumps.{op_at};
+ghost use Rattle.lx_image_code.specs.Jumps.{op_at};
 ghost use Rattle.lx_code_tables.specs.Routes.{leg_offset, legs_offset, route_offset};
 ghost use Rattle.lx_model.specs.Effect.{effect, types_of, indices_of};
 ghost use Rattle.lx_images.specs.Image.{image_routine};

@@ -7,7 +7,7 @@ ghost use Rattle.lx_model.specs.Next.{with_alloca, without_allocas};
 ghost use Rattle.lx_words.specs.Word.{Word};
 ghost use Rattle.lx_code.specs.Reach.{is_sized};
 ghost use Rattle.lx_image_steps.specs.Standing.{block_at, front_at, head_of, item_at, phi_at, rest_from, run_of};
-ghost use Rattle.lx_code.specs.Jumps.{op_at};
+ghost use Rattle.lx_image_code.specs.Jumps.{op_at};
 ghost use Rattle.lx_image_steps.specs.Effects.{arrived_as};
 ghost use Rattle.lx_image_steps.specs.Phis.{phi_words, with_words};
 ghost use Rattle.std.specs.Prelude.{bytes_eq, find, position};

@@ -7,6 +7,7 @@ use Rattle.lx_caps.specs.declared.Act.TheVariants.{Grant}
 use Rattle.lx_caps.specs.declared.Cap.TheVariants.{Call}
 use Rattle.lx_caps.specs.declared.Principal.TheVariants.{Shared}
 use Rattle.lx_code.specs.Reach.{IsWithinReach, CountsActions, is_sized_function, is_sized_module}
+use Rattle.lx_image_code.specs.Reach.{AreWithinReach}
 use Rattle.lx_ir.specs.Lawful.{IsLawful}
 use Rattle.lx_ir.specs.declared.module.Function.{Function}
 use Rattle.lx_model.specs.Account.{image_count}
@@ -17,38 +18,48 @@ use Rattle.lx_model.specs.declared.program.ProgramModule.{ProgramModule}
 use Rattle.lx_slot_types.specs.Gets.{below}
 use Rattle.lx_report.specs.Lawful.{HasLawfulModules}
 use Rattle.lx_serve.specs.Sources.{IsLinked, Knows}
-use Rattle.lx_monitor_tests.specs.Programs.{module_with, one_function, silent, one_silent, slotted, naming}
+use Rattle.lx_monitor_tests.specs.Programs.{kernel_alone, module_with, one_silent, slotted, naming}
 
--- programs of one function
+-- programs of one function of the kernel
 
 sized_alone : (f : Function) → IsTrue (is_sized_function [] f) → IsTrue (is_sized_module (module_with (f ∷ [])))
 sized_alone f sized = and_from (is_sized_function [] f) true sized refl
 
-sized_modules : (f : Function) → IsTrue (is_sized_function [] f) → IsTrue (list_all (λ (m : ProgramModule). is_sized_module m.«module») (one_function f).modules)
-sized_modules f sized = and_from (is_sized_module (module_with (f ∷ []))) true (sized_alone f sized) refl
+within_reach : (f : Function) → IsTrue (is_sized_function [] f) → IsWithinReach (kernel_alone f)
+within_reach f sized = record { functions = omega arith; slots = omega arith; kernel = sized_alone f sized; modules = refl }
 
-within_reach : (f : Function) → IsTrue (is_sized_function [] f) → IsWithinReach (one_function f)
-within_reach f sized = record { functions = omega arith; slots = omega arith; kernel = refl; modules = sized_modules f sized }
-
-pub is_within_reach : (p : Program) (f : Function) → p ≡ one_function f → IsTrue (is_sized_function [] f) → IsWithinReach p
+pub is_within_reach : (p : Program) (f : Function) → p ≡ kernel_alone f → IsTrue (is_sized_function [] f) → IsWithinReach p
 is_within_reach p f is sized = subst IsWithinReach (sym is) (within_reach f sized)
 
-counted : (f : Function) → CountsActions (one_function f) []
+counted : (f : Function) → CountsActions (kernel_alone f) []
 counted f zero true = refl
 counted f zero false = refl
 counted f (suc n) true = refl
 counted f (suc n) false = refl
 
-pub counts_none : (p : Program) (f : Function) → p ≡ one_function f → CountsActions p []
+pub counts_none : (p : Program) (f : Function) → p ≡ kernel_alone f → CountsActions p []
 counts_none p f is = subst (λ (q : Program). CountsActions q []) (sym is) (counted f)
+
+-- where there is no image, each is within reach
+pub no_images : (p : Program) → AreWithinReach p []
+no_images p m image there = absurd (cc)
 
 -- the program of a function that has no instruction
 
+silent_is_within_reach : IsWithinReach one_silent
+silent_is_within_reach = record { functions = omega arith; slots = omega arith; kernel = refl; modules = refl }
+
 pub silent_within_reach : (p : Program) → p ≡ one_silent → IsWithinReach p
-silent_within_reach p is = is_within_reach p silent is refl
+silent_within_reach p is = subst IsWithinReach (sym is) silent_is_within_reach
+
+silent_counted : CountsActions one_silent []
+silent_counted zero true = refl
+silent_counted zero false = refl
+silent_counted (suc n) true = refl
+silent_counted (suc n) false = refl
 
 pub silent_counts : (p : Program) → p ≡ one_silent → CountsActions p []
-silent_counts p is = counts_none p silent is
+silent_counts p is = subst (λ (q : Program). CountsActions q []) (sym is) silent_counted
 
 pub silent_blank : (p : Program) → p ≡ one_silent → with_globals p p.globals [] ≡ []
 silent_blank p is = ap (λ (q : Program). with_globals q q.globals []) is

@@ -6,6 +6,7 @@ use Rattle.lx_annot.specs.declared.interface.Slot.{Slot}
 use Rattle.lx_ir.specs.declared.module.Function.{Function}
 use Rattle.lx_ir.specs.declared.module.Module.{Module}
 use Rattle.lx_ir.specs.declared.types.Scalar.{Scalar}
+use Rattle.lx_images.specs.Image.{Code}
 use Rattle.lx_model.specs.Program.{no_annotation}
 use Rattle.lx_model.specs.declared.program.Program.{Program}
 use Rattle.lx_model.specs.declared.program.ProgramFunction.TheVariants.{Of}
@@ -48,6 +49,20 @@ one_function f = record {
 -- a program of one function that has no instruction
 abbrev pub one_silent : Program
 one_silent = one_function silent
+
+-- its code, where its module has no image
+abbrev pub silent_code : Code
+silent_code = record { program = one_silent; images = [] }
+
+-- a program of one function, which the kernel defines
+abbrev pub kernel_alone : Function → Program
+kernel_alone f = record {
+  kernel = module_with (f ∷ []);
+  modules = [];
+  functions = Of None 0 ∷ [];
+  globals = [];
+  interface = interface_with [] [];
+}
 
 -- a slot type of functions without parameters, and without an annotation
 abbrev pub slot_with : List ℕ → Slot

@@ -3,7 +3,7 @@ ghost use Rattle.std.specs.Prelude.{◌≡◌, ◌∷◌, [], IfOk};
 ghost use Rattle.std.specs.Arc.{arc_value};
 ghost use Rattle.lx_caps.specs.History.{History};
 ghost use Rattle.lx_model.specs.Opening.{opening_history, opening_state, with_globals};
-ghost use Rattle.lx_monitor_tests.specs.Programs.{function_with, interface_with, module_with, one_function, slot_with};
+ghost use Rattle.lx_monitor_tests.specs.Programs.{function_with, interface_with, kernel_alone, module_with, one_function, slot_with};
 ghost use Rattle.lx_serve.specs.Sources.{IsLinked, Knows};
 ghost use Rattle.lx_serve.specs.Stands.{StandsForState};
 ghost use Rattle.lx_writer_sets.specs.RecordedStands.{StandsRecorded};
@@ -106,6 +106,25 @@ pub fn one_function(alloc: Global, function: Function) -> Result<Program, Memory
     Ok(Program {
         kernel: module_with(alloc, Vec::new(alloc)),
         modules,
+        functions: Items::from_vec(numbers),
+        globals: Items::new(alloc),
+        interface: interface_with(alloc, Items::new(alloc), Items::new(alloc)),
+    })
+}
+
+/// A program of one function, which the kernel defines.
+pub fn kernel_alone(alloc: Global, function: Function) -> Result<Program, Memory>
+    ensures { IfOk result (λ p. p ≡ kernel_alone function) }
+{
+    let functions = vec![in alloc; function]?;
+    let first = ProgramFunction::Of {
+        module: None,
+        function: 0,
+    };
+    let numbers = vec![in alloc; first]?;
+    Ok(Program {
+        kernel: module_with(alloc, functions),
+        modules: Items::new(alloc),
         functions: Items::from_vec(numbers),
         globals: Items::new(alloc),
         interface: interface_with(alloc, Items::new(alloc), Items::new(alloc)),

@@ -2,10 +2,9 @@
 ghost use Rattle.std.specs.Prelude.{◌≡◌, true, IsTrue, IfOk, []};
 ghost use Rattle.lx_code.specs.Reach.{CountsActions, IsWithinReach, are_sized, are_sized_instrs, is_sized, is_sized_function};
 
-use crate::common::{call_with, one_function, owned};
+use crate::common::{call_with, kernel_alone, owned};
 use lx_caps::Principal;
-use lx_code::Code;
-use lx_interp::Runner;
+use lx_image_runner::{Code, Runner};
 use lx_ir::instr::{Callee, Instr, Op};
 use lx_ir::module::{Block, Function, Symbol};
 use lx_model::program::Program;
@@ -19,7 +18,7 @@ fn line(op: Op) -> Instr
     Instr { op, line: 1 }
 }
 
-/// A call of the first function of the module.
+/// A call of the first function of the kernel.
 fn call(alloc: Global) -> Op
     ensures { is_sized [] result ≡ true }
 {
@@ -80,7 +79,7 @@ fn program_of(alloc: Global, function: Function) -> Result<Program, Memory>
     ensures reach { IfOk result (λ p. IsWithinReach p) }
     ensures actions { IfOk result (λ p. CountsActions p []) }
 {
-    let program = one_function(alloc, function)?;
+    let program = kernel_alone(alloc, function)?;
     Ok(program)
 }
 
@@ -88,7 +87,7 @@ fn code_of(alloc: Global) -> Result<Code, Memory> {
     let function = deep(alloc)?;
     let program = program_of(alloc, function)?;
     let program = owned(alloc, program)?;
-    let code = Code::new(alloc, program, Vec::new(alloc))?;
+    let code = Code::new(alloc, program, Vec::new(alloc), Vec::new(alloc))?;
     Ok(code)
 }
 
@@ -103,8 +102,8 @@ fn run(code: &Code, runner: &mut Runner) -> Result<(), Memory> {
     runner.local(code)?;
     let entered = Reply::Entered {
         function: 0,
-        principal: Principal::Shared(0),
-        crosses: true,
+        principal: Principal::Kernel,
+        crosses: false,
     };
     runner.absorb(code, &entered);
     runner.local(code)

@@ -1,5 +1,5 @@
 //! What takes memory, with ample memory.
-use lx_steps::registers_of;
+use lx_image_steps::registers_of;
 use lx_words::{Memory, Width, Word};
 use std::alloc::Global;
 

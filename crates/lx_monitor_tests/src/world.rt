@@ -1,16 +1,16 @@
 //! A small world, event by event.
 ghost use Rattle.std.specs.Prelude.{◌≡◌, [], IfOk, length};
 ghost use Rattle.std.specs.Arc.{arc_value};
+ghost use Rattle.lx_images.specs.ImageWorld.{ImageWorld};
+ghost use Rattle.lx_image_world.specs.Worlds.{StandsForWorld};
 ghost use Rattle.lx_model.specs.Opening.{opening_state};
-ghost use Rattle.lx_model.specs.World.{World as Meaning};
-ghost use Rattle.lx_monitor_tests.specs.Programs.{one_silent};
+ghost use Rattle.lx_monitor_tests.specs.Programs.{one_silent, silent_code};
 ghost use Rattle.lx_serve.specs.Stands.{StandsForState};
-ghost use Rattle.lx_core.specs.Worlds.{StandsForWorld};
 
 use crate::common::{call_with, function_with, one_function, owned, part_of};
 use lx_caps::{Cap, CapStore, PlainCaps, Principal};
-use lx_code::Code;
-use lx_core::{EventFault, World};
+use lx_image_runner::Code;
+use lx_image_world::{EventFault, World};
 use lx_model::account::{Account, CallOutcome, ImageCount, Owned};
 use lx_model::program::{Calls, Program};
 use lx_model::request::{Outcome, Trap};
@@ -22,7 +22,8 @@ use std::process::Abort;
 use std::sync::Arc;
 use std::test::Fail;
 
-/// A program of one module with one function, at 0x10000, that has no instruction, so that a call of it traps at its start.
+/// A program of one module with one function, at 0x10000, that has no instruction, so that a call of it traps at its start; its
+/// module has no image either.
 fn program(alloc: Global) -> Result<Program, Memory>
     ensures { IfOk result (λ p. p ≡ one_silent) }
 {
@@ -60,12 +61,13 @@ fn script(alloc: Global) -> Result<Vec<Calls>, Memory>
     Ok(script)
 }
 
-#[tactic(auto, using(crate::proofs::Programs::silent_within_reach, crate::proofs::Programs::silent_counts))]
+/// Its code.
+#[tactic(auto, using(crate::proofs::Programs::silent_within_reach, crate::proofs::Programs::silent_counts, crate::proofs::Programs::no_images))]
 fn code(alloc: Global, program: Arc<Program>) -> Result<Code, Memory>
     requires { arc_value program ≡ one_silent }
-    ensures { IfOk result (λ code. code ≡ one_silent) }
+    ensures { IfOk result (λ code. code ≡ silent_code) }
 {
-    let code = Code::new(alloc, program, Vec::new(alloc))?;
+    let code = Code::new(alloc, program, Vec::new(alloc), Vec::new(alloc))?;
     Ok(code)
 }
 
@@ -87,7 +89,7 @@ fn owned_twice(alloc: Global) -> Result<(Arc<Program>, Arc<Program>), Memory>
 /// The small world before its first event.
 pub fn world<C: CapStore + Drop>(alloc: Global, caps: C) -> Result<World<C>, Fail>
     requires { C.stands caps [] }
-    ensures { IfOk result (λ world. (w : Meaning) × StandsForWorld C.stands one_silent world w) }
+    ensures { IfOk result (λ world. (w : ImageWorld) × StandsForWorld C.stands silent_code world w) }
 {
     let script = script(alloc)?;
     let (first, second) = owned_twice(alloc)?;
@@ -106,8 +108,8 @@ pub fn world<C: CapStore + Drop>(alloc: Global, caps: C) -> Result<World<C>, Fai
 
 /// One event.
 fn act<C: CapStore + Drop>(world: &mut World<C>, thread: u32) -> Result<(), EventFault>
-    requires { (w : Meaning) × StandsForWorld C.stands one_silent world.old w }
-    ensures { (w : Meaning) × StandsForWorld C.stands one_silent world.new w }
+    requires { (w : ImageWorld) × StandsForWorld C.stands silent_code world.old w }
+    ensures { (w : ImageWorld) × StandsForWorld C.stands silent_code world.new w }
 {
     match world.event(thread) {
         Ok(()) => Ok(()),
@@ -117,8 +119,8 @@ fn act<C: CapStore + Drop>(world: &mut World<C>, thread: u32) -> Result<(), Even
 
 /// All events that there are: of each call its start and its end.
 fn run<C: CapStore + Drop>(rt: &impl Abort, world: &mut World<C>) -> Result<(), EventFault>
-    requires { (w : Meaning) × StandsForWorld C.stands one_silent world.old w }
-    ensures { (w : Meaning) × StandsForWorld C.stands one_silent world.new w }
+    requires { (w : ImageWorld) × StandsForWorld C.stands silent_code world.old w }
+    ensures { (w : ImageWorld) × StandsForWorld C.stands silent_code world.new w }
 {
     act(world, 1)?;
     act(world, 0)?;
@@ -163,7 +165,7 @@ fn report<C: CapStore + Drop>(
     alloc: Global,
     world: &World<C>,
 ) -> Result<(), Memory>
-    requires { (w : Meaning) × StandsForWorld C.stands one_silent world.now w }
+    requires { (w : ImageWorld) × StandsForWorld C.stands silent_code world.now w }
 {
     let none = ImageCount {
         guards: 0,
@@ -181,7 +183,7 @@ fn run_and_report<C: CapStore + Drop>(
     alloc: Global,
     world: &mut World<C>,
 ) -> Result<(), Fail>
-    requires { (w : Meaning) × StandsForWorld C.stands one_silent world.old w }
+    requires { (w : ImageWorld) × StandsForWorld C.stands silent_code world.old w }
 {
     run(rt, world)?;
     report(rt, alloc, world)?;

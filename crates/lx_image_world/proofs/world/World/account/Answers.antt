@@ -5,7 +5,7 @@ use Rattle.lx_slot_types.specs.Gets.{below}
 use Rattle.lx_model.specs.declared.program.Program.{Program}
 use Rattle.lx_model.specs.Account.{instance_names}
 use Rattle.lx_model.specs.State.{module_principals}
-use Rattle.lx_core.specs.Accounts.{owned_in}
+use Rattle.lx_ownership.specs.Accounts.{owned_in}
 use Rattle.lx_images.specs.Image.{Code}
 use Rattle.lx_image_world.specs.Accounts.{runner_outcomes}
 use Rattle.lx_image_world.proofs.Gathered.{account_of}
@@ -40,7 +40,7 @@ returns g c = λ m w s.
     let kept = ap (λ (x : Instances). x.names) (c.names-instances.ensures m.program w.state s.shared) in
     let modules = c.in_ok-modules.ensures ∙ (c.len.ensures ∙ ap (λ (q : Program). length q.modules) whole) in
     let types = c.in_ok-types.ensures ∙ (c.len-2.ensures ∙ ap (λ (q : Program). length q.interface.reftypes) whole) in
-    account_of g.C.CapStore.stands c.args.self.now m w s c.in_ok-schedule.schedule c.from_vec.result c.in_ok-notes.notes c.args.images c.from_vec-2.result c.from_vec-3.result
+    account_of g.C.CapStore.stands c.owned_laws.ensures c.args.self.now m w s c.in_ok-schedule.schedule c.from_vec.result c.in_ok-notes.notes c.args.images c.from_vec-2.result c.from_vec-3.result
     (c.in_ok-schedule.ensures ∙ c.threads.ensures m.program w.state s.shared)
     (c.from_vec.ensures ∙ (c.in_ok-outcomes.ensures ∙ ap (λ rs. flat_map runner_outcomes (enumerate_from 0 rs)) c.as_slice.ensures.value))
     (c.in_ok-notes.ensures ∙ c.notes.ensures m.program w.state s.shared)

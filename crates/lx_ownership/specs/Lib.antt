@@ -1,0 +1,4 @@
+pub mod Accounts
+pub mod Atoms
+pub mod Listing
+pub mod Laws

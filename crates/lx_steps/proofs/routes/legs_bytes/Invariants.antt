@@ -1,6 +1,0 @@
-use Rattle.lx_steps.specs.Standing.{run_of}
-use Rattle.lx_steps.proofs.Legs.{IsGone}
-use Rattle.lx_steps.proofs.routes.legs_bytes.Given as goal
-
-abbrev pub invariant-loop-place : goal.invariant-loop-place
-invariant-loop-place l = IsGone l.code (run_of l.code l.run) l.legs l.indices l.place l.offset

@@ -1,4 +1,0 @@
-pub mod Standing
-pub mod Effects
-pub mod Parts
-pub mod Phis

@@ -1,2 +1,0 @@
-mod Worlds
-mod Crossing
