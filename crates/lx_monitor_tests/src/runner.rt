@@ -4,7 +4,7 @@ ghost use Rattle.lx_code.specs.Reach.{CountsActions, IsWithinReach, are_sized, a
 
 use crate::common::{call_with, kernel_alone, owned};
 use lx_caps::Principal;
-use lx_image_runner::{Code, Runner};
+use lx_interp::{Code, Runner};
 use lx_ir::instr::{Callee, Instr, Op};
 use lx_ir::module::{Block, Function, Symbol};
 use lx_model::program::Program;

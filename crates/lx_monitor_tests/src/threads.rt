@@ -2,8 +2,8 @@
 //! other thread.
 use crate::world::world;
 use lx_caps::PlainCaps;
-use lx_image_threads::run_threads;
 use lx_outside::{Gate, GatePlace, OpenGate};
+use lx_threads::run_threads;
 use std::alloc::Global;
 use std::sync::Wait;
 use std::sync::atomic::Ordering::SeqCst;

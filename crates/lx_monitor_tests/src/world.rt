@@ -2,15 +2,15 @@
 ghost use Rattle.std.specs.Prelude.{◌≡◌, [], IfOk, length};
 ghost use Rattle.std.specs.Arc.{arc_value};
 ghost use Rattle.lx_images.specs.ImageWorld.{ImageWorld};
-ghost use Rattle.lx_image_world.specs.Worlds.{StandsForWorld};
+ghost use Rattle.lx_core.specs.Worlds.{StandsForWorld};
 ghost use Rattle.lx_model.specs.Opening.{opening_state};
 ghost use Rattle.lx_monitor_tests.specs.Programs.{one_silent, silent_code};
 ghost use Rattle.lx_serve.specs.Stands.{StandsForState};
 
 use crate::common::{call_with, function_with, one_function, owned, part_of};
 use lx_caps::{Cap, CapStore, PlainCaps, Principal};
-use lx_image_runner::Code;
-use lx_image_world::{EventFault, World};
+use lx_core::{EventFault, World};
+use lx_interp::Code;
 use lx_model::account::{Account, CallOutcome, ImageCount, Owned};
 use lx_model::program::{Calls, Program};
 use lx_model::request::{Outcome, Trap};

@@ -6,9 +6,9 @@ use Rattle.lx_images.specs.Image.{Code}
 use Rattle.lx_images.specs.ImageWorld.{ImageWorld, image_opening, image_run}
 use Rattle.lx_images.specs.Shown.{image_is_whole, shown}
 use Rattle.lx_images.specs.Stands.{StandsFor}
-use Rattle.lx_image_threads.specs.Running.{AreRun}
-use Rattle.lx_image_world.specs.declared.world.World.{World as Held}
-use Rattle.lx_image_world.specs.Worlds.{StandsForWorld}
+use Rattle.lx_threads.specs.Running.{AreRun}
+use Rattle.lx_core.specs.declared.world.World.{World as Held}
+use Rattle.lx_core.specs.Worlds.{StandsForWorld}
 use Rattle.lx_linked.specs.Laws.{LinkedLaws}
 use Rattle.lx_model.specs.Account.{account}
 use Rattle.lx_model.specs.Opening.{opening_history}

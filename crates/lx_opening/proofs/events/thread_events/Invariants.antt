@@ -1,5 +1,5 @@
 use Rattle.std.proofs.Common.{◌≡◌, ◌+◌, drop}
-use Rattle.lx_image_runner.specs.Runner.{events_of}
+use Rattle.lx_interp.specs.Runner.{events_of}
 use Rattle.lx_opening.proofs.events.thread_events.Given as goal
 
 abbrev pub invariant-loop-call : goal.invariant-loop-call

@@ -2,7 +2,7 @@ use Rattle.std.proofs.Common.{◌≡◌, ◌∙◌, sym, ap, subst, ◌+◌, Som
 use Rattle.lx_model.specs.World.{can_act}
 use Rattle.lx_images.specs.ImageWorld.{ImageWorld, image_event}
 use Rattle.lx_images.specs.Shown.{shown}
-use Rattle.lx_image_world.specs.Worlds.{StandsForWorld}
+use Rattle.lx_core.specs.Worlds.{StandsForWorld}
 use Rattle.lx_runs.proofs.Replays.{at_entry, at_last, broken_here, broken_at_end, broken_nowhere, one_less}
 use Rattle.lx_runs.proofs.Booleans.{not_false}
 use Rattle.lx_runs.proofs.replay.replay.Goals as goal

@@ -1,0 +1,64 @@
+-- Where there is room, what serves no request but those that take memory wants any.
+use Rattle.std.proofs.Common.{◌≡◌, ℕ, zero, suc, ◌*◌, ◌<◌, ◌≤◌, Bool, true, false, IsTrue, Option, Some, List, [], ◌∷◌, length, refl, ap, ◌∙◌, arith}
+use Rattle.std.specs.Prelude.{slice_set, slice_index_or}
+use Rattle.std.specs.List.{sum_by}
+use Rattle.std.proofs.lemmas.List.Sums.{sum_by-cons}
+use Rattle.lx_model.specs.declared.program.ScriptCall.{ScriptCall}
+use Rattle.lx_model.specs.declared.request.Request.{Request}
+use Rattle.lx_model.specs.Thread.{has_call}
+use Rattle.lx_interp.specs.declared.runner.Runner.{Runner}
+use Rattle.lx_interp.specs.Runner.{calls_left, events_left, request_of, unpaid_events}
+use Rattle.lx_core.specs.Wants.{asked_at, may_want}
+
+-- what cannot be where the test holds does not pass it
+pub denied : (b : Bool) → (b ≡ true → false ≡ true) → b ≡ false
+denied true h = absurd (never (h refl))
+  where
+    never : false ≡ true → ⊥
+    never e = cc
+denied false h = refl
+
+-- one term of a sum
+term_within : {X : Type 0} (f : X → ℕ) (xs : List X) (k : ℕ) (x : X) → k < length xs → x ≡ slice_index_or xs k x → f x ≤ sum_by f xs
+term_within f [] k x there is = absurd (omega arith)
+term_within f (z ∷ zs) zero x there is =
+    let a = sum_by-cons f z zs in
+    let e = ap f is in
+    omega (arith, a, e)
+term_within f (z ∷ zs) (suc k) x there is =
+    let a = sum_by-cons f z zs in
+    let rest = term_within f zs k x (omega arith) is in
+    omega (arith, a, rest)
+
+a_call : (cs : List ScriptCall) → IsTrue (has_call cs) → 1 ≤ length cs
+a_call [] h = absurd (cc)
+a_call (c ∷ cs) h = omega arith
+
+an_end : (cs : List ScriptCall) → IsTrue (has_call cs) → 1 ≤ unpaid_events cs
+an_end [] h = absurd (cc)
+an_end (c ∷ cs) h = omega arith
+
+-- room for all events is room for one of a thread that has a call left
+pub event_room : (rs : List Runner) (k : ℕ) (r : Runner) (room : ℕ) → r ≡ slice_index_or rs k r → k < length rs → IsTrue (has_call (calls_left r)) → sum_by events_left rs ≤ room → 0 < room
+event_room rs k r room is there work enough =
+    let a = term_within events_left rs k r there is in
+    let b = an_end (calls_left r) work in
+    omega (arith, a, b, enough)
+
+-- and room for the ends of all calls is room for that of its first
+pub end_room : (rs : List Runner) (k : ℕ) (r : Runner) (room : ℕ) → r ≡ slice_index_or rs k r → k < length rs → IsTrue (has_call (calls_left r))
+    → 2 * sum_by (λ q. length (calls_left q)) rs ≤ room → 2 ≤ room
+end_room rs k r room is there work enough =
+    let a = term_within (λ q. length (calls_left q)) rs k r there is in
+    let b = a_call (calls_left r) work in
+    omega (arith, a, b, enough)
+
+-- what the thread of a runner asks that was put in its place
+pub asked_after : (rs : List Runner) (k : ℕ) (after : Runner) → k < length rs → asked_at (slice_set rs k after) k ≡ request_of after
+asked_after [] k after there = absurd (omega arith)
+asked_after (y ∷ ys) zero after there = refl
+asked_after (y ∷ ys) (suc k) after there = asked_after ys k after (omega arith)
+
+-- a request that takes memory may want it
+pub wants_asked : (asked : Option Request) (q : Request) → asked ≡ Some q → may_want (Some q) ≡ true → may_want asked ≡ true
+wants_asked asked q is h = ap may_want is ∙ h

@@ -1,0 +1,38 @@
+use Rattle.std.proofs.Common.{not, refl, sym, ap, ◌∙◌, subst, arith}
+use Rattle.lx_model.specs.Thread.{has_call}
+use Rattle.lx_interp.specs.Runner.{IsReadyIf, steps_before}
+use Rattle.lx_interp.proofs.Goings.{none_is, taken_on, goes_further, fewer_steps, same_left}
+use Rattle.lx_interp.proofs.runner.Runner.go.Goals as goal
+
+pub loop-self-init : goal.loop-self-init
+loop-self-init c =
+    let p = c.args.code.now in
+    let old = c.args.self.now in
+    record {
+      goes = record { number = refl; calls = refl; ended = refl; asks = refl; ready = subst (IsReadyIf p old) (sym c.requires.request) tt };
+      events = omega arith;
+      work = c.requires.work;
+    }
+
+pub loop-self-preserved : goal.loop-self-preserved
+loop-self-preserved c =
+    let p = c.args.code.now in
+    let r = c.loop-self.self in
+    let mid = c.pass_marks.new.self in
+    let new = c.take_step.new.self in
+    let passed = c.pass_marks.ensures.goes_on in
+    let h = c.in_ok-take_step.ensures.steps in
+    let took = taken_on p mid new c.pass_marks.ensures.idle h in
+    record {
+      goes = goes_further p c.args.self.now r new c.loop-self.invariant.goes (goes_further p r mid new passed took);
+      events = omega (arith, c.loop-self.invariant.events, c.pass_marks.ensures.spares, c.take_step.ensures.spares);
+      work = ap has_call (same_left mid new h.calls h.ended) ∙ ap has_call (same_left r mid passed.calls passed.ended) ∙ c.loop-self.invariant.work;
+    }
+
+pub loop-self-smaller : goal.loop-self-smaller
+loop-self-smaller c =
+    let p = c.args.code.now in
+    let r = c.loop-self.self in
+    let idle = none_is r.request (c.is_none.ensures ∙ ap not c.loop-self-test.true) in
+    let same = ap (steps_before p r) idle in
+    omega (arith, same, c.pass_marks.ensures.before, fewer_steps p c.pass_marks.new.self c.take_step.new.self c.in_ok-take_step.ensures.steps)

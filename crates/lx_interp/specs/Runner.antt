@@ -1,0 +1,412 @@
+-- What a runner of images is: the thread that it stands for, what it asks, and what may answer it.
+use Rattle.std.specs.Prelude.{◌≡◌, ℕ, suc, ◌+◌, ◌-◌, ◌*◌, ◌≤◌, ◌<◌, Bool, true, false, IsTrue, IsSome, Option, Some, None, List, [], ◌∷◌, length, drop, nat_le, option_and_then, vec_capacity, ⊤}
+use Rattle.lx_words.specs.Word.{Word}
+use Rattle.lx_caps.specs.declared.Principal.{Principal}
+use Rattle.lx_caps.specs.declared.Principal.TheVariants.{Kernel}
+use Rattle.lx_model.specs.declared.program.ScriptCall.{ScriptCall}
+use Rattle.lx_model.specs.declared.request.Outcome.{Outcome}
+use Rattle.lx_model.specs.declared.request.Outcome.TheVariants.{Trapped}
+use Rattle.lx_model.specs.declared.request.Trap.TheVariants.{Unreachable}
+use Rattle.lx_model.specs.declared.request.Way.{Way}
+use Rattle.lx_model.specs.declared.request.Way.TheVariants.{Direct}
+use Rattle.lx_model.specs.declared.request.What.{What}
+use Rattle.lx_model.specs.declared.request.What.TheVariants as what
+use Rattle.lx_model.specs.declared.request.Request.{Request}
+use Rattle.lx_model.specs.declared.request.Reply.{Reply}
+use Rattle.lx_model.specs.declared.request.Reply.TheVariants as reply
+use Rattle.lx_model.specs.Thread.{Activation, has_call, start_of}
+use Rattle.lx_model.specs.Effect.{returned_value, text_of}
+use Rattle.lx_model.specs.Next.{request}
+use Rattle.lx_ir.specs.declared.instr.Op.{Op}
+use Rattle.lx_images.specs.Image.{Code, ImageFrame, Runs, Wraps, ImageThread, ImageStep, Goes, Asks, ImageAsking, Marks, no_marks, top as top_of, below_top, asker, comes_to, effect_step, costly_step, wrapped_import, wrapper_call, perform, InBody, at_pre, behind_enter, entered_frames, image_routine, shadow_with, stack_top, due_or, image_next, image_next_within}
+use Rattle.lx_image_code.specs.Tables.{HasLocals}
+use Rattle.lx_image_steps.specs.Standing.{head_of}
+use Rattle.lx_image_steps.specs.declared.activation.Activation.{Activation as Running}
+use Rattle.lx_image_steps.specs.Marks.{next_args}
+use Rattle.lx_image_steps.specs.Effects.{effect_of}
+use Rattle.lx_image_steps.specs.declared.effect.Effect.{Effect as Found}
+use Rattle.lx_interp.specs.declared.frame.Place.{Place as KeptPlace}
+use Rattle.lx_interp.specs.declared.frame.Place.TheVariants as kept_place
+use Rattle.lx_interp.specs.declared.frame.Frame.{Frame as KeptFrame}
+use Rattle.lx_interp.specs.declared.frame.Frame.TheVariants as kept
+use Rattle.lx_interp.specs.declared.runner.Runner.{Runner}
+use Rattle.lx_interp.specs.Frames.{HasSpaceOn, frames_of, marked_frame_step, runs, wrapped_args, wrapped_function, wrapped_place}
+
+-- the thread
+
+-- the calls that are left
+abbrev pub calls_left : Runner → List ScriptCall
+calls_left r = drop (length r.endings.items) r.calls
+
+-- the thread whose state the runner is in
+abbrev pub thread_of : Code → Runner → ImageThread
+thread_of c r =
+    record {
+      calls = calls_left r;
+      ended = r.endings.items;
+      fuel = r.fuel;
+      due = r.due;
+      frames = frames_of c r.top r.below;
+      shadow = r.shadow.principals;
+    }
+
+-- the next step of a thread, where the marks of its next instruction may have been taken
+abbrev pub marked_step : Code → Option Marks → ImageThread → ImageStep
+marked_step c m v = due_or v.due v (marked_frame_step c m v v.frames)
+
+-- the thread at its next request, where this is its next step
+abbrev pub asking_behind : Code → ImageThread → ImageStep → ImageAsking
+asking_behind c v (Goes w) = image_next_within (2 * v.fuel + length v.frames) c w
+asking_behind c v (Asks w q) = record { thread = w; request = q }
+
+-- what is asked, or the next request of a thread whose marks may have been taken
+abbrev pub asking_or : Code → Option Marks → ImageThread → Option Request → ImageAsking
+asking_or c m v (Some q) = record { thread = v; request = q }
+asking_or c m v None = asking_behind c v (marked_step c m v)
+
+-- what the runner asks, or will ask
+abbrev pub asking_of : Code → Runner → ImageAsking
+asking_of c r = asking_or c r.marks (thread_of c r) r.request
+
+-- room for what a reply needs
+
+-- no registers yet, and room for those of whatever function is entered with so many arguments
+abbrev pub IsPrepared : Code → ℕ → List Word → ℕ → Type 0
+IsPrepared c count registers room = (most : ℕ) × (registers ≡ []) × (count + most ≤ room) × HasLocals c most
+
+-- a function may be entered with so many arguments, and so many frames may stand on the others
+abbrev pub CanEnter : Code → Runner → ℕ → ℕ → Type 0
+CanEnter c r count frames = IsPrepared c count r.registers.items (vec_capacity r.registers) × (frames ≤ r.below.room)
+
+-- a wrapper on top may go into its body
+abbrev pub CanGoIn : Code → Runner → Option KeptFrame → Type 0
+CanGoIn c r (Some (kept.Wraps n args place)) = CanEnter c r (length args) 1
+CanGoIn c r _ = ⊤
+
+-- a wrapper on top may go on behind an action: before its body perhaps into it, and a `u32` counts the actions behind the body
+abbrev pub CanGoOn : Code → Runner → Option KeptFrame → Type 0
+CanGoOn c r (Some (kept.Wraps n args (kept_place.Pre k))) = CanEnter c r (length args) 1
+CanGoOn c r (Some (kept.Wraps n args (kept_place.Post k x))) = k < 4294967295
+CanGoOn c r _ = ⊤
+
+-- the runner has what the reply needs: room for the registers, the frames and the principal of what is entered, and a place for
+-- the bytes that a function is given
+abbrev pub HasRoomFor : Code → Runner → What → Type 0
+HasRoomFor c r (what.Perform n post k env source dest) = CanGoOn c r r.top
+HasRoomFor c r (what.Enter way args) = CanEnter c r (length args) 2 × CanGoIn c r r.top × (0 < r.shadow.room)
+HasRoomFor c r (what.Alloca at size) = HasSpaceOn r.top
+HasRoomFor c r w = ⊤
+
+-- and whatever it asks, if anything
+abbrev pub IsReadyIf : Code → Runner → Option Request → Type 0
+IsReadyIf c r None = ⊤
+IsReadyIf c r (Some q) = HasRoomFor c r q.what
+
+-- the runner is ready for every reply to what it asks
+abbrev pub IsReady : Code → Runner → Type 0
+IsReady c r = IsReadyIf c r r.request
+
+-- what a runner stands for
+
+-- a call is left where something is asked
+abbrev pub HasCallIf : Runner → Option Request → Type 0
+HasCallIf r None = ⊤
+HasCallIf r (Some q) = IsTrue (has_call (calls_left r))
+
+-- the runner of the thread with this number stands for a state of the thread, up to register steps
+pub record StandsFor (c : Code) (t : ℕ) (r : Runner) (thread : ImageThread) : Type 0 where
+  pub number : r.thread ≡ t
+  pub ready : IsReady c r
+  pub works : HasCallIf r r.request
+  pub asks : asking_of c r ≡ image_next c thread
+  pub calls : calls_left r ≡ thread.calls
+  pub ended : r.endings.items ≡ thread.ended
+
+-- what the runner asks; none, where register steps are due or no call is left
+abbrev pub request_of : Runner → Option Request
+request_of r = r.request
+
+-- the runner of the thread with this number asks this
+pub record IsAsking (c : Code) (t : ℕ) (r : Runner) (asking : ImageAsking) : Type 0 where
+  pub number : r.thread ≡ t
+  pub ready : IsReady c r
+  pub work : IsTrue (has_call (calls_left r))
+  pub thread : asking.thread ≡ thread_of c r
+  pub request : request_of r ≡ Some asking.request
+
+-- the replies that the monitor may give to what is asked: bytes of the stack end within the stack's room, and only an
+-- end answers the request to end
+abbrev pub may_answer : What → Reply → Bool
+may_answer w (reply.Ended o) = true
+may_answer (what.Finish o) r = false
+may_answer (what.Alloca at size) r = nat_le (at + size) 9223372036854775808
+may_answer w r = true
+
+-- events
+
+-- how many events calls may have: their fuel, and the end of each
+abbrev pub events_of : List ScriptCall → ℕ
+events_of [] = 0
+events_of (c ∷ cs) = c.fuel + suc (events_of cs)
+
+-- the events of the calls but the fuel of the first
+abbrev pub unpaid_events : List ScriptCall → ℕ
+unpaid_events [] = 0
+unpaid_events (c ∷ cs) = suc (events_of cs)
+
+-- what is asked has cost a unit
+abbrev pub paid_for : What → ℕ
+paid_for (what.Finish o) = 0
+paid_for w = 1
+
+-- and so if anything is
+abbrev pub paid : Option Request → ℕ
+paid None = 0
+paid (Some q) = paid_for q.what
+
+-- how many events the runner may still have
+abbrev pub events_left : Runner → ℕ
+events_left r = r.fuel + paid r.request + unpaid_events (calls_left r)
+
+-- a reply behind which fewer events are left: the end of a call answers its request to end
+abbrev pub is_spent : What → Reply → Bool
+is_spent w (reply.Ended o) = true
+is_spent (what.Finish o) r = false
+is_spent w r = true
+
+-- and where nothing was asked, no reply leaves fewer
+abbrev pub spends : Option Request → Reply → Bool
+spends None r = false
+spends (Some q) r = is_spent q.what r
+
+-- the value that a reply brings
+abbrev pub reply_value : Reply → Option Word
+reply_value (reply.Value x) = Some x
+reply_value r = None
+
+-- the outcome that a reply ends a call with
+abbrev pub end_in : Reply → Option Outcome
+end_in (reply.Ended o) = Some o
+end_in r = None
+
+-- steps
+
+-- a step as a runner has taken it: it asks, or goes on
+abbrev pub taken : ImageThread → Option Request → ImageStep
+taken v None = Goes v
+taken v (Some q) = Asks v q
+
+-- the thread, a unit of fuel poorer
+abbrev pub poorer : ImageThread → ImageThread
+poorer v = record v { fuel = v.fuel - 1 }
+
+-- no marks, where none were taken
+abbrev pub marks_in : Option Marks → Marks
+marks_in None = no_marks
+marks_in (Some m) = m
+
+-- what stands on top
+
+-- the function that runs there; none, where a wrapper or nothing does
+abbrev pub running_on : Option KeptFrame → Option Running
+running_on None = None
+running_on (Some f) = runs f
+
+-- the line of a wrapper there
+abbrev pub place_on : Option KeptFrame → Option KeptPlace
+place_on None = None
+place_on (Some f) = wrapped_place f
+
+-- the number of the function that a wrapper there wraps
+abbrev pub function_on : Option KeptFrame → ℕ
+function_on None = 0
+function_on (Some f) = wrapped_function f
+
+-- the arguments that it was called with
+abbrev pub args_on : Option KeptFrame → List Word
+args_on None = []
+args_on (Some f) = wrapped_args f
+
+-- no wrapper stands on top
+abbrev pub IsUnwrapped : Option KeptFrame → Type 0
+IsUnwrapped (Some (kept.Wraps n args place)) = ⊥
+IsUnwrapped _ = ⊤
+
+-- a wrapper stands on top
+abbrev pub IsWrapper : Option KeptFrame → Type 0
+IsWrapper (Some (kept.Wraps n args place)) = ⊤
+IsWrapper _ = ⊥
+
+-- what a function on top of these frames comes to, with a unit of fuel paid: by an effect
+abbrev pub effect_in : Code → Marks → ImageThread → List ImageFrame → Found → ImageStep
+effect_in c m v (Runs a ∷ fs) e = effect_step c v m a fs (effect_of c.program a e)
+effect_in c m v fs e = comes_to (Trapped Unreachable) v
+
+-- the same of a thread's own frames
+abbrev pub effect_on : Code → Marks → ImageThread → Found → ImageStep
+effect_on c m v e = effect_in c m v v.frames e
+
+-- by the effect that it has, if it has one
+abbrev pub found_in : Code → Marks → ImageThread → List ImageFrame → Option Found → ImageStep
+found_in c m v fs None = comes_to (Trapped Unreachable) v
+found_in c m v fs (Some e) = effect_in c m v fs e
+
+-- by an instruction, if there is one
+abbrev pub costly_or_none : Code → Marks → ImageThread → Activation → List ImageFrame → Option Op → ImageStep
+costly_or_none c m v a fs None = comes_to (Trapped Unreachable) v
+costly_or_none c m v a fs (Some o) = costly_step c m a fs o (wrapped_import c (text_of c.program a) o) v
+
+-- by its next instruction
+abbrev pub instruction_in : Code → Marks → ImageThread → List ImageFrame → ImageStep
+instruction_in c m v (Runs a ∷ fs) = costly_or_none c m v a fs (head_of a.code)
+instruction_in c m v fs = comes_to (Trapped Unreachable) v
+
+-- the same of a thread's own frames
+abbrev pub instruction_on : Code → Marks → ImageThread → ImageStep
+instruction_on c m v = instruction_in c m v v.frames
+
+-- by the call of a wrapper
+abbrev pub wrapper_in : Code → ImageThread → List ImageFrame → ℕ → ImageStep
+wrapper_in c v (Runs a ∷ fs) n = wrapper_call v a fs n (next_args c a a.code)
+wrapper_in c v fs n = comes_to (Trapped Unreachable) v
+
+-- the same of a thread's own frames
+abbrev pub wrapper_on : Code → ImageThread → ℕ → ImageStep
+wrapper_on c v n = wrapper_in c v v.frames n
+
+-- the arguments of the call that it stands at
+abbrev pub args_in : Code → List ImageFrame → List Word
+args_in c (Runs a ∷ fs) = next_args c a a.code
+args_in c fs = []
+
+-- the import whose wrapper it stands to call
+abbrev pub wrapped_in : Code → List ImageFrame → Option ℕ
+wrapped_in c (Runs a ∷ fs) = option_and_then (wrapped_import c (text_of c.program a)) (head_of a.code)
+wrapped_in c fs = None
+
+-- for whom it makes a request
+abbrev pub asker_in : Code → Marks → List Principal → List ImageFrame → What → Principal
+asker_in c m shadow (Runs a ∷ fs) w = asker (text_of c.program a) m shadow w
+asker_in c m shadow fs w = Kernel
+
+-- what a wrapper on top comes to by the action with this number, before its body or behind it
+abbrev pub action_on : ImageThread → ℕ → List Word → Bool → ℕ → Option Word → ImageStep
+action_on v n args true k x = perform v n true k args x (top_of v.shadow) (below_top v.shadow)
+action_on v n args false k x = perform v n false k args None (below_top v.shadow) (top_of v.shadow)
+
+-- the request for it
+abbrev pub action_of : List Principal → ℕ → List Word → Bool → ℕ → Option Word → Request
+action_of shadow n args true k x = request (top_of shadow) (what.Perform n true k (record { args = args; ret = x }) (top_of shadow) (below_top shadow))
+action_of shadow n args false k x = request (below_top shadow) (what.Perform n false k (record { args = args; ret = None }) (below_top shadow) (top_of shadow))
+
+-- what a reply leaves of the frames
+
+-- a wrapper on top before the action with this number, or in its body where there is none
+abbrev pub line_before : Code → ℕ → ℕ → List ImageFrame → List ImageFrame
+line_before c t k (Wraps n args place ∷ fs) = at_pre c t k n args fs
+line_before c t k fs = fs
+
+-- a function that a call enters, in its wrapper where the call crosses
+abbrev pub entered : Code → ℕ → List Word → ℕ → Principal → Bool → ImageThread → ImageThread
+entered c t args n q crosses v = record v { shadow = shadow_with crosses q v.shadow; frames = entered_frames c t crosses n args v.frames }
+
+-- the wrapper of an import behind its enter
+abbrev pub behind_direct : Code → ℕ → Principal → ImageThread → ImageThread
+behind_direct c t q v = record v { shadow = q ∷ v.shadow; frames = behind_enter c t v.frames }
+
+-- a way of wrappers
+abbrev pub is_direct : Way → Bool
+is_direct (Direct f) = true
+is_direct way = false
+
+-- what the function on top returns, where one runs there
+abbrev pub returned_on : Code → List ImageFrame → Option (Option Word)
+returned_on c (Runs a ∷ fs) = Some (returned_value c.program a)
+returned_on c fs = None
+
+-- a wrapper on top in its body
+abbrev pub body_before : Code → ℕ → List ImageFrame → List ImageFrame
+body_before c t (Wraps n args place ∷ fs) = Runs (start_of n (image_routine c n) args (stack_top t fs)) ∷ Wraps n args InBody ∷ fs
+body_before c t fs = fs
+
+-- what a runner has done
+
+-- the frames alone have changed
+pub record IsSameBut (old new : Runner) : Type 0 where
+  pub number : new.thread ≡ old.thread
+  pub calls : new.calls ≡ old.calls
+  pub ended : new.endings ≡ old.endings
+  pub fuel : new.fuel ≡ old.fuel
+  pub due : new.due ≡ old.due
+  pub shadow : new.shadow ≡ old.shadow
+  pub marks : new.marks ≡ old.marks
+  pub request : new.request ≡ old.request
+
+-- nothing but room has changed
+pub record IsRoomier (c : Code) (old new : Runner) : Type 0 where
+  pub number : new.thread ≡ old.thread
+  pub calls : new.calls ≡ old.calls
+  pub ended : new.endings ≡ old.endings
+  pub fuel : new.fuel ≡ old.fuel
+  pub due : new.due ≡ old.due
+  pub marks : new.marks ≡ old.marks
+  pub request : new.request ≡ old.request
+  pub frames : frames_of c new.top new.below ≡ frames_of c old.top old.below
+  pub shadow : new.shadow.principals ≡ old.shadow.principals
+
+-- the runner has taken this step
+pub record HasTaken (c : Code) (old new : Runner) (s : ImageStep) : Type 0 where
+  pub number : new.thread ≡ old.thread
+  pub calls : new.calls ≡ old.calls
+  pub ended : new.endings ≡ old.endings
+  pub marks : new.marks ≡ None
+  pub is : s ≡ taken (thread_of c new) new.request
+  pub ready : IsReady c new
+
+-- nothing that the thread shows has changed
+pub record HasStayed (c : Code) (old new : Runner) : Type 0 where
+  pub number : new.thread ≡ old.thread
+  pub calls : new.calls ≡ old.calls
+  pub ended : new.endings ≡ old.endings
+  pub marks : new.marks ≡ old.marks
+  pub state : thread_of c new ≡ thread_of c old
+  pub idle : new.request ≡ None
+
+-- the runner goes on to what it asks, or stays before it
+pub record GoesOn (c : Code) (old new : Runner) : Type 0 where
+  pub number : new.thread ≡ old.thread
+  pub calls : new.calls ≡ old.calls
+  pub ended : new.endings ≡ old.endings
+  pub asks : asking_of c new ≡ asking_of c old
+  pub ready : IsReady c new
+
+-- how many steps the runner may take before it asks, and 0 where it asks
+abbrev pub steps_before : Code → Runner → Option Request → ℕ
+steps_before c r None = suc (2 * r.fuel + length (frames_of c r.top r.below))
+steps_before c r (Some q) = 0
+
+-- the marks of the next instruction have been taken where a function runs on top and no outcome is due
+abbrev pub IsMarked : Runner → Type 0
+IsMarked r = r.due ≡ None → IsSome (running_on r.top) → IsSome r.marks
+
+-- steps are under way: nothing else is asked, and a call is left
+pub record IsUnderWay (c : Code) (old new : Runner) : Type 0 where
+  pub goes : GoesOn c old new
+  pub events : events_left new ≤ events_left old
+  pub work : IsTrue (has_call (calls_left new))
+
+-- behind a reply: the thread is this
+pub record Becomes (c : Code) (old new : Runner) (v : ImageThread) : Type 0 where
+  pub number : new.thread ≡ old.thread
+  pub calls : new.calls ≡ old.calls
+  pub marks : new.marks ≡ old.marks
+  pub request : new.request ≡ old.request
+  pub state : thread_of c new ≡ v
+
+-- no fuel was spent, and no call has ended
+pub record KeepsFuel (old new : Runner) : Type 0 where
+  pub calls : new.calls ≡ old.calls
+  pub ended : new.endings ≡ old.endings
+  pub fuel : new.fuel ≡ old.fuel
+  pub marks : new.marks ≡ old.marks
+  pub request : new.request ≡ old.request

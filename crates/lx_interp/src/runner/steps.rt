@@ -1,0 +1,314 @@
+//! Register steps, up to the next request.
+ghost use Rattle.std.specs.Prelude.{◌≡◌, ℕ, ◌≤◌, ◌<◌, false, not, IsTrue, drop, IfOk, OnOk, OnErr, IsSome, IsNone, Some, None, option_copied};
+ghost use Rattle.lx_model.specs.declared.request.Way.TheVariants.{Script};
+ghost use Rattle.lx_model.specs.declared.request.What.TheVariants as what;
+ghost use Rattle.lx_model.specs.Thread.{first_fuel, has_call};
+ghost use Rattle.lx_images.specs.Image.{Code as Images, ImageAsking, ImageThread, Marks, image_next, start_step};
+ghost use Rattle.lx_images.specs.ImageWorld.{fresh_image_thread};
+ghost use Rattle.lx_interp.specs.Frames.{frames_of, marked_frame_step};
+ghost use Rattle.lx_interp.specs.Runner.{GoesOn, HasStayed, HasTaken, IsAsking, IsMarked, StandsFor, calls_left, events_left, events_of, found_in, instruction_in, instruction_on, marked_step, marks_in, place_on, poorer, request_of, running_on, steps_before, thread_of, wrapped_in};
+
+use super::Runner;
+use super::effects::finishing;
+use crate::callers::Callers;
+use crate::copies::copies_of;
+use crate::ending::Ending;
+use lx_caps::Principal;
+use lx_image_code::Code;
+use lx_image_steps::{Effect, next_effect, wrapped_call};
+use lx_model::program::{Calls, ScriptCall};
+use lx_model::request::{Outcome, Request, Trap, Way, What};
+use lx_shadow::Shadow;
+use lx_words::{Items, Memory};
+use std::alloc::Global;
+
+// The fuel of the call at a place, and 0 behind the last.
+pub(super) fn fuel_at(calls: &Calls, place: usize) -> u32
+    ensures { result ≡ first_fuel (drop place calls.now) }
+{
+    match calls.items.get(place) {
+        Some(call) => call.fuel,
+        None => 0,
+    }
+}
+
+// What a script asks to start a call.
+fn entry(alloc: Global, call: &ScriptCall) -> Result<What, Memory>
+    ensures { IfOk result (λ w. w ≡ what.Enter (Script call.now.function) call.now.args) }
+{
+    let args = Items::from_slice(alloc, call.args.as_slice())?;
+    Ok(What::Enter {
+        way: Way::Script(call.function),
+        args,
+    })
+}
+
+impl Runner {
+    /// The runner of the thread with this number before its first call. It keeps copies of the calls.
+    ///
+    /// # Errors
+    /// Want of memory for the copies, for the endings of the calls and for the shadow stack.
+    pub fn open(alloc: Global, thread: u32, calls: &Calls) -> Result<Runner, Memory>
+        ensures fresh { IfOk result (λ r. (c : Images) → StandsFor c thread r (fresh_image_thread calls.now)) }
+        ensures idle { IfOk result (λ r. request_of r ≡ None) }
+        ensures events { IfOk result (λ r. events_left r ≡ events_of calls.now) }
+    {
+        let calls = copies_of(alloc, calls.as_slice())?;
+        let endings = Vec::with_capacity(alloc, calls.len())?;
+        let shadow = Shadow::open(alloc)?;
+        let fuel = fuel_at(&calls, 0);
+        Ok(Runner {
+            alloc,
+            thread,
+            calls,
+            endings,
+            fuel,
+            due: None,
+            top: None,
+            below: Callers::new(alloc),
+            shadow,
+            marks: None,
+            registers: Vec::new(alloc),
+            request: None,
+        })
+    }
+
+    /// Whether no call is left.
+    #[tactic(auto, using(crate::proofs::Calls::none_left))]
+    pub fn done(&self) -> bool
+        ensures work { (c : Images) → (t : ℕ) → (thread : ImageThread) → StandsFor c t self.now thread → result ≡ not (has_call thread.calls) }
+        ensures left { result ≡ not (has_call (calls_left self.now)) }
+    {
+        self.calls.len() <= self.endings.as_slice().len()
+    }
+
+    // The first call that is left starts.
+    fn start(&mut self, code: &Code) -> Result<(), Memory>
+        requires request { self.old.request ≡ None }
+        requires top { self.old.top ≡ None }
+        requires work { IsTrue (has_call (calls_left self.old)) }
+        ensures steps { OnOk result (HasTaken code.now self.old self.new (start_step (calls_left self.old) (thread_of code.now self.old))) }
+        ensures stays { OnErr result (HasStayed code.now self.old self.new) }
+        ensures spares { events_left self.new ≤ events_left self.old }
+    {
+        if self.fuel == 0 {
+            self.stop(&Outcome::Budget);
+            return Ok(());
+        }
+        let place = self.endings.len();
+        let what = entry(self.alloc, &self.calls.as_slice()[place])?;
+        self.make_room(code, &what)?;
+        self.fuel -= 1; // the start of a call costs a unit
+        self.marks = None;
+        self.request = Some(Request {
+            who: Principal::Kernel,
+            what,
+        });
+        Ok(())
+    }
+
+    // The import whose wrapper the function stands to call.
+    fn wrapped(&self, code: &Code) -> Option<u32>
+        ensures { result ≡ wrapped_in code.now (frames_of code.now self.now.top self.now.below) }
+    {
+        match self.running() {
+            Some(run) => wrapped_call(code, run),
+            None => None,
+        }
+    }
+
+    // The effect of the next instruction, which calls no wrapper; none, where there is no instruction.
+    fn next_effect(&self, code: &Code) -> Result<Option<Effect>, Memory>
+        ensures { IfOk result (λ e. (m : Marks) → (v : ImageThread) → wrapped_in code.now (frames_of code.now self.now.top self.now.below) ≡ None → instruction_in code.now m v (frames_of code.now self.now.top self.now.below) ≡ found_in code.now m v (frames_of code.now self.now.top self.now.below) e) }
+    {
+        match self.running() {
+            Some(run) => {
+                let effect = next_effect(self.alloc, code, run)?;
+                Ok(effect)
+            }
+            None => Ok(None),
+        }
+    }
+
+    // The function takes its next instruction, which calls no wrapper.
+    fn take_effect(&mut self, code: &Code) -> Result<(), Memory>
+        requires fuel { 0 < self.old.fuel }
+        requires request { self.old.request ≡ None }
+        requires top { IsSome (running_on self.old.top) }
+        requires plain { wrapped_in code.now (frames_of code.now self.old.top self.old.below) ≡ None }
+        ensures steps { OnOk result (HasTaken code.now self.old self.new (instruction_on code.now (marks_in self.old.marks) (poorer (thread_of code.now self.old)))) }
+        ensures stays { OnErr result (HasStayed code.now self.old self.new) }
+        ensures spares { events_left self.new ≤ events_left self.old }
+    {
+        let found = self.next_effect(code)?;
+        match found {
+            Some(effect) => self.apply(code, effect)?,
+            None => self.trap(Trap::Unreachable),
+        }
+        Ok(())
+    }
+
+    // The function takes its next instruction: the call of a wrapper, or another one.
+    fn take_instruction(&mut self, code: &Code) -> Result<(), Memory>
+        requires fuel { 0 < self.old.fuel }
+        requires request { self.old.request ≡ None }
+        requires top { IsSome (running_on self.old.top) }
+        ensures steps { OnOk result (HasTaken code.now self.old self.new (instruction_on code.now (marks_in self.old.marks) (poorer (thread_of code.now self.old)))) }
+        ensures stays { OnErr result (HasStayed code.now self.old self.new) }
+        ensures spares { events_left self.new ≤ events_left self.old }
+    {
+        match self.wrapped(code) {
+            Some(import) => self.call_wrapper(code, import)?,
+            None => self.take_effect(code)?,
+        }
+        Ok(())
+    }
+
+    // The function on top takes a step, behind its marks.
+    fn run(&mut self, code: &Code) -> Result<(), Memory>
+        requires request { self.old.request ≡ None }
+        requires top { IsSome (running_on self.old.top) }
+        requires marks { IsSome self.old.marks }
+        ensures steps { OnOk result (HasTaken code.now self.old self.new (marked_frame_step code.now self.old.marks (thread_of code.now self.old) (frames_of code.now self.old.top self.old.below))) }
+        ensures stays { OnErr result (HasStayed code.now self.old self.new) }
+        ensures spares { events_left self.new ≤ events_left self.old }
+    {
+        if self.fuel == 0 {
+            self.stop(&Outcome::Budget);
+            return Ok(());
+        }
+        self.take_instruction(code)?;
+        Ok(())
+    }
+
+    // A call that has come to an outcome asks to end.
+    fn finish(&mut self, outcome: &Outcome)
+        requires request { self.old.request ≡ None }
+        requires due { self.old.due ≡ Some outcome.now }
+        ensures steps { (c : Images) → HasTaken c self.old self.new (marked_step c self.old.marks (thread_of c self.old)) }
+        ensures spares { events_left self.new ≤ events_left self.old }
+    {
+        self.marks = None;
+        self.request = Some(finishing(outcome));
+    }
+
+    // A step of the function on top, or the start of a call where no frame is.
+    fn run_or_start(&mut self, code: &Code) -> Result<(), Memory>
+        requires request { self.old.request ≡ None }
+        requires place { place_on self.old.top ≡ None }
+        requires marked { IsSome (running_on self.old.top) → IsSome self.old.marks }
+        requires work { IsTrue (has_call (calls_left self.old)) }
+        ensures steps { OnOk result (HasTaken code.now self.old self.new (marked_frame_step code.now self.old.marks (thread_of code.now self.old) (frames_of code.now self.old.top self.old.below))) }
+        ensures stays { OnErr result (HasStayed code.now self.old self.new) }
+        ensures spares { events_left self.new ≤ events_left self.old }
+    {
+        if self.running().is_some() {
+            self.run(code)?;
+        } else {
+            self.start(code)?;
+        }
+        Ok(())
+    }
+
+    // A step of a call that has come to no outcome.
+    fn advance(&mut self, code: &Code) -> Result<(), Memory>
+        requires request { self.old.request ≡ None }
+        requires due { self.old.due ≡ None }
+        requires marked { IsMarked self.old }
+        requires work { IsTrue (has_call (calls_left self.old)) }
+        ensures steps { OnOk result (HasTaken code.now self.old self.new (marked_step code.now self.old.marks (thread_of code.now self.old))) }
+        ensures stays { OnErr result (HasStayed code.now self.old self.new) }
+        ensures spares { events_left self.new ≤ events_left self.old }
+    {
+        match self.place() {
+            Some(place) => self.go_on(code, place)?,
+            None => self.run_or_start(code)?,
+        }
+        Ok(())
+    }
+
+    // A step of a thread that has a call left and asks nothing.
+    fn take_step(&mut self, code: &Code) -> Result<(), Memory>
+        requires request { self.old.request ≡ None }
+        requires marked { IsMarked self.old }
+        requires work { IsTrue (has_call (calls_left self.old)) }
+        ensures steps { OnOk result (HasTaken code.now self.old self.new (marked_step code.now self.old.marks (thread_of code.now self.old))) }
+        ensures stays { OnErr result (HasStayed code.now self.old self.new) }
+        ensures spares { events_left self.new ≤ events_left self.old }
+    {
+        let due = self.due;
+        match due {
+            Some(outcome) => self.finish(&outcome),
+            None => self.advance(code)?,
+        }
+        Ok(())
+    }
+
+    // Goes past the guards and checks before the next instruction, unless that was done before a want of memory.
+    fn pass_marks(&mut self, code: &Code)
+        requires { self.old.request ≡ None }
+        ensures goes_on { GoesOn code.now self.old self.new }
+        ensures marked { IsMarked self.new }
+        ensures before { steps_before code.now self.new None ≡ steps_before code.now self.old None }
+        ensures idle { self.new.request ≡ None }
+        ensures spares { events_left self.new ≡ events_left self.old }
+    {
+        if self.due.is_some() || self.marks.is_some() {
+            return;
+        }
+        if let Some(frame) = &mut self.top {
+            self.marks = frame.take_marks(code);
+        }
+    }
+
+    // Steps up to the next request.
+    fn go(&mut self, code: &Code) -> Result<(), Memory>
+        requires work { IsTrue (has_call (calls_left self.old)) }
+        requires request { self.old.request ≡ None }
+        ensures goes_on { GoesOn code.now self.old self.new }
+        ensures asks { OnOk result (IsSome self.new.request) }
+        ensures asks_nothing { OnErr result (self.new.request ≡ None) }
+        ensures spares { events_left self.new ≤ events_left self.old }
+    {
+        while self.request.is_none() {
+            self.pass_marks(code);
+            self.take_step(code)?;
+        }
+        Ok(())
+    }
+
+    /// Takes register steps up to the next request, and makes the room that its reply needs. After `Memory` the runner asks
+    /// nothing yet, and a further call goes on from where this one stood.
+    pub fn local(&mut self, code: &Code) -> Result<(), Memory>
+        ensures stands { (t : ℕ) → (thread : ImageThread) → StandsFor code.now t self.old thread → StandsFor code.now t self.new thread }
+        ensures asks { OnOk result ((t : ℕ) → (thread : ImageThread) → StandsFor code.now t self.old thread → IsTrue (has_call thread.calls) → IsAsking code.now t self.new (image_next code.now thread)) }
+        ensures calls { calls_left self.new ≡ calls_left self.old }
+        ensures events { events_left self.new ≤ events_left self.old }
+        ensures waits { OnOk result (IsTrue (has_call (calls_left self.old)) → IsSome (request_of self.new)) }
+        ensures asks_nothing { OnErr result (request_of self.new ≡ None) }
+    {
+        if self.request.is_some() || self.done() {
+            return Ok(());
+        }
+        self.go(code)?;
+        Ok(())
+    }
+
+    /// What the runner asks; nothing, where no call is left or register steps are due.
+    #[tactic(auto, using(crate::proofs::Goings::asks_nothing))]
+    pub fn request(&self) -> Option<&Request>
+        ensures value { option_copied result ≡ request_of self.now }
+        ensures asked { (c : Images) → (t : ℕ) → (asking : ImageAsking) → IsAsking c t self.now asking → option_copied result ≡ Some asking.request }
+        ensures idle { (c : Images) → (t : ℕ) → (thread : ImageThread) → StandsFor c t self.now thread → has_call thread.calls ≡ false → IsNone result }
+    {
+        self.request.as_ref()
+    }
+
+    /// The calls that have ended, in their order.
+    pub fn endings(&self) -> &[Ending]
+        ensures stands { (c : Images) → (t : ℕ) → (thread : ImageThread) → StandsFor c t self.now thread → result.now ≡ thread.ended }
+        ensures kept { result.now ≡ self.now.endings.items }
+    {
+        self.endings.as_slice()
+    }
+}

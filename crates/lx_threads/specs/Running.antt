@@ -1,0 +1,23 @@
+-- Worlds of images whose threads have run.
+use Rattle.std.specs.Prelude.{◌≡◌, true, List}
+use Rattle.lx_caps.specs.History.{History}
+use Rattle.lx_images.specs.Image.{Code}
+use Rattle.lx_images.specs.ImageWorld.{ImageWorld}
+use Rattle.lx_images.specs.Shown.{image_is_whole}
+use Rattle.lx_caplock.specs.declared.knowledge.Entry.{Entry}
+use Rattle.lx_workers.specs.Monitor.{threads_of}
+use Rattle.lx_core.specs.declared.world.World.{World}
+use Rattle.lx_core.specs.Worlds.{StandsForWorld}
+use Rattle.lx_threads.specs.Imaged.{IsImageRun}
+
+-- the world stands for what the history leaves of the one before: the run of images under the threads of its entries, an event
+-- for each entry, which leaves no work
+pub record HasRun {C : Type 0} (stands : C → History → Type 0) (new : World C) (c : Code) (history : List Entry) (before behind : ImageWorld) : Type 0 where
+  pub stands_for : StandsForWorld stands c new behind
+  pub run : IsImageRun c before history behind
+  pub whole : image_is_whole c (threads_of history) before ≡ true
+
+-- the threads of the world have run to their ends: one history of all that the lock served says how, whatever the world stood for
+pub record AreRun {C : Type 0} (stands : C → History → Type 0) (old new : World C) : Type 0 where
+  pub history : List Entry
+  pub runs : (c : Code) (before : ImageWorld) → StandsForWorld stands c old before → (behind : ImageWorld) × HasRun stands new c history before behind

@@ -1,0 +1,42 @@
+//! Threads of images that run beside each other.
+ghost use Rattle.std.specs.Prelude.{IfOk};
+ghost use Rattle.lx_images.specs.Image.{Code};
+ghost use Rattle.lx_images.specs.ImageWorld.{ImageWorld};
+ghost use Rattle.lx_core.specs.Worlds.{StandsForWorld};
+ghost use Rattle.lx_threads.specs.Running.{AreRun};
+
+use crate::laws::image_monitor_laws;
+use crate::runner::ThreadCode;
+use lx_caps::CapStore;
+use lx_core::{Runners, World};
+use lx_outside::Gate;
+use lx_words::Memory;
+use lx_workers::run_workers;
+use std::alloc::Global;
+use std::sync::Wait;
+use std::thread::Threads;
+
+/// Runs the threads of a world of images beside each other, until none has work. The world that comes back is the run of the one
+/// handed in by the machine of images, under its own schedule, which goes on from that of the one handed in: an event for each
+/// request that was served, in the order in which the lock served them. Register steps and gates stand outside the lock. Work
+/// that no thread took is done by the caller.
+///
+/// # Errors
+/// Want of memory: the world is given up.
+pub fn run_threads<C: CapStore + Drop + Send, G: Gate + Sync, R: Threads + Wait + Sync>(
+    rt: &R,
+    alloc: Global,
+    world: World<C>,
+    gate: &G,
+) -> Result<World<C>, Memory>
+    requires stands { (c : Code) × (v : ImageWorld) × StandsForWorld C.stands c world v }
+    ensures runs { IfOk result (λ done. AreRun C.stands world done) }
+{
+    image_monitor_laws();
+    let (shared, runners, code) = world.into_parts();
+    let text = ThreadCode { code };
+    let (part, list) = run_workers(rt, alloc, shared, &text, gate, runners.into_list())?;
+    let ThreadCode { code } = text;
+    let done = World::from_parts(part, Runners::of_list(list), code);
+    if done.done() { Ok(done) } else { Err(Memory) }
+}
