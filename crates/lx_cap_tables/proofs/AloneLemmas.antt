@@ -1,4 +1,4 @@
--- The calls and references that lists of owners give a principal.
+-- What lists of owners give a principal, gathered.
 use Rattle.std.proofs.Common.{◌≡◌, refl, sym, ap, ◌∙◌, ℕ, ◌+◌, Bool, true, false, ◌&&◌, ◌||◌, List, ◌∷◌, None}
 use Rattle.std.specs.Prelude.{if◌then◌else◌}
 use Rattle.lx_caps.specs.declared.Principal.{Principal}
@@ -62,11 +62,9 @@ or_step false true g r = refl
 or_step false false g r = refl
 
 -- one node more
-pub alone_step : (who : Principal) (e : Entry) (n : ℕ) (rest : List (ℕ × Entry)) (x : Atom) (old new : Bool) → new ≡ (old || is_atom (alone_by who e) x)
-    → (new || (is_call_or_ref x && atom_among who rest x)) ≡ (old || (is_call_or_ref x && atom_among who ((n, e) ∷ rest) x))
-alone_step who e n rest x old new is =
-    ap (λ t. t || (is_call_or_ref x && atom_among who rest x)) (is ∙ ap (λ t. old || t) (sym (gives_alone who e x)))
-    ∙ or_step old (is_call_or_ref x) (gives_atom who x e) (atom_among who rest x)
+pub node_step : (who : Principal) (e : Entry) (n : ℕ) (rest : List (ℕ × Entry)) (x : Atom) (old new kind : Bool) → new ≡ (old || (kind && gives_atom who x e))
+    → (new || (kind && atom_among who rest x)) ≡ (old || (kind && atom_among who ((n, e) ∷ rest) x))
+node_step who e n rest x old new kind is = ap (λ t. t || (kind && atom_among who rest x)) is ∙ or_step old kind (gives_atom who x e) (atom_among who rest x)
 
 or_assoc : (a b c : Bool) → ((a || b) || c) ≡ (a || (b || c))
 or_assoc true b c = refl

@@ -10,5 +10,6 @@ pub mod Sound
 pub mod Kept
 pub mod Atoms
 pub mod Owned
+pub mod Gathered
 pub mod Work
 pub mod Laws

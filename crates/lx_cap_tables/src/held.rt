@@ -1,5 +1,5 @@
 //! What principals hold.
-ghost use Rattle.std.specs.Prelude.{true, false, ◌≡◌, ◌+◌, ◌*◌, ◌/◌, ◌%◌, ◌^◌, ◌<◌, ◌≤◌, ◌&&◌, ◌||◌, bit_and, nat_eq, length, List, Some, IfOk, IfSome, OnOk};
+ghost use Rattle.std.specs.Prelude.{true, false, ◌≡◌, ◌+◌, ◌*◌, ◌/◌, ◌%◌, ◌^◌, ◌<◌, ◌≤◌, ◌&&◌, ◌||◌, bit_and, nat_eq, length, List, Some, IfSome};
 ghost use Rattle.lx_caps.specs.declared.Principal.{Principal};
 ghost use Rattle.lx_caps.specs.History.{each_byte};
 ghost use Rattle.lx_caps.specs.Placed.{is_placed};
@@ -9,7 +9,7 @@ ghost use Rattle.lx_cap_tables.specs.Holders.{counts, held_by};
 ghost use Rattle.lx_caps.specs.declared.Atom.{Atom};
 ghost use Rattle.lx_caps.specs.declared.Atom.TheVariants.{Byte};
 ghost use Rattle.lx_cap_tables.specs.Tables.{Key};
-ghost use Rattle.lx_caps.specs.Order.{is_behind, is_call_or_ref, stands_in, IsFirst};
+ghost use Rattle.lx_caps.specs.Order.{is_behind, IsFirst};
 ghost use Rattle.lx_cap_tables.specs.Kept.{AreAll};
 ghost use Rattle.lx_cap_tables.specs.Lists.{some_below};
 ghost use Rattle.lx_cap_tables.specs.Loans.{loans_of};
@@ -21,13 +21,12 @@ use crate::caps::list_of_key;
 use crate::entry::{bits_from, first_byte, sooner};
 use crate::holder::InReach;
 use crate::keys::{Key, call_key, loan_key, owner_key, place_in, ref_key};
-use crate::lists::{Pool, add_alone, first_owned, first_owner, reached};
+use crate::lists::{Pool, first_owned, first_owner, reached};
 use crate::loans::THREADS;
 use crate::parts::list_of_part;
 use crate::piece::{PART, parts_end, piece_bits, piece_of};
 use indexmap::IndexSet;
-use lx_caps::{Atom, Cap, Memory, Principal};
-use std::alloc::Global;
+use lx_caps::{Atom, Cap, Principal};
 
 /// Whether each of these bits is among the others.
 fn has_all(bits: u64, wanted: u64) -> bool
@@ -276,88 +275,4 @@ fn owned_by_lists(
     let kept = owned_by_list(pool, owners, owner_key(wanted.who), wanted);
     let lent = owned_on_loans(pool, owners, loans, wanted);
     sooner(kept, lent)
-}
-
-/// Adds the calls and references that the list of owners with this key gives a principal.
-fn add_listed(
-    out: &mut Vec<Atom>,
-    pool: &Pool,
-    owners: &IndexSet<Key>,
-    key: Key,
-    who: Principal,
-) -> Result<(), Memory>
-    requires lists { length owners.now.keys ≤ length pool.now.owners }
-    ensures { OnOk result ((x : Atom) → stands_in x out.new.items ≡ (stands_in x out.old.items || (is_call_or_ref x && listed_atom pool.now.owners owners.now.keys who x key))) }
-{
-    if let Some(list) = place_in(owners, key) {
-        add_alone(out, pool, list, who)?;
-    }
-    Ok(())
-}
-
-/// Whose it is, and so many loans of a thread.
-#[derive(Clone, Copy)]
-struct Lent {
-    who: Principal,
-    thread: u32,
-    count: u64,
-}
-
-/// Adds the calls and references that a principal has on these loans.
-fn add_lent(
-    out: &mut Vec<Atom>,
-    pool: &Pool,
-    owners: &IndexSet<Key>,
-    lent: Lent,
-) -> Result<(), Memory>
-    requires lists { length owners.now.keys ≤ length pool.now.owners }
-    ensures { OnOk result ((x : Atom) → stands_in x out.new.items ≡ (stands_in x out.old.items || (is_call_or_ref x && lent_atom pool.now.owners owners.now.keys lent.who x lent.thread lent.count))) }
-{
-    for older in 0..lent.count {
-        add_listed(out, pool, owners, loan_key(lent.thread, older), lent.who)?;
-    }
-    Ok(())
-}
-
-/// Adds the calls and references that a principal has on all loans.
-fn add_all_lent(
-    out: &mut Vec<Atom>,
-    pool: &Pool,
-    owners: &IndexSet<Key>,
-    loans: &[u64],
-    who: Principal,
-) -> Result<(), Memory>
-    requires lists { length owners.now.keys ≤ length pool.now.owners }
-    requires threads { length loans.now ≡ 16 }
-    ensures { OnOk result ((x : Atom) → stands_in x out.new.items ≡ (stands_in x out.old.items || (is_call_or_ref x && some_below 16 (λ t. lent_atom pool.now.owners owners.now.keys who x t (loans_of loans.now t))))) }
-{
-    for thread in 0..THREADS {
-        let lent = Lent {
-            who,
-            thread,
-            count: loans[thread as usize],
-        };
-        add_lent(out, pool, owners, lent)?;
-    }
-    Ok(())
-}
-
-/// The calls and references that a principal owns, by its list and those of all loans. One that it both keeps and has on
-/// loan is there more than once.
-pub(crate) fn calls_and_refs(
-    alloc: Global,
-    pool: &Pool,
-    owners: &IndexSet<Key>,
-    loans: &[u64],
-    who: Principal,
-) -> Result<Vec<Atom>, Memory>
-    requires lists { length owners.now.keys ≤ length pool.now.owners }
-    requires threads { length loans.now ≡ 16 }
-    ensures { IfOk result (λ found. (x : Atom) → stands_in x found.items
-        ≡ (is_call_or_ref x && (listed_atom pool.now.owners owners.now.keys who x (owner_key who) || some_below 16 (λ t. lent_atom pool.now.owners owners.now.keys who x t (loans_of loans.now t))))) }
-{
-    let mut found = Vec::new(alloc);
-    add_listed(&mut found, pool, owners, owner_key(who), who)?;
-    add_all_lent(&mut found, pool, owners, loans, who)?;
-    Ok(found)
 }

@@ -18,6 +18,7 @@
 mod bits;
 mod caps;
 mod entry;
+mod gather;
 mod held;
 mod holder;
 mod keys;

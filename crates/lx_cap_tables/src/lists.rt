@@ -1,5 +1,5 @@
 //! Walks along the lists of a pool.
-ghost use Rattle.std.specs.Prelude.{◌≡◌, ◌+◌, ◌<◌, ◌≤◌, ℕ, Bool, ◌&&◌, ◌||◌, not, false, true, Some, None, [], ◌∷◌, ◌++◌, List, ◌≢◌, IfNone, IfSome, OnOk, length};
+ghost use Rattle.std.specs.Prelude.{◌≡◌, ◌+◌, ◌<◌, ◌≤◌, ℕ, Bool, ◌&&◌, ◌||◌, not, false, true, Some, None, [], ◌∷◌, ◌++◌, List, ◌≢◌, IfNone, IfSome, length};
 ghost use Rattle.lx_caps.specs.Precedence.{follows, is_found, IsFirstPrincipal};
 ghost use Rattle.lx_caps.specs.declared.Principal.{Principal};
 ghost use Rattle.lx_cap_nodes.specs.Words.{is_live, names, nodes_at, nodes_of, pool_with, value_in};
@@ -11,28 +11,27 @@ ghost use Rattle.lx_cap_tables.specs.declared.holder.Holder.{Holder};
 ghost use Rattle.lx_cap_tables.specs.Holders.{counts, held_by, principal_of, same_holder};
 ghost use Rattle.lx_cap_tables.specs.Entries.{bit_among, cut_all, cut_node, gives_bit, is_holder, with_mask};
 ghost use Rattle.lx_cap_nodes.specs.declared.pool.ListName.{ListName};
-ghost use Rattle.lx_caps.specs.Order.{is_behind, is_call_or_ref, stands_in, IsFirst};
+ghost use Rattle.lx_caps.specs.Order.{is_behind, IsFirst};
 ghost use Rattle.lx_caps.specs.declared.Atom.{Atom};
 ghost use Rattle.lx_cap_tables.specs.Atoms.{atom_among, gives_atom, spot_fits};
 ghost use Rattle.lx_cap_tables.specs.Kept.{all_nodes, AllNodes, AreAll, Fits, IsMask, Respects, width_of};
 ghost use Rattle.lx_cap_tables.specs.Lists.{family_of};
-ghost use Rattle.lx_cap_tables.specs.Owned.{alone_by};
 ghost use Rattle.lx_cap_tables.specs.Walks.{from, HasCome, StandsAt};
 
 use crate::bits::{is_set, with};
-use crate::entry::{Entry, atom_alone, atom_behind, sooner};
+use crate::entry::{Entry, atom_behind, sooner};
 use crate::holder::{Holder, InReach, counts, is_same_holder, principal_of};
 use lx_cap_nodes::{Family, ListName, NodePool};
-use lx_caps::{Atom, Memory, Principal, Steps, earlier, follows, is_same, put_found};
+use lx_caps::{Atom, Principal, Steps, earlier, follows, is_same};
 use std::sync::ledger::Ledger;
 
 pub(crate) type Pool = NodePool<Entry>;
 
 /// What a walk finds at a node, and the node behind.
 #[derive(Clone, Copy)]
-struct Seen {
-    entry: Entry,
-    next: Option<u64>,
+pub(crate) struct Seen {
+    pub(crate) entry: Entry,
+    pub(crate) next: Option<u64>,
 }
 
 fn family_of(list: ListName) -> Family
@@ -45,7 +44,7 @@ fn family_of(list: ListName) -> Family
 }
 
 /// Looks at a node of a list.
-fn visit(pool: &Pool, list: ListName, node: u64) -> Seen
+pub(crate) fn visit(pool: &Pool, list: ListName, node: u64) -> Seen
     requires { HasCome (nodes_of list pool.now) (Some node) }
     ensures entry { from (Some node) (nodes_of list pool.now) ≡ (node, result.entry) ∷ from result.next (nodes_of list pool.now) }
     ensures next { HasCome (nodes_of list pool.now) result.next }
@@ -246,37 +245,6 @@ pub(crate) fn first_owned(
         node = seen.next;
     }
     first
-}
-
-/// The call or the reference that an entry gives a principal.
-fn alone_by(entry: Entry, who: Principal) -> Option<Atom>
-    ensures { result ≡ alone_by who entry }
-{
-    if is_same(who, principal_of(entry.holder)) {
-        atom_alone(entry)
-    } else {
-        None
-    }
-}
-
-/// Adds the calls and references that a list of owners gives a principal.
-pub(crate) fn add_alone(
-    out: &mut Vec<Atom>,
-    pool: &Pool,
-    list: u64,
-    who: Principal,
-) -> Result<(), Memory>
-    requires { list < length pool.now.owners }
-    ensures { OnOk result ((x : Atom) → stands_in x out.new.items ≡ (stands_in x out.old.items || (is_call_or_ref x && atom_among who (nodes_at pool.now.owners list) x))) }
-{
-    pool.laws();
-    let mut node = pool.first(ListName::Owner(list));
-    while let Some(n) = node {
-        let seen = visit(pool, ListName::Owner(list), n);
-        put_found(out, alone_by(seen.entry, who))?;
-        node = seen.next;
-    }
-    Ok(())
 }
 
 /// Takes every node of a list of owners out of both its lists.

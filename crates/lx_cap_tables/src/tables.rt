@@ -13,12 +13,14 @@ ghost use Rattle.lx_cap_tables.specs.Tables.{loans_work};
 ghost use Rattle.lx_cap_tables.specs.Work.{shut_bound, strip_bound};
 
 use crate::caps::{PARTS, give_cap, take_cap};
-use crate::held::{Wanted, calls_and_refs, holds_cap, owned_behind, owner_behind};
+use crate::gather::{calls_and_refs, owned_parts};
+use crate::held::{Wanted, holds_cap, owned_behind, owner_behind};
 use crate::holder::{Holder, InReach};
 use crate::keys::{Key, loan_key, owner_key, place_for};
 use crate::lists::Pool;
 use crate::loans::{Ended, THREADS, shut_loans};
 use indexmap::IndexSet;
+use lx_byte_ranges::ranges_of;
 use lx_cap_nodes::{Family, NodePool};
 use lx_caps::{Atom, Cap, CapStore, Memory, Principal, Steps, cells, in_order};
 use std::alloc::Global;
@@ -416,5 +418,12 @@ impl CapStore for CapTables {
         let found = calls_and_refs(alloc, &self.pool, &self.owners, self.loans.as_slice(), who)?;
         let listed = in_order(alloc, found)?;
         Ok(listed)
+    }
+
+    fn byte_ranges(&self, alloc: Global, who: Principal) -> Result<Vec<Cap>, Memory> {
+        self.pool.laws();
+        let parts = owned_parts(alloc, &self.pool, &self.owners, self.loans.as_slice(), who)?;
+        let ranges = ranges_of(alloc, parts)?;
+        Ok(ranges)
     }
 }

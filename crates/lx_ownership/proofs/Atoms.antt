@@ -16,11 +16,11 @@ use Rattle.lx_caps.specs.History.{History, owns}
 use Rattle.lx_caps.specs.Order.{is_before, is_behind, is_call_or_ref, AreAllBehind, AreCallsAndRefs}
 use Rattle.lx_caps.proofs.Orders.{before-at_most}
 use Rattle.lx_caps.proofs.InOrder.{behind_chain}
+use Rattle.lx_caps.proofs.OwnedByte.{not_owned, left_true, right_true}
 use Rattle.lx_model.specs.Owned.{owned_calls, owned_refs}
 use Rattle.lx_ownership.specs.Atoms.{caps_of}
 use Rattle.lx_ownership.specs.Listing.{IsListing}
 use Rattle.lx_ownership.proofs.Listed.{calls_are, refs_are}
-use Rattle.lx_ownership.proofs.NextByte.{not_owned, left_true, right_true}
 
 -- an atom is one of a kind, with its number, or comes before all of the kind, or behind all
 abbrev Stands : (ℕ → Atom) → (Atom → List ℕ) → Atom → Type 0

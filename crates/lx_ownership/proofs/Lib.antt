@@ -1,9 +1,6 @@
 pub mod Accounting
 pub mod Atoms
 pub mod Cuts
-pub mod InMemory
 pub mod Listed
 pub mod Mentioned
-pub mod NextByte
 pub mod Ranges
-pub mod Steps

@@ -6,8 +6,8 @@ use Rattle.lx_caps.specs.declared.Cap.{Cap}
 use Rattle.lx_caps.specs.declared.Cap.TheVariants as cap
 use Rattle.lx_caps.specs.declared.Atom.TheVariants.{Byte}
 use Rattle.lx_caps.specs.History.{History, owns, same_principal}
+use Rattle.lx_caps.specs.Ranges.{IsRanges, AreByteRanges}
 use Rattle.lx_model.specs.Owned.{ascending, ends_of, mentioned, begun_behind, closed_at, ranges, owned_ranges}
-use Rattle.lx_ownership.specs.Listing.{IsRanges}
 use Rattle.lx_ownership.proofs.Cuts.{NotIn, Ascends, below_all, ascends, not_in, split_at, gaps, first_one}
 use Rattle.lx_ownership.proofs.Mentioned.{steady, first_free, last, last_free}
 
@@ -129,3 +129,7 @@ ranges_one p x (cap.Write a s ∷ cs) (cap.Write b r ∷ ds) k l =
     let f : s ≡ r = same_end p a s r k.2 l'.2 k.3 l'.3 k.4 l'.4 in
     let g : cs ≡ ds = ranges_one p (a + s) cs ds k.5 (subst (λ y. IsRanges p (a + y) ds) (sym f) l'.5) in
     λ i. cap.Write (e i) (f i) ∷ g i
+
+-- what is listed of the bytes that a principal owns
+pub ranges_are : (h : History) (q : Principal) (cs : List Cap) → AreByteRanges h q cs → cs ≡ owned_ranges h q
+ranges_are h q cs are = ranges_one (λ b. owns h q (Byte b)) 0 cs (owned_ranges h q) are (owned_ranges-greatest h q)

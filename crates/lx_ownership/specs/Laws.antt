@@ -5,9 +5,10 @@ use Rattle.lx_caps.specs.declared.Cap.TheVariants as cap
 use Rattle.lx_caps.specs.declared.Atom.TheVariants as atom
 use Rattle.lx_caps.specs.History.{History, owns}
 use Rattle.lx_caps.specs.Placed.{AllPlaced}
+use Rattle.lx_caps.specs.Ranges.{IsRanges}
 use Rattle.lx_model.specs.Owned.{owned_ranges, owned_calls, owned_refs}
 use Rattle.lx_ownership.specs.Accounts.{LastIsFree}
-use Rattle.lx_ownership.specs.Listing.{IsListing, IsRanges}
+use Rattle.lx_ownership.specs.Listing.{IsListing}
 
 pub record OwnedLaws : Type 0 where
   -- the ranges are the greatest ones of owned bytes, ascending, and no owned byte is left out

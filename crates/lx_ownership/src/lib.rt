@@ -3,7 +3,6 @@
 
 ghost use Rattle.lx_ownership.specs.Laws.{OwnedLaws};
 
-mod byte;
 mod instances;
 mod owned;
 mod ownership;

@@ -31,8 +31,7 @@ fn put_owner<C: CapStore>(
     who: Principal,
     types: u32,
 ) -> Result<(), Memory>
-    requires { (h : History) × C.stands caps.now h }
-    ensures { OnOk result ((h : History) → C.stands caps.now h → LastIsFree h → out.new.items ≡ out.old.items ++ owned_in types h who) }
+    ensures { OnOk result ((h : History) → C.stands caps.now h → out.new.items ≡ out.old.items ++ owned_in types h who) }
 {
     let owned = owned_caps(alloc, caps, who, types)?;
     put_caps(out, who, &owned)?;
@@ -47,8 +46,7 @@ fn put_instances<C: CapStore>(
     count: u32,
     types: u32,
 ) -> Result<(), Memory>
-    requires { (h : History) × C.stands caps.now h }
-    ensures { OnOk result ((h : History) → C.stands caps.now h → LastIsFree h → out.new.items ≡ out.old.items ++ flat_map (owned_in types h) (map (Inst home) (below count))) }
+    ensures { OnOk result ((h : History) → C.stands caps.now h → out.new.items ≡ out.old.items ++ flat_map (owned_in types h) (map (Inst home) (below count))) }
 {
     for instance in 0..count {
         put_owner(alloc, out, caps, Principal::Inst(home, instance), types)?;
@@ -64,9 +62,8 @@ fn put_module<C: CapStore>(
     home: u32,
     types: u32,
 ) -> Result<(), Memory>
-    requires stands { (h : History) × C.stands caps.now h }
-    requires there { home < names.now.modules }
-    ensures { OnOk result ((h : History) → C.stands caps.now h → LastIsFree h → out.new.items ≡ out.old.items ++ flat_map (owned_in types h) (module_principals names.now.names home)) }
+    requires { home < names.now.modules }
+    ensures { OnOk result ((h : History) → C.stands caps.now h → out.new.items ≡ out.old.items ++ flat_map (owned_in types h) (module_principals names.now.names home)) }
 {
     put_owner(alloc, out, caps, Principal::Shared(home), types)?;
     put_owner(alloc, out, caps, Principal::Global(home), types)?;

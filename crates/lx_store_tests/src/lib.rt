@@ -14,6 +14,8 @@ mod nodes;
 #[cfg(test)]
 mod principals;
 #[cfg(test)]
+mod ranges;
+#[cfg(test)]
 mod room;
 #[cfg(test)]
 mod tables;

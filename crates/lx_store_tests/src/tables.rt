@@ -204,7 +204,7 @@ fn assert_same_owners(rt: &impl Abort, plain: &PlainCaps, tables: &CapTables, at
     }
 }
 
-/// Whether both stores list the same calls and references of the principal.
+/// Whether both stores list the same calls, references and ranges of the principal.
 fn list_alike(
     alloc: Global,
     plain: &PlainCaps,
@@ -213,7 +213,9 @@ fn list_alike(
 ) -> Result<bool, Memory> {
     let listed = plain.calls_and_refs(alloc, who)?;
     let walked = tables.calls_and_refs(alloc, who)?;
-    Ok(listed == walked)
+    let ranges = plain.byte_ranges(alloc, who)?;
+    let gathered = tables.byte_ranges(alloc, who)?;
+    Ok(listed == walked && ranges == gathered)
 }
 
 fn assert_same_listed(

@@ -101,6 +101,12 @@ impl<C: CapStore + Drop> CapStore for Recorded<C> {
         let atoms = self.caps.calls_and_refs(alloc, who)?;
         Ok(atoms)
     }
+
+    fn byte_ranges(&self, alloc: Global, who: Principal) -> Result<Vec<Cap>, Memory> {
+        history_laws();
+        let ranges = self.caps.byte_ranges(alloc, who)?;
+        Ok(ranges)
+    }
 }
 
 impl<C: CapStore + Drop> Recorded<C> {

@@ -7,7 +7,7 @@ use Rattle.lx_ownership.proofs.Atoms.{caps_are}
 use Rattle.lx_ownership.proofs.owned.owned_caps.Goals as goal
 
 pub returns : goal.returns
-returns g c = λ h stands free.
+returns g c = λ h stands.
     c.in_ok-put_atoms.ensures
-    ∙ ((λ j. c.in_ok-owned.ensures h stands free j ++ (ap (flat_map (caps_of c.args.types)) c.deref.ensures.value ∙ caps_are h c.args.who c.in_ok-atoms.atoms.items (c.in_ok-atoms.ensures h stands) c.args.types) j)
+    ∙ ((λ j. c.in_ok-owned.ensures h stands j ++ (ap (flat_map (caps_of c.args.types)) c.deref.ensures.value ∙ caps_are h c.args.who c.in_ok-atoms.atoms.items (c.in_ok-atoms.ensures h stands) c.args.types) j)
     ∙ sym (append_assoc (owned_ranges h c.args.who) (owned_calls h c.args.who) (flat_map (owned_refs h c.args.who) (below c.args.types))))

@@ -7,10 +7,10 @@ use Rattle.lx_ownership.proofs.Accounting.{instances_more}
 use Rattle.lx_ownership.proofs.ownership.put_instances.Goals as goal
 
 pub loop-instance-preserved : goal.loop-instance-preserved
-loop-instance-preserved g c = λ h stands free.
-    instances_more (owned_in c.args.types h) c.args.home c.loop-instance.instance _ _ _ (c.loop-instance.invariant h stands free) (c.in_ok-put_owner.ensures h stands free)
+loop-instance-preserved g c = λ h stands.
+    instances_more (owned_in c.args.types h) c.args.home c.loop-instance.instance _ _ _ (c.loop-instance.invariant h stands) (c.in_ok-put_owner.ensures h stands)
 
 pub returns : goal.returns
-returns g c = λ h stands free.
+returns g c = λ h stands.
     let e : c.loop-instance.instance ≡ c.args.count = omega (arith, c.loop-instance-test.false, c.loop-instance.auto.instance-end) in
-    subst (λ n. c.loop-instance.out.items ≡ c.args.out.now.items ++ flat_map (owned_in c.args.types h) (map (Inst c.args.home) (below n))) e (c.loop-instance.invariant h stands free)
+    subst (λ n. c.loop-instance.out.items ≡ c.args.out.now.items ++ flat_map (owned_in c.args.types h) (map (Inst c.args.home) (below n))) e (c.loop-instance.invariant h stands)

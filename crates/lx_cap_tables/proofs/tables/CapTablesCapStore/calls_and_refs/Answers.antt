@@ -7,7 +7,7 @@ use Rattle.lx_cap_tables.specs.Kept.{AreAll}
 use Rattle.lx_cap_tables.specs.Tables.{is_in_order}
 use Rattle.lx_cap_tables.specs.Sound.{StandsFor}
 use Rattle.lx_cap_tables.proofs.HadLemmas.{owned_is}
-use Rattle.lx_cap_tables.proofs.TieLemmas.{listed_is}
+use Rattle.lx_cap_tables.proofs.TieLemmas.{all_fit, listed_is}
 use Rattle.lx_cap_tables.proofs.tables.CapTablesCapStore.calls_and_refs.Goals as goal
 
 pub calls_and_refs-requires : goal.calls_and_refs-requires
@@ -17,6 +17,7 @@ calls_and_refs-requires c =
     record {
       lists = let h = old.owner_fit in omega (arith, h, count);
       threads = ap length c.as_slice.ensures.value ∙ old.threads;
+      fit = all_fit c.self.inside.pool c.laws.ensures c.self.inside.owners.keys c.self.inside.atoms.keys c.self.inside.loans.items old.in_order;
     }
 
 pub returns : goal.returns

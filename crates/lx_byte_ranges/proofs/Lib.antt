@@ -1,0 +1,3 @@
+mod NextBit
+mod MoreRuns
+mod MoreParts
