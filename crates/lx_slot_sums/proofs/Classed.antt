@@ -30,7 +30,7 @@ failed : (b : Bool) (n : ℕ) → cond b (Some n) None ≡ None → b ≡ false
 failed true n e = absurd (cc)
 failed false n e = refl
 
-found_at : {A : Type 0} (t : A → Bool) (xs : List A) (k : ℕ) → position t xs ≡ Some k → slice_get xs k ≡ find t xs
+pub found_at : {A : Type 0} (t : A → Bool) (xs : List A) (k : ℕ) → position t xs ≡ Some k → slice_get xs k ≡ find t xs
 found_at t xs k p = ap (slice_get xs) (sym (by_test (nat_lt (position_or_len t xs) (length xs)) (position_or_len t xs) k p)) ∙ sym (find_at t xs)
 
 past : (n m : ℕ) → nat_lt n m ≡ false → m ≤ n
@@ -69,7 +69,7 @@ stands_by : (xs : List Text) (t : Text) (o : Option ℕ) → position (λ u. byt
 stands_by xs t None p f = let n : None ≡ find (λ u. bytes_eq u t) xs = not_found (λ u. bytes_eq u t) xs p in absurd (cc (n, f))
 stands_by xs t (Some k) p f = found_at (λ u. bytes_eq u t) xs k p ∙ f
 
-stands : (xs : List Text) (s : ℕ) (t : Text) → slice_get xs s ≡ Some t → slice_get xs (place_or_none (position (λ u. bytes_eq u t) xs)) ≡ Some t
+pub stands : (xs : List Text) (s : ℕ) (t : Text) → slice_get xs s ≡ Some t → slice_get xs (place_or_none (position (λ u. bytes_eq u t) xs)) ≡ Some t
 stands xs s t e = stands_by xs t (position (λ u. bytes_eq u t) xs) refl (finds_text xs s t e)
 
 -- the classes of an interface

@@ -1,8 +1,10 @@
 -- What the parts of the sums of an interface and a module say.
-use Rattle.std.proofs.Common.{◌≡◌, ◌∙◌, refl, ap, subst, ℕ, zero, suc, ◌+◌, ◌<◌, ◌≤◌, max, Bool, true, false, ◌&&◌, ◌||◌, Option, Some, None, List, [], ◌∷◌, ◌++◌, length, get_or, bytes_eq, nat_eq, nat_lt, arith, option_map, slice_get}
+use Rattle.std.proofs.Common.{◌≡◌, ◌∙◌, refl, sym, ap, subst, ℕ, zero, suc, ◌+◌, ◌<◌, ◌≤◌, max, Bool, true, false, ◌&&◌, ◌||◌, Option, Some, None, List, [], ◌∷◌, ◌++◌, length, map, get_or, nat_eq, nat_lt, arith, option_map, slice_get}
 use Rattle.std.proofs.lemmas.Bool.Decides.{nat_tests}
 use Rattle.std.proofs.lemmas.List.{get_or_default}
+use Rattle.std.proofs.lemmas.Option.{slice_get-map}
 use Rattle.std.specs.List.{list_any}
+use Rattle.std.specs.Option.{option_flatten}
 use Rattle.lx_annot.specs.declared.interface.Field.{Field}
 use Rattle.lx_annot.specs.declared.interface.Interface.{Interface}
 use Rattle.lx_ir.specs.declared.module.Module.{Module}
@@ -11,11 +13,12 @@ use Rattle.lx_slot_types.specs.Sites.{FieldName, field_name}
 use Rattle.lx_slot_types.specs.Gets.{has_name, types_field}
 use Rattle.lx_slot_sums.specs.declared.sums.SlotSum.{SlotSum}
 use Rattle.lx_slot_sums.specs.Classes.{IsClassed, class_differs}
-use Rattle.lx_slot_sums.specs.Fields.{AreShort, HasFields, Table, sum_at, typed_by}
+use Rattle.lx_slot_sums.specs.Fields.{AreShort, HasFields, Table, number_among, sum_at, typed_by}
 use Rattle.lx_slot_sums.specs.Known.{IsSummed, known}
 use Rattle.lx_slot_sums.specs.Within.{HasLawfulTypes}
 use Rattle.lx_slot_sums.specs.Sums.{Typing, joined, no_sum, sum_by, sum_of}
 use Rattle.lx_slot_sums.proofs.Joining.{join_lists_by, no_fields}
+use Rattle.lx_slot_sums.proofs.Numbering.{unnamed}
 
 pub join_step : (t : Typing) (classes cs : List ℕ) (a b r : SlotSum) → IsClassed t.interface classes → cs ≡ classes → r ≡ joined (class_differs cs) a b → (xs ys : List FieldName) → a ≡ sum_of t.interface t.text xs → b ≡ sum_of t.interface t.text ys → r ≡ sum_of t.interface t.text (xs ++ ys)
 join_step t classes cs a b r classed e is xs ys ea eb = is ∙ (λ j. joined (class_differs (e j)) (ea j) (eb j)) ∙ join_lists_by t.interface classes classed t.text xs ys
@@ -54,6 +57,36 @@ module _ (i : Interface) (m : Module) (n k : ℕ) where
       no_fields i (λ s. types_field i m (field_name n k) s || false) (λ s. none_or (types_field i m (field_name n k) s) (typed_nowhere (slice_get m.types n) e s))
       ∙ ap (λ g. sum_of i m (g ∷ [])) q
 
+-- a field of a struct by the number of its name
+
+has_field : (i : Interface) (table : Table) (name : List ℕ) (n k : ℕ) → HasFields i table → number_among i.fields name ≡ Some n → sum_at table n k ≡ sum_by i (typed_by i.fields name k)
+unfolding HasFields
+has_field i table name n k h q = h name n k q
+
+abbrev number_of : Interface → NamedType → Option ℕ
+number_of i t = number_among i.fields t.name
+
+abbrev name_of : NamedType → List ℕ
+name_of t = t.name
+
+module _ (i : Interface) (m : Module) (n k : ℕ) (names : List (Option ℕ)) (are : names ≡ map (number_of i) m.types) (f : FieldName) (same : field_name n k ≡ f) where
+  at_type : known names n ≡ option_flatten (option_map (number_of i) (slice_get m.types n))
+  at_type = ap (λ xs. known xs n) are ∙ ap option_flatten (slice_get-map (number_of i) m.types n)
+
+  pub field_numbered : (table : Table) (number : ℕ) (r : SlotSum) → HasFields i table → Some number ≡ known names n → r ≡ sum_at table number k → r ≡ sum_of i m (f ∷ [])
+  field_numbered table number r has h is = by (slice_get m.types n) refl (h ∙ at_type)
+    where
+      by : (o : Option NamedType) → slice_get m.types n ≡ o → Some number ≡ option_flatten (option_map (number_of i) o) → r ≡ sum_of i m (f ∷ [])
+      by None e g = absurd (cc)
+      by (Some t) e g = field_some i m n k t.name r f (sym (ap (option_map name_of) e)) (is ∙ has_field i table t.name number k has (sym g)) same
+
+  pub field_unnumbered : None ≡ known names n → no_sum ≡ sum_of i m (f ∷ [])
+  field_unnumbered h = by (slice_get m.types n) refl (h ∙ at_type)
+    where
+      by : (o : Option NamedType) → slice_get m.types n ≡ o → None ≡ option_flatten (option_map (number_of i) o) → no_sum ≡ sum_of i m (f ∷ [])
+      by None e g = field_none i m n k f (sym (ap (option_map name_of) e)) same
+      by (Some t) e g = field_some i m n k t.name no_sum f (sym (ap (option_map name_of) e)) (no_fields i (typed_by i.fields t.name k) (λ s. unnamed i.fields t.name k s g)) same
+
 -- where nothing is known
 
 pub none_more : (xs : List (Option ℕ)) → ((n : ℕ) → known xs n ≡ None) → (n : ℕ) → known (xs ++ None ∷ []) n ≡ None
@@ -65,35 +98,8 @@ none_more (x ∷ xs) h (suc n) = none_more xs (λ k. h (suc k)) n
 pub none_at_first : (n : ℕ) → known [] n ≡ None
 none_at_first n = refl
 
-pub summed : (i : Interface) (m : Module) (classes : List ℕ) (typed : Table) (longest : ℕ) → IsClassed i classes → HasFields i typed → AreShort i.fields longest → HasLawfulTypes m → IsSummed i m classes typed longest
-summed i m classes typed longest c t s l = record { classes_are = c; typed_are = t; short = s; lawful = l }
-
--- a name that is longer than those of an interface
-
-longer : (xs ys : List ℕ) → length ys < length xs → bytes_eq xs ys ≡ false
-longer [] ys h = absurd (omega (arith, h))
-longer (x ∷ xs) [] h = refl
-longer (x ∷ xs) (y ∷ ys) h = ap (λ b. nat_eq x y && b) (longer xs ys (omega (arith, h))) ∙ and_false (nat_eq x y)
-  where
-    and_false : (b : Bool) → (b && false) ≡ false
-    and_false true = refl
-    and_false false = refl
-
-nowhere : (fields : List Field) (n : ℕ) (name : List ℕ) (k s : ℕ) → ((j : ℕ) → (d : Field) → j < length fields → length (get_or fields j d).name ≤ n) → n < length name → typed_by fields name k s ≡ false
-nowhere [] n name k s h l = refl
-nowhere (f ∷ fs) n name k s h l =
-    let a : length f.name ≤ n = h 0 f (omega arith) in
-    let e : bytes_eq name f.name ≡ false = longer name f.name (omega (arith, a, l)) in
-    let r : typed_by fs name k s ≡ false = nowhere fs n name k s (λ j d m. h (suc j) d (omega (arith, m))) l in
-    λ j. (e j && (nat_eq f.index k && nat_eq f.slot s)) || r j
-
-pub too_long : (i : Interface) (n : ℕ) (name : List ℕ) (k : ℕ) → AreShort i.fields n → n < length name → no_sum ≡ sum_by i (typed_by i.fields name k)
-unfolding AreShort
-too_long i n name k h l = no_fields i (typed_by i.fields name k) (λ s. nowhere i.fields n name k s h l)
-
-pub has_field : (i : Interface) (table : Table) (name : List ℕ) (k : ℕ) → HasFields i table → sum_at table name k ≡ sum_by i (typed_by i.fields name k)
-unfolding HasFields
-has_field i table name k h = h name k
+pub summed : (i : Interface) (m : Module) (classes : List ℕ) (typed : Table) (names : List (Option ℕ)) → IsClassed i classes → HasFields i typed → names ≡ map (λ t. number_among i.fields t.name) m.types → HasLawfulTypes m → IsSummed i m classes typed names
+summed i m classes typed names c t s l = record { classes_are = c; typed_are = t; names_are = s; lawful = l }
 
 -- the longest name so far
 pub longest_more : (fields : List Field) (k : ℕ) (f : Field) (old new : ℕ) → ((j : ℕ) → (d : Field) → j < k → length (get_or fields j d).name ≤ old) → f ≡ get_or fields k f → k < length fields → new ≡ max old (length f.name) → (j : ℕ) → (d : Field) → j < k + 1 → length (get_or fields j d).name ≤ new

@@ -8,4 +8,5 @@ pub mod Kept
 pub mod Laying
 pub mod Lawful
 pub mod Names
+pub mod Numbering
 pub mod Statements

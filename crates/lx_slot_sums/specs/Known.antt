@@ -1,12 +1,12 @@
 -- What is known of the sums of an interface and a module, and of the spreads of its types.
-use Rattle.std.specs.Prelude.{◌≡◌, ℕ, Option, Some, List, slice_get}
+use Rattle.std.specs.Prelude.{◌≡◌, ℕ, Option, Some, List, map, slice_get}
 use Rattle.std.specs.Option.{option_flatten}
 use Rattle.lx_annot.specs.declared.interface.Interface.{Interface}
 use Rattle.lx_ir.specs.declared.module.Module.{Module}
 use Rattle.lx_slot_types.specs.Sites.{FieldName, global_fields_at, named_fields_at}
 use Rattle.lx_slot_sums.specs.declared.spread.Spread.{Spread}
 use Rattle.lx_slot_sums.specs.Classes.{IsClassed}
-use Rattle.lx_slot_sums.specs.Fields.{AreShort, HasFields, Table}
+use Rattle.lx_slot_sums.specs.Fields.{HasFields, Table, number_among}
 use Rattle.lx_slot_sums.specs.Spreads.{IsSpread, Keeps, Says}
 use Rattle.lx_slot_sums.specs.Sums.{Typing}
 use Rattle.lx_slot_sums.specs.Within.{HasLawfulTypes}
@@ -33,12 +33,12 @@ pub record IsMade (t : Typing) (old new : List Spread) (named : List (Option ℕ
   pub right : AreNamed t new named
   pub made : IsSpread t new spread fields
 
--- the classes of the slot types, the sums of typed fields and the length of the longest name are those of this interface, and the
--- module is within the limits
-pub record IsSummed (i : Interface) (m : Module) (classes : List ℕ) (typed : Table) (longest : ℕ) : Type 0 where
+-- the classes of the slot types, the sums of typed fields and the numbers of the names of types are those of this interface and this
+-- module, which is within the limits
+pub record IsSummed (i : Interface) (m : Module) (classes : List ℕ) (typed : Table) (names : List (Option ℕ)) : Type 0 where
   pub classes_are : IsClassed i classes
   pub typed_are : HasFields i typed
-  pub short : AreShort i.fields longest
+  pub names_are : names ≡ map (λ t. number_among i.fields t.name) m.types
   pub lawful : HasLawfulTypes m
 
 -- a spread is put behind the others

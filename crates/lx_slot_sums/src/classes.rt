@@ -29,7 +29,7 @@ fn slot_texts(alloc: Global, i: &Interface, slots: &[Slot]) -> Result<Names, Mem
 }
 
 /// Puts the place of a text at it.
-fn put_text<'a>(
+pub(crate) fn put_text<'a>(
     places: &mut IndexMap<&'a [u8], usize>,
     text: &'a Name,
     place: usize,
@@ -53,8 +53,8 @@ fn first_places<'a>(alloc: Global, texts: &'a [Name]) -> Result<IndexMap<&'a [u8
     Ok(places)
 }
 
-/// The first place of a text.
-fn class_of(places: &IndexMap<&[u8], usize>, text: &[u8]) -> usize
+/// The first place of a text; 0 for one that is not there.
+pub(crate) fn class_of(places: &IndexMap<&[u8], usize>, text: &[u8]) -> usize
     ensures { result ≡ place_or_none (at_text places.now.entries text.now) }
 {
     match places.get(text).copied() {

@@ -6,9 +6,9 @@ ghost use Rattle.lx_slot_sums.specs.Within.{HasLawfulTypes};
 
 use crate::classes::classes_of;
 use crate::fields::FieldName;
-use crate::known::struct_name;
+use crate::known::name_number;
 use crate::sums::{SlotSum, join, no_sum};
-use crate::typed::{Key, longest_name, short_sum_at, typed_sums};
+use crate::typed::{Key, name_numbers, sum_at, type_numbers, typed_sums};
 use indexmap::IndexMap;
 use lx_annot::interface::Interface;
 use lx_ir::module::Module;
@@ -16,14 +16,15 @@ use lx_words::{Items, Memory};
 use std::alloc::Global;
 use std::marker::Model;
 
-/// The sums of the fields that an interface types, by the classes of its slot types. Contracts see the interface and the module.
+/// The sums of the fields that an interface types, by the classes of its slot types, and the numbers of the names of a module's types.
+/// Contracts see the interface and the module.
 #[derive(Drop)]
 pub(crate) struct FieldSums<'a> {
     interface: &'a Interface,
     module: &'a Module,
     classes: Items<usize>,
-    typed: IndexMap<Key<'a>, SlotSum>,
-    longest: usize,
+    typed: IndexMap<Key, SlotSum>,
+    names: Items<Option<usize>>,
 }
 
 impl<'a> Model for FieldSums<'a> {
@@ -39,23 +40,26 @@ impl<'a> Model for FieldSums<'a> {
 
     ghost view = { λ s. record { interface = s.interface.now; text = s.«module».now } };
 
-    ghost invariant = { λ s. IsSummed s.interface.now s.«module».now s.classes s.typed.entries s.longest };
+    ghost invariant = { λ s. IsSummed s.interface.now s.«module».now s.classes s.typed.entries s.names };
 }
 
 impl<'a> FieldSums<'a> {
-    /// The sums of the fields that an interface types in a module. Each text of an annotation is made once.
+    /// The sums of the fields that an interface types in a module. Each text of an annotation is made once, and each name
+    /// of a type looked up once.
     pub fn new(alloc: Global, interface: &'a Interface, module: &'a Module) -> Result<Self, Memory>
         requires { HasLawfulTypes module.now }
         ensures { IfOk result (λ sums. sums ≡ record { interface = interface.now; text = module.now }) }
     {
         let classes = classes_of(alloc, interface)?;
-        let typed = typed_sums(alloc, interface, classes.as_slice())?;
+        let numbers = name_numbers(alloc, interface.fields.as_slice())?;
+        let typed = typed_sums(alloc, interface, classes.as_slice(), &numbers)?;
+        let names = type_numbers(alloc, interface, &numbers, module)?;
         Ok(FieldSums {
             interface,
             module,
             classes,
             typed,
-            longest: longest_name(interface),
+            names,
         })
     }
 
@@ -88,12 +92,12 @@ impl<'a> FieldSums<'a> {
         join(self.classes.as_slice(), a, b)
     }
 
-    /// The sum of a field.
+    /// The sum of a field. Its struct's name is not gone over.
     pub fn of_field(&self, field: FieldName) -> SlotSum
         ensures { result ≡ sum_of self.now.interface self.now.text (field ∷ []) }
     {
-        match struct_name(self.module, field.struct_number) {
-            Some(name) => short_sum_at(&self.typed, self.longest, name, field.index),
+        match name_number(self.names.as_slice(), field.struct_number) {
+            Some(name) => sum_at(&self.typed, name, field.index),
             None => no_sum(),
         }
     }

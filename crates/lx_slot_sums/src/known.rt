@@ -35,14 +35,11 @@ pub(crate) fn nothing_known(alloc: Global, count: usize) -> Result<Vec<Option<u3
     Ok(numbers)
 }
 
-/// The name of the named type with a number.
-pub(crate) fn struct_name<'a>(m: &'a Module, number: u32) -> Option<&'a [u8]>
-    ensures { option_copied result ≡ option_map (λ t. t.name) (slice_get m.entry.now.types number) }
+/// The number of the name of the named type with a number, if an interface types a field of it.
+pub(crate) fn name_number(names: &[Option<usize>], number: u32) -> Option<usize>
+    ensures { result ≡ known names.now number }
 {
-    match m.types.get(number) {
-        Some(named) => Some(named.name.as_slice()),
-        None => None,
-    }
+    names.get(number as usize).copied().flatten()
 }
 
 /// The type of the global with a number.
