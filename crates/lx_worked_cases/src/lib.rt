@@ -2,13 +2,21 @@
 #![tactic(auto)]
 
 #[cfg(test)]
+mod between;
+#[cfg(test)]
 mod c_files;
+#[cfg(test)]
+mod callbacks;
+#[cfg(test)]
+mod compared;
 #[cfg(test)]
 mod examples;
 #[cfg(test)]
 mod fault_texts;
 #[cfg(test)]
 mod files;
+#[cfg(test)]
+mod fuels;
 #[cfg(test)]
 mod generated;
 #[cfg(test)]
@@ -31,6 +39,8 @@ mod loans;
 mod long;
 #[cfg(test)]
 mod many;
+#[cfg(test)]
+mod one_entry;
 #[cfg(test)]
 mod over_kernels;
 #[cfg(test)]

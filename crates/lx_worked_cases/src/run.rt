@@ -116,7 +116,7 @@ fn words_of(schedule: &str) -> &'static [&'static str] {
 }
 
 /// The status of a case, which is run, or replayed under its schedule.
-fn run_case<R: Threads + Wait + Sync>(
+pub fn run_case<R: Threads + Wait + Sync>(
     rt: &R,
     alloc: Global,
     shelf: &mut MemShelf,

@@ -40,7 +40,7 @@ call m:poke fuel 100
 ";
 
 /// Waits until a thread has passed so often, and says whether it did.
-fn waits(passes: &AtomicU32, times: u32) -> bool {
+pub fn waits(passes: &AtomicU32, times: u32) -> bool {
     for _ in 0..1_000_000 {
         if passes.load(SeqCst) >= times {
             return true;
@@ -142,7 +142,7 @@ fn written_at<R: Threads + Wait + Sync, G: Gate + Sync>(
 }
 
 /// The schedule that a report prints.
-fn schedule_in(report: &str) -> &str {
+pub fn schedule_in(report: &str) -> &str {
     match report.split_once("schedule ") {
         Some((_, rest)) => match rest.split_once('\n') {
             Some((schedule, _)) => schedule,

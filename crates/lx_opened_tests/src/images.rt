@@ -1,0 +1,129 @@
+//! Images of modules: made of their texts, or by hand.
+ghost use Rattle.std.specs.Prelude.{◌≡◌, None, IfOk, All, length};
+ghost use Rattle.lx_accepted.specs.Accepted.{IsAcceptedBy};
+ghost use Rattle.lx_ir.specs.Lawful.{IsPlain};
+ghost use Rattle.lx_ir.specs.Verified.{IsVerified};
+ghost use Rattle.lx_propagate.specs.Slots.{annotated_of, conflict_of};
+
+use lx_annot::interface::Interface;
+use lx_image_check::{Checked, check};
+use lx_instrument::{instrument, instrument_full};
+use lx_ir_lawful::whole_laws;
+use lx_ir_read::{TextForm, read_module};
+use lx_ir_verify::{Verified, verify};
+use lx_propagate::propagate;
+use lx_slot_types::Annotated;
+use lx_words::Memory;
+use std::alloc::Global;
+use std::test::Fail;
+
+/// Where an image comes from.
+#[derive(Clone, Copy)]
+pub enum Image<'a> {
+    /// What is made of a module's text, in which every store has its guard.
+    Full(&'a str),
+    /// What is made of it, in which spared stores have none.
+    Spared(&'a str),
+    /// What a text says.
+    Text(&'a str),
+}
+
+/// The verified module of an image's text.
+pub fn image_of_text(alloc: Global, text: &[u8]) -> Result<Verified, Fail> {
+    if text.len() > 1000000 {
+        return Err(Fail::new("a text is too long"));
+    }
+    whole_laws();
+    let module = read_module(alloc, TextForm::Image, text)?;
+    let verified = verify(alloc, module)?;
+    Ok(verified)
+}
+
+/// The verified module of a program's text.
+fn module_of_text(alloc: Global, text: &[u8]) -> Result<Verified, Fail>
+    ensures { IfOk result IsPlain }
+{
+    if text.len() > 1000000 {
+        return Err(Fail::new("a text is too long"));
+    }
+    whole_laws();
+    let module = read_module(alloc, TextForm::Program, text)?;
+    let verified = verify(alloc, module)?;
+    Ok(verified)
+}
+
+/// The image of a module, with the guards of spared stores or without them, where `annotated` is what handing on slot types in it gives.
+fn image_of_module(
+    alloc: Global,
+    i: &Interface,
+    m: &Verified,
+    annotated: &Annotated,
+    full: bool,
+) -> Result<Verified, Memory>
+    requires plain { IsPlain m.now }
+    requires annotated { annotated.now ≡ annotated_of i.now m.now }
+    requires agrees { conflict_of i.now m.now ≡ None }
+{
+    if full {
+        instrument_full(alloc, i, m, annotated)
+    } else {
+        instrument(alloc, i, m, annotated)
+    }
+}
+
+/// The image that is made of a module's text.
+fn made(alloc: Global, i: &Interface, text: &str, full: bool) -> Result<Verified, Fail> {
+    let module = module_of_text(alloc, text.as_bytes())?;
+    let annotated = propagate(alloc, i, module.module())?;
+    let image = image_of_module(alloc, i, &module, &annotated, full)?;
+    Ok(image)
+}
+
+fn verified(alloc: Global, i: &Interface, image: Image<'_>) -> Result<Verified, Fail> {
+    match image {
+        Image::Full(text) => made(alloc, i, text, true),
+        Image::Spared(text) => made(alloc, i, text, false),
+        Image::Text(text) => image_of_text(alloc, text.as_bytes()),
+    }
+}
+
+/// An image that was checked is verified.
+fn see_verified(checked: &Checked)
+    ensures { IsVerified checked.now }
+{
+    let _image = checked.image();
+}
+
+/// An image that the checker takes.
+#[tactic(auto, using(crate::proofs::Accepting::accepted))]
+fn checked(alloc: Global, i: &Interface, image: Verified) -> Result<Checked, Fail>
+    ensures { IfOk result (IsAcceptedBy i.now) }
+{
+    match check(alloc, i, image) {
+        Ok(checked) => {
+            see_verified(&checked);
+            Ok(checked)
+        }
+        Err(why) => {
+            drop(why);
+            Err(Fail::new("an image is refused"))
+        }
+    }
+}
+
+/// Images that the checker takes, one for each module.
+#[tactic(auto, using(crate::proofs::Accepting::none_accepted, crate::proofs::Accepting::one_more))]
+pub fn checked_images(
+    alloc: Global,
+    i: &Interface,
+    images: &[Image<'_>],
+) -> Result<Vec<Checked>, Fail>
+    ensures { IfOk result (λ list. All (IsAcceptedBy i.now) list.items) }
+{
+    let mut list = Vec::new(alloc);
+    for image in images {
+        let image = verified(alloc, i, *image)?;
+        list.push(checked(alloc, i, image)?)?;
+    }
+    Ok(list)
+}

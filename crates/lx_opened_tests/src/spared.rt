@@ -1,0 +1,271 @@
+//! Whichever of the guards of spared stores an image has, its runs are the same.
+ghost use Rattle.std.specs.Prelude.{IfOk};
+ghost use Rattle.lx_input.specs.Laws.{IsReady};
+
+use crate::images::Image;
+use crate::inputs::input_of;
+use crate::runs::report_over;
+use lx_input::Input;
+use std::alloc::Global;
+use std::test::Fail;
+
+/// A kernel that notes numbers and lends its global.
+fn kernel() -> &'static str {
+    "@pool = global i64 0
+declare void @k.note(i64)
+define void @tell(i64 %n) {
+call void @k.note(i64 %n)
+ret void
+}
+define ptr @lend() {
+ret ptr @pool
+}
+"
+}
+
+/// The whole global is lent.
+fn lends_all() -> &'static str {
+    "interface 1
+export tell : void (i64 n)
+export lend : ptr () post(copy(write, return, 8))
+"
+}
+
+/// Half of the global is lent.
+fn lends_half() -> &'static str {
+    "interface 1
+export tell : void (i64 n)
+export lend : ptr () post(copy(write, return, 4))
+"
+}
+
+/// A call with all the fuel that it needs.
+fn fuelled() -> &'static str {
+    "lxfi case 1
+kernel file k.ll
+interface file k.txt
+module m m.ll
+thread
+call m:main 7 fuel 16
+"
+}
+
+/// The same with one unit less.
+fn short_of_fuel() -> &'static str {
+    "lxfi case 1
+kernel file k.ll
+interface file k.txt
+module m m.ll
+thread
+call m:main 7 fuel 15
+"
+}
+
+/// A module that stores three times to its stack, and once to what was lent. A line behind `-` stands in the module alone, one behind
+/// `+` in each of its images, and one behind `A`, `B` or `C` in those that have this guard.
+fn lines() -> &'static str {
+    "declare ptr @lend()
+declare void @tell(i64)
+define i64 @main(i64 %n) {
+0:
+  %a = alloca i64
+  %b = alloca i64
+A  call void @lxfi.guard(ptr %a, i64 8)
+  store i64 %n, ptr %a
+-  %p = call ptr @lend()
++  %p = call ptr @lxfi.out.lend()
++  call void @lxfi.guard(ptr %p, i64 8)
+  store i64 5, ptr %p
+B  call void @lxfi.guard(ptr %b, i64 8)
+  store i64 6, ptr %b
+  %x = load i64, ptr %a
+-  call void @tell(i64 %x)
++  call void @lxfi.out.tell(i64 %x)
+C  call void @lxfi.guard(ptr %b, i64 4)
+  store i32 9, ptr %b
+  %y = load i64, ptr %b
+  ret i64 %y
+}
++define ptr @lxfi.out.lend() {
++0:
++  call void @lxfi.enter(ptr @lend)
++  %r = call ptr @lend()
++  call void @lxfi.post(ptr @lend, i32 0)
++  call void @lxfi.leave(ptr @lend)
++  ret ptr %r
++}
++define void @lxfi.out.tell(i64 %0) {
++0:
++  call void @lxfi.enter(ptr @tell)
++  call void @tell(i64 %0)
++  call void @lxfi.leave(ptr @tell)
++  ret void
++}"
+}
+
+/// What lines are taken together for: the module, or an image with the guards of these marks.
+#[derive(Clone, Copy)]
+enum Version {
+    Module,
+    Image(&'static str),
+}
+
+/// Whether a line behind a mark stands in a version.
+fn has_mark(version: Version, mark: char) -> bool {
+    match version {
+        Version::Module => mark == '-',
+        Version::Image(guards) => mark == '+' || guards.contains(mark),
+    }
+}
+
+/// The line as it stands in a version, where it does.
+fn line_in(version: Version, line: &'static str) -> Option<&'static str> {
+    for mark in ['-', '+', 'A', 'B', 'C'] {
+        if let Some(rest) = line.strip_prefix(mark) {
+            return if has_mark(version, mark) {
+                Some(rest)
+            } else {
+                None
+            };
+        }
+    }
+    Some(line)
+}
+
+fn text_of(alloc: Global, version: Version) -> Result<String, Fail> {
+    let mut text = String::new(alloc);
+    for line in lines().lines() {
+        if let Some(line) = line_in(version, line) {
+            text.push_str(line)?;
+            text.push('\n')?;
+        }
+    }
+    Ok(text)
+}
+
+/// A run of the module: its case and interface, how many events it has, and what is reported of it.
+#[derive(Clone, Copy)]
+struct Run {
+    case: &'static str,
+    interface: &'static str,
+    events: usize,
+    report: &'static str,
+}
+
+/// With all its fuel, the call returns. Its units are the start, two allocas, the store, the call of `lend` with its return and the action
+/// behind it, two stores, a load, the call of `tell` with what it calls and its return, a store, a load and the return: sixteen, and the
+/// call's end is one event more. Guards cost nothing. What is read is the 9, over the low half of a 6. There are four stores to count, in
+/// the full image of the module.
+fn returns() -> Run {
+    Run {
+        case: fuelled(),
+        interface: lends_all(),
+        events: 17,
+        report: "schedule 0*17
+call 0.0 m:main returned 9
+note 0 7
+image m guards 4 checks 0 wrappers 2
+owns m.shared write 0x1000000+8
+owns m.shared call 0x10060
+owns m.shared call 0x10070
+owns m.shared call 0x10080
+",
+    }
+}
+
+/// With one unit less, it stops before its return.
+fn stops() -> Run {
+    Run {
+        case: short_of_fuel(),
+        interface: lends_all(),
+        events: 16,
+        report: "schedule 0*16
+call 0.0 m:main budget
+note 0 7
+image m guards 4 checks 0 wrappers 2
+owns m.shared write 0x1000000+8
+owns m.shared call 0x10060
+owns m.shared call 0x10070
+owns m.shared call 0x10080
+",
+    }
+}
+
+/// Where half is lent, the store to all is refused: the start, two allocas, the store to the stack, three of `lend`, and this one.
+fn is_refused() -> Run {
+    Run {
+        case: fuelled(),
+        interface: lends_half(),
+        events: 8,
+        report: "schedule 0*8
+call 0.0 m:main refused 1 m.shared write 0x1000000+8
+image m guards 4 checks 0 wrappers 2
+owns m.shared write 0x1000000+4
+owns m.shared call 0x10060
+owns m.shared call 0x10070
+owns m.shared call 0x10080
+",
+    }
+}
+
+/// What a run's case comes to, by the texts of its interface and its module.
+fn input_by<'a>(
+    alloc: Global,
+    case: &str,
+    interface: &'a str,
+    module: &'a str,
+) -> Result<Input, Fail>
+    ensures { IfOk result IsReady }
+{
+    let files = [("k.ll", kernel()), ("k.txt", interface), ("m.ll", module)];
+    input_of(alloc, case, &files)
+}
+
+/// Whether a run of the module over an image is reported as it is to be.
+fn is_reported(alloc: Global, module: &str, image: Image<'_>, run: Run) -> Result<bool, Fail> {
+    let input = input_by(alloc, run.case, run.interface, module)?;
+    let text = report_over(alloc, input, &[image], run.events)?;
+    Ok(text.as_slice() == run.report.as_bytes())
+}
+
+/// Which of the guards of spared stores an image may have.
+static CHOICES: [&str; 8] = ["", "A", "B", "C", "AB", "AC", "BC", "ABC"];
+
+/// The first choice of guards with which a run of the module is not reported as it is to be.
+fn first_wrong(alloc: Global, run: Run) -> Result<Option<&'static str>, Fail> {
+    let module = text_of(alloc, Version::Module)?;
+    for guards in CHOICES.as_slice() {
+        let image = text_of(alloc, Version::Image(*guards))?;
+        if !is_reported(alloc, module.as_str(), Image::Text(image.as_str()), run)? {
+            return Ok(Some(*guards));
+        }
+    }
+    Ok(None)
+}
+
+/// Whether a run is reported as it is to be over the images that are made of the module, with all guards and without those of spared
+/// stores.
+fn are_reported(alloc: Global, run: Run) -> Result<bool, Fail> {
+    let module = text_of(alloc, Version::Module)?;
+    let module = module.as_str();
+    let full = is_reported(alloc, module, Image::Full(module), run)?;
+    let spared = is_reported(alloc, module, Image::Spared(module), run)?;
+    Ok(full && spared)
+}
+
+#[test]
+fn with_any_guards_the_run_is_the_same(rt: HostRuntime) -> Result<(), Fail> {
+    for run in [returns(), stops(), is_refused()] {
+        let wrong = first_wrong(rt.alloc(), run)?;
+        assert_eq!(rt; wrong, None, "{}", run.report);
+    }
+    Ok(())
+}
+
+#[test]
+fn over_the_images_that_are_made_the_run_is_the_same(rt: HostRuntime) -> Result<(), Fail> {
+    for run in [returns(), stops(), is_refused()] {
+        assert!(rt; are_reported(rt.alloc(), run)?, "{}", run.report);
+    }
+    Ok(())
+}
