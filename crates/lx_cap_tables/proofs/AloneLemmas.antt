@@ -6,14 +6,14 @@ use Rattle.lx_caps.specs.declared.Atom.{Atom}
 use Rattle.lx_caps.specs.declared.Atom.TheVariants as atom
 use Rattle.lx_caps.specs.Once.{is_atom}
 use Rattle.lx_caps.specs.Order.{is_call_or_ref}
-use Rattle.lx_cap_tables.specs.declared.entry.Entry.{Entry}
-use Rattle.lx_cap_tables.specs.declared.entry.Spot.{Spot}
-use Rattle.lx_cap_tables.specs.declared.entry.Spot.TheVariants as spot
-use Rattle.lx_cap_tables.specs.Atoms.{same_atom, spot_atom, entry_atom, gives_atom, atom_among}
-use Rattle.lx_cap_tables.specs.Bits.{is_set}
-use Rattle.lx_cap_tables.specs.Holders.{held_by}
-use Rattle.lx_cap_tables.specs.Lists.{some_below}
-use Rattle.lx_cap_tables.specs.Owned.{alone, alone_by}
+use Rattle.lx_cap_lists.specs.declared.entry.Entry.{Entry}
+use Rattle.lx_cap_lists.specs.declared.entry.Spot.{Spot}
+use Rattle.lx_cap_lists.specs.declared.entry.Spot.TheVariants as spot
+use Rattle.lx_cap_lists.specs.Atoms.{same_atom, spot_atom, entry_atom, gives_atom, atom_among}
+use Rattle.lx_cap_lists.specs.Bits.{is_set}
+use Rattle.lx_cap_lists.specs.Holders.{held_by}
+use Rattle.lx_cap_lists.specs.Lists.{some_below}
+use Rattle.lx_cap_lists.specs.Owned.{alone, alone_by}
 use Rattle.lx_cap_tables.proofs.Below.{one_more_found, some_none}
 
 call_is : (a : ℕ) (there : Bool) (x : Atom) → (is_call_or_ref x && (there && same_atom (atom.Call a) x)) ≡ is_atom (alone (spot.Call a) there) x

@@ -2,19 +2,19 @@
 use Rattle.std.proofs.Common.{◌≡◌, ◌≢◌, ℕ, ◌+◌, ◌/◌, ◌%◌, ◌<◌, ◌≤◌, Bool, true, false, not, ◌&&◌, ◌||◌, nat_eq, List, length, Option, Some, None, refl, sym, ap, ◌∙◌, subst, arith}
 use Rattle.std.proofs.lemmas.Bool.Decides.{nat_tests}
 use Rattle.std.proofs.lemmas.List.{length_push}
-use Rattle.lx_cap_tables.specs.declared.holder.Holder.{Holder}
+use Rattle.lx_cap_lists.specs.declared.holder.Holder.{Holder}
 use Rattle.lx_caps.specs.declared.Atom.{Atom}
 use Rattle.lx_caps.specs.declared.Atom.TheVariants as atom
 use Rattle.lx_caps.specs.declared.Cap.TheVariants as cap
 use Rattle.lx_caps.specs.History.{has}
 use Rattle.lx_cap_nodes.specs.Words.{nodes_at}
-use Rattle.lx_cap_tables.specs.declared.entry.Entry.{Entry}
-use Rattle.lx_cap_tables.specs.Bits.{is_set}
-use Rattle.lx_cap_tables.specs.Entries.{bit_among, cut_all}
-use Rattle.lx_cap_tables.specs.Tables.{Key, same_key, call_key, ref_key, place_in, with_key, or_with, part_list, behind_parts, place_of, bit_of, shown_at, AreEmpty}
-use Rattle.lx_cap_tables.proofs.BitLemmas.{bit_cut}
-use Rattle.lx_cap_tables.proofs.KeyLemmas.{same_self, found_last, found_before, not_last, found_within, one_key}
-use Rattle.lx_cap_tables.proofs.PartLemmas.{list_below}
+use Rattle.lx_cap_lists.specs.declared.entry.Entry.{Entry}
+use Rattle.lx_cap_lists.specs.Bits.{is_set}
+use Rattle.lx_cap_lists.specs.Entries.{bit_among, cut_all}
+use Rattle.lx_cap_lists.specs.Tables.{Key, same_key, call_key, ref_key, place_in, with_key, or_with, part_list, behind_parts, place_of, bit_of, shown_at, AreEmpty}
+use Rattle.lx_cap_lists.proofs.BitLemmas.{bit_cut}
+use Rattle.lx_cap_lists.proofs.KeyLemmas.{same_self, found_last, found_before, not_last, found_within, one_key}
+use Rattle.lx_cap_lists.proofs.PartLemmas.{list_below}
 
 pub behind_far : (o : Option ℕ) (l : ℕ) → behind_parts o ≡ Some l → 0xc000 ≤ l
 behind_far None l e = absurd (cc)

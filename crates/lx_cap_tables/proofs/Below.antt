@@ -1,7 +1,7 @@
 -- A test of some number below a bound.
 use Rattle.std.proofs.Common.{◌≡◌, ℕ, zero, suc, ◌+◌, ◌<◌, Bool, true, false, ◌&&◌, ◌||◌, nat_eq, refl, sym, ap, ◌∙◌, arith}
 use Rattle.std.proofs.lemmas.Bool.Decides.{nat_tests}
-use Rattle.lx_cap_tables.specs.Lists.{some_below}
+use Rattle.lx_cap_lists.specs.Lists.{some_below}
 
 or_yes : (a b : Bool) → b ≡ true → (a || b) ≡ true
 or_yes true b e = refl

@@ -10,9 +10,9 @@ use Rattle.lx_caps.specs.Loans.{Ends, Newest, Every, Endings, none_end, with_end
 use Rattle.lx_caps.specs.LoanLaws.{open_loans}
 use Rattle.lx_caps.specs.Owners.{leaves}
 use Rattle.lx_caps.specs.History.{History, has, kept_among, owned_among, same_principal}
-use Rattle.lx_cap_tables.specs.declared.holder.Holder.{Holder}
-use Rattle.lx_cap_tables.specs.declared.holder.Holder.TheVariants.{Keeper, Borrower}
-use Rattle.lx_cap_tables.specs.Holders.{by_all, by_keepers, open_count, left_by, had, same_holder}
+use Rattle.lx_cap_lists.specs.declared.holder.Holder.{Holder}
+use Rattle.lx_cap_lists.specs.declared.holder.Holder.TheVariants.{Keeper, Borrower}
+use Rattle.lx_cap_lists.specs.Holders.{by_all, by_keepers, open_count, left_by, had, same_holder}
 
 same_ℕ : (m n : ℕ) → nat_eq m n ≡ true → m ≡ n
 same_ℕ m n e = grind (arith, nat_tests, e)

@@ -14,30 +14,30 @@ use Rattle.lx_cap_nodes.specs.declared.pool.Family.TheVariants as family
 use Rattle.lx_cap_nodes.specs.Names.{has as has_number, Apart}
 use Rattle.lx_cap_nodes.specs.Pool.{Pool}
 use Rattle.lx_cap_nodes.specs.Words.{names, nodes_at, PoolLaws}
-use Rattle.lx_cap_tables.specs.declared.entry.Entry.{Entry}
-use Rattle.lx_cap_tables.specs.declared.entry.Spot.{Spot}
-use Rattle.lx_cap_tables.specs.declared.entry.Spot.TheVariants as spot
-use Rattle.lx_cap_tables.specs.declared.holder.Holder.{Holder}
-use Rattle.lx_cap_tables.specs.declared.holder.Holder.TheVariants.{Keeper, Borrower}
-use Rattle.lx_cap_tables.specs.Bits.{is_set}
-use Rattle.lx_cap_tables.specs.Entries.{is_holder}
-use Rattle.lx_cap_tables.specs.Holders.{had, left_by, open_count, same_holder}
-use Rattle.lx_cap_tables.specs.Kept.{AreAll, IsMask, width_of, AreNodes, AllNodes}
-use Rattle.lx_cap_tables.specs.Loans.{loans_of, is_on}
-use Rattle.lx_cap_tables.specs.Tables.{Key, Shows, loan_key, holder_key, place_in, part_list, place_of_spot, call_key, ref_key, is_in_order, count_in, loans_work}
+use Rattle.lx_cap_lists.specs.declared.entry.Entry.{Entry}
+use Rattle.lx_cap_lists.specs.declared.entry.Spot.{Spot}
+use Rattle.lx_cap_lists.specs.declared.entry.Spot.TheVariants as spot
+use Rattle.lx_cap_lists.specs.declared.holder.Holder.{Holder}
+use Rattle.lx_cap_lists.specs.declared.holder.Holder.TheVariants.{Keeper, Borrower}
+use Rattle.lx_cap_lists.specs.Bits.{is_set}
+use Rattle.lx_cap_lists.specs.Entries.{is_holder}
+use Rattle.lx_cap_lists.specs.Holders.{had, left_by, open_count, same_holder}
+use Rattle.lx_cap_lists.specs.Kept.{AreAll, IsMask, width_of, AreNodes, AllNodes}
+use Rattle.lx_cap_lists.specs.Loans.{loans_of, is_on}
+use Rattle.lx_cap_lists.specs.Tables.{Key, Shows, loan_key, holder_key, place_in, part_list, place_of_spot, call_key, ref_key, is_in_order, count_in, loans_work}
 use Rattle.lx_cap_tables.specs.Work.{is_among, and_one, count_of, same_spot, parts_from, spots_of, Pair, same_pair, and_each, lent_pairs, has_now, has_at, is_lent, loans_and_pairs, shut_bound}
 use Rattle.lx_cap_tables.proofs.AtomLemmas.{behind_far}
 use Rattle.lx_cap_tables.proofs.Below.{some_from}
-use Rattle.lx_cap_tables.proofs.BitLemmas.{same_is}
+use Rattle.lx_cap_lists.proofs.BitLemmas.{same_is}
 use Rattle.lx_cap_tables.proofs.BoundLemmas.{has_bit}
 use Rattle.lx_cap_tables.proofs.EndLemmas.{on_loan}
-use Rattle.lx_cap_tables.proofs.KeyLemmas.{one_key}
+use Rattle.lx_cap_lists.proofs.KeyLemmas.{one_key}
 use Rattle.lx_cap_tables.proofs.Few.{added, added_self, few, ArePassing}
-use Rattle.lx_cap_tables.proofs.HeldLemmas.{and_yes, and_join, byte_of}
-use Rattle.lx_cap_tables.proofs.NodeLemmas.{width_part, width_behind}
-use Rattle.lx_cap_tables.proofs.PartLemmas.{list_below}
+use Rattle.lx_cap_lists.proofs.HeldLemmas.{and_yes, and_join, byte_of}
+use Rattle.lx_cap_lists.proofs.NodeLemmas.{width_part, width_behind}
+use Rattle.lx_cap_lists.proofs.PartLemmas.{list_below}
 use Rattle.lx_cap_tables.proofs.TieLemmas.{in_place, in_owner, value_place, same_self}
-use Rattle.lx_cap_tables.proofs.WalkLemmas.{same_from_eq, eq_self}
+use Rattle.lx_cap_lists.proofs.WalkLemmas.{same_from_eq, eq_self}
 
 or_yes : (a b : Bool) → b ≡ true → (a || b) ≡ true
 or_yes true b e = refl

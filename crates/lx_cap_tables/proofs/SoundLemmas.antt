@@ -4,7 +4,7 @@ use Rattle.lx_cap_nodes.specs.declared.pool.ListName.{ListName}
 use Rattle.lx_cap_nodes.specs.declared.pool.ListName.TheVariants as name
 use Rattle.lx_cap_nodes.specs.Pool.{Pool}
 use Rattle.lx_cap_nodes.specs.Words.{nodes_at}
-use Rattle.lx_cap_tables.specs.declared.entry.Entry.{Entry}
+use Rattle.lx_cap_lists.specs.declared.entry.Entry.{Entry}
 use Rattle.lx_caps.specs.declared.Principal.{Principal}
 use Rattle.lx_caps.specs.declared.Principal.TheVariants.{Kernel, Shared, Global, Inst}
 use Rattle.lx_caps.specs.declared.Cap.{Cap}
@@ -15,17 +15,17 @@ use Rattle.lx_caps.specs.Cells.{cells}
 use Rattle.lx_caps.specs.History.{History, holds, holds_by_reach, keeps_all, keeps_by_reach, reaches, each_atom, each_byte, same_principal}
 use Rattle.lx_caps.specs.Order.{is_behind, IsFirst, IsNextOwned}
 use Rattle.lx_caps.specs.Precedence.{follows, IsFirstPrincipal, IsNextOwner}
-use Rattle.lx_cap_tables.specs.declared.entry.Spot.{Spot}
-use Rattle.lx_cap_tables.specs.declared.entry.Spot.TheVariants as spot
-use Rattle.lx_cap_tables.specs.Tables.{Key, is_in_order, is_place, behind_parts, place_in, place_of_spot, call_key, ref_key, holder_key, Shows, shown_at, shown_cap, place_of, bit_of}
-use Rattle.lx_cap_tables.specs.Entries.{bit_among}
-use Rattle.lx_cap_tables.proofs.WalkLemmas.{eq_self}
-use Rattle.lx_cap_tables.proofs.HeldLemmas.{and_yes, and_join}
-use Rattle.lx_cap_tables.specs.Kept.{AreAll, Respects, FitsSpots, all_nodes, AllNodes, AreNodes, width_of}
-use Rattle.lx_cap_tables.specs.declared.holder.Holder.{Holder}
-use Rattle.lx_cap_tables.specs.declared.holder.InReach.TheVariants.{Owned, Kept}
-use Rattle.lx_cap_tables.specs.Holders.{counts, held_by, had}
-use Rattle.lx_cap_tables.specs.Loans.{is_open, loans_of}
+use Rattle.lx_cap_lists.specs.declared.entry.Spot.{Spot}
+use Rattle.lx_cap_lists.specs.declared.entry.Spot.TheVariants as spot
+use Rattle.lx_cap_lists.specs.Tables.{Key, is_in_order, is_place, behind_parts, place_in, place_of_spot, call_key, ref_key, holder_key, Shows, shown_at, shown_cap, place_of, bit_of}
+use Rattle.lx_cap_lists.specs.Entries.{bit_among}
+use Rattle.lx_cap_lists.proofs.WalkLemmas.{eq_self}
+use Rattle.lx_cap_lists.proofs.HeldLemmas.{and_yes, and_join}
+use Rattle.lx_cap_lists.specs.Kept.{AreAll, Respects, FitsSpots, all_nodes, AllNodes, AreNodes, width_of}
+use Rattle.lx_cap_lists.specs.declared.holder.Holder.{Holder}
+use Rattle.lx_cap_lists.specs.declared.holder.InReach.TheVariants.{Owned, Kept}
+use Rattle.lx_cap_lists.specs.Holders.{counts, held_by, had}
+use Rattle.lx_cap_lists.specs.Loans.{is_open, loans_of}
 use Rattle.lx_cap_tables.specs.Sound.{IsSound}
 use Rattle.lx_cap_tables.proofs.HadLemmas.{owned_is, kept_is}
 

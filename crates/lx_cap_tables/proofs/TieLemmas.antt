@@ -12,28 +12,28 @@ use Rattle.lx_cap_nodes.specs.declared.pool.ListName.TheVariants as name
 use Rattle.lx_cap_nodes.specs.Names.{has}
 use Rattle.lx_cap_nodes.specs.Pool.{Pool}
 use Rattle.lx_cap_nodes.specs.Words.{names, nodes_at, value_at, value_in, PoolLaws}
-use Rattle.lx_cap_tables.specs.declared.entry.Entry.{Entry}
-use Rattle.lx_cap_tables.specs.declared.entry.Spot.{Spot}
-use Rattle.lx_cap_tables.specs.declared.entry.Spot.TheVariants as spot
-use Rattle.lx_cap_tables.specs.Bits.{is_set}
-use Rattle.lx_cap_tables.specs.Entries.{gives_bit, bit_among}
-use Rattle.lx_cap_tables.specs.declared.holder.Holder.{Holder}
-use Rattle.lx_cap_tables.specs.declared.holder.Holder.TheVariants.{Keeper, Borrower}
-use Rattle.lx_cap_tables.specs.Atoms.{spot_atom, entry_atom, gives_atom, atom_among, spot_fits}
-use Rattle.lx_cap_tables.specs.Holders.{held_by, same_holder}
-use Rattle.lx_cap_tables.specs.Lists.{some_below}
-use Rattle.lx_cap_tables.specs.Loans.{is_open, loans_of}
-use Rattle.lx_cap_tables.specs.Owned.{AllFit, given_in, lent_atom, listed_atom}
-use Rattle.lx_cap_tables.specs.Kept.{all_nodes, AreAll}
-use Rattle.lx_cap_tables.specs.Tables.{Key, owner_key, loan_key, holder_key, call_key, ref_key, place_in, part_list, behind_parts, place_of, place_of_spot, bit_of, shown_at, is_place, is_in_order}
-use Rattle.lx_cap_tables.proofs.WalkLemmas.{same_from_eq, eq_self}
-use Rattle.lx_cap_tables.proofs.BitLemmas.{same_who}
-use Rattle.lx_cap_tables.proofs.HeldLemmas.{and_yes, and_join}
+use Rattle.lx_cap_lists.specs.declared.entry.Entry.{Entry}
+use Rattle.lx_cap_lists.specs.declared.entry.Spot.{Spot}
+use Rattle.lx_cap_lists.specs.declared.entry.Spot.TheVariants as spot
+use Rattle.lx_cap_lists.specs.Bits.{is_set}
+use Rattle.lx_cap_lists.specs.Entries.{gives_bit, bit_among}
+use Rattle.lx_cap_lists.specs.declared.holder.Holder.{Holder}
+use Rattle.lx_cap_lists.specs.declared.holder.Holder.TheVariants.{Keeper, Borrower}
+use Rattle.lx_cap_lists.specs.Atoms.{spot_atom, entry_atom, gives_atom, atom_among, spot_fits}
+use Rattle.lx_cap_lists.specs.Holders.{held_by, same_holder}
+use Rattle.lx_cap_lists.specs.Lists.{some_below}
+use Rattle.lx_cap_lists.specs.Loans.{is_open, loans_of}
+use Rattle.lx_cap_lists.specs.Owned.{AllFit, given_in, lent_atom, listed_atom}
+use Rattle.lx_cap_lists.specs.Kept.{all_nodes, AreAll}
+use Rattle.lx_cap_lists.specs.Tables.{Key, owner_key, loan_key, holder_key, call_key, ref_key, place_in, part_list, behind_parts, place_of, place_of_spot, bit_of, shown_at, is_place, is_in_order}
+use Rattle.lx_cap_lists.proofs.WalkLemmas.{same_from_eq, eq_self}
+use Rattle.lx_cap_lists.proofs.BitLemmas.{same_who}
+use Rattle.lx_cap_lists.proofs.HeldLemmas.{and_yes, and_join}
 use Rattle.lx_cap_tables.proofs.Below.{some_from, some_inside}
-use Rattle.lx_cap_tables.proofs.KeyLemmas.{one_key}
-use Rattle.lx_cap_tables.proofs.PartLemmas.{one_part, list_below, part_small}
+use Rattle.lx_cap_lists.proofs.KeyLemmas.{one_key}
+use Rattle.lx_cap_lists.proofs.PartLemmas.{one_part, list_below, part_small}
 use Rattle.lx_cap_tables.proofs.AtomLemmas.{behind_far}
-use Rattle.lx_cap_tables.specs.declared.holder.Holder.{Holder}
+use Rattle.lx_cap_lists.specs.declared.holder.Holder.{Holder}
 
 -- a list split at a node with such an entry
 record Split (es : List (ℕ × Entry)) (p : Entry → Type 0) : Type 0 where

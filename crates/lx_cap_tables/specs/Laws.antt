@@ -6,8 +6,8 @@ use Rattle.lx_caps.specs.declared.Cap.TheVariants.{Write, Call}
 use Rattle.lx_caps.specs.declared.Atom.{Atom}
 use Rattle.lx_caps.specs.declared.Act.TheVariants.{Grant, Strip, Loan, Lend, Shut}
 use Rattle.lx_caps.specs.History.{History, keeps, owns}
-use Rattle.lx_cap_tables.specs.declared.holder.Holder.TheVariants.{Keeper}
-use Rattle.lx_cap_tables.specs.Holders.{had, held_by, same_holder}
+use Rattle.lx_cap_lists.specs.declared.holder.Holder.TheVariants.{Keeper}
+use Rattle.lx_cap_lists.specs.Holders.{had, held_by, same_holder}
 use Rattle.lx_cap_tables.specs.Work.{shut_bound, strip_bound}
 
 pub record HolderLaws : Type 0 where

@@ -1,15 +1,4 @@
-pub mod Bits
-pub mod Pieces
-pub mod Walks
-pub mod Holders
-pub mod Loans
-pub mod Entries
-pub mod Lists
-pub mod Tables
 pub mod Sound
-pub mod Kept
-pub mod Atoms
-pub mod Owned
 pub mod Gathered
 pub mod Work
 pub mod Laws

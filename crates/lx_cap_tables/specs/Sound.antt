@@ -5,12 +5,12 @@ use Rattle.lx_caps.specs.declared.Act.{Act}
 use Rattle.lx_caps.specs.declared.Atom.{Atom}
 use Rattle.lx_caps.specs.Placed.{AllPlaced, is_placed_act}
 use Rattle.lx_cap_nodes.specs.Pool.{Pool}
-use Rattle.lx_cap_tables.specs.declared.entry.Entry.{Entry}
-use Rattle.lx_cap_tables.specs.Holders.{had, left_by, open_count}
-use Rattle.lx_cap_tables.specs.declared.holder.Holder.{Holder}
-use Rattle.lx_cap_tables.specs.Loans.{loans_of}
-use Rattle.lx_cap_tables.specs.Tables.{Key, AreEmpty, Shows, is_in_order}
-use Rattle.lx_cap_tables.specs.Kept.{AreAll, AllNodes}
+use Rattle.lx_cap_lists.specs.declared.entry.Entry.{Entry}
+use Rattle.lx_cap_lists.specs.Holders.{had, left_by, open_count}
+use Rattle.lx_cap_lists.specs.declared.holder.Holder.{Holder}
+use Rattle.lx_cap_lists.specs.Loans.{loans_of}
+use Rattle.lx_cap_lists.specs.Tables.{Key, AreEmpty, Shows, is_in_order}
+use Rattle.lx_cap_lists.specs.Kept.{AreAll, AllNodes}
 
 -- what contracts see of the tables
 pub record Tables : Type 0 where

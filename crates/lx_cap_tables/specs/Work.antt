@@ -6,13 +6,13 @@ use Rattle.lx_caps.specs.declared.Atom.{Atom}
 use Rattle.lx_caps.specs.declared.Atom.TheVariants as atom
 use Rattle.lx_caps.specs.declared.Act.TheVariants.{Grant, Strip, Zero, Loan, Lend, Shut, ShutAll}
 use Rattle.lx_caps.specs.History.{History}
-use Rattle.lx_cap_tables.specs.declared.entry.Spot.{Spot}
-use Rattle.lx_cap_tables.specs.declared.entry.Spot.TheVariants as spot
-use Rattle.lx_cap_tables.specs.declared.holder.Holder.{Holder}
-use Rattle.lx_cap_tables.specs.declared.holder.Holder.TheVariants.{Keeper, Borrower}
-use Rattle.lx_cap_tables.specs.Lists.{some_below}
-use Rattle.lx_cap_tables.specs.Loans.{is_on}
-use Rattle.lx_cap_tables.specs.Holders.{had, open_count, same_holder}
+use Rattle.lx_cap_lists.specs.declared.entry.Spot.{Spot}
+use Rattle.lx_cap_lists.specs.declared.entry.Spot.TheVariants as spot
+use Rattle.lx_cap_lists.specs.declared.holder.Holder.{Holder}
+use Rattle.lx_cap_lists.specs.declared.holder.Holder.TheVariants.{Keeper, Borrower}
+use Rattle.lx_cap_lists.specs.Lists.{some_below}
+use Rattle.lx_cap_lists.specs.Loans.{is_on}
+use Rattle.lx_cap_lists.specs.Holders.{had, open_count, same_holder}
 
 module _ {P : Type 0} where
   abbrev pub is_among : (P → P → Bool) → P → List P → Bool

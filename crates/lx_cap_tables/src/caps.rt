@@ -1,24 +1,23 @@
 //! Capabilities and their atoms.
 ghost use Rattle.std.specs.Prelude.{true, ◌≡◌, ◌≢◌, ◌+◌, ◌^◌, ◌<◌, ◌≤◌, ℕ, Bool, ◌&&◌, ◌||◌, not, length, Some};
 ghost use Rattle.indexmap.specs.IndexSet.{spare};
-ghost use Rattle.lx_cap_tables.specs.declared.holder.Holder.{Holder};
+ghost use Rattle.lx_cap_lists.specs.declared.holder.Holder.{Holder};
 ghost use Rattle.lx_caps.specs.declared.Atom.{Atom};
 ghost use Rattle.lx_caps.specs.Cells.{cells};
 ghost use Rattle.lx_caps.specs.History.{has};
 ghost use Rattle.lx_caps.specs.Placed.{is_placed};
 ghost use Rattle.lx_cap_nodes.specs.Words.{nodes_at};
-ghost use Rattle.lx_cap_tables.specs.Entries.{bit_among, cut_all};
+ghost use Rattle.lx_cap_lists.specs.Entries.{bit_among, cut_all};
 ghost use Rattle.lx_cap_nodes.specs.declared.pool.ListName.{ListName};
-ghost use Rattle.lx_cap_tables.specs.declared.entry.Entry.{Entry};
-ghost use Rattle.lx_cap_tables.specs.Kept.{AllNodes, AreAll, Fits, FitsSpots, Respects};
-ghost use Rattle.lx_cap_tables.specs.Tables.{AreEmpty, behind_parts, bit_of, cap_work, count_in, place_in, place_of, shown_at, with_key};
+ghost use Rattle.lx_cap_lists.specs.declared.entry.Entry.{Entry};
+ghost use Rattle.lx_cap_lists.specs.Kept.{AllNodes, AreAll, Fits, FitsSpots, Respects};
+ghost use Rattle.lx_cap_lists.specs.Tables.{AreEmpty, behind_parts, bit_of, cap_work, count_in, place_in, place_of, shown_at, with_key};
 
-use crate::entry::{Entry, Spot};
-use crate::holder::Holder;
-use crate::keys::{Key, call_key, place_for, place_in, ref_key};
-use crate::lists::{Pool, give, take};
-use crate::parts::{give_range, take_range};
 use indexmap::IndexSet;
+use lx_cap_lists::{
+    Entry, Holder, Key, Pool, Spot, call_key, give, give_range, place_for, place_in, ref_key, take,
+    take_range,
+};
 use lx_caps::{Cap, Steps};
 use std::sync::ledger::Ledger;
 

@@ -6,21 +6,20 @@ ghost use Rattle.lx_caps.specs.declared.Atom.{Atom};
 ghost use Rattle.lx_caps.specs.declared.Atom.TheVariants.{Byte};
 ghost use Rattle.lx_caps.specs.Order.{is_call_or_ref, stands_in};
 ghost use Rattle.lx_cap_nodes.specs.Words.{nodes_at};
-ghost use Rattle.lx_cap_tables.specs.Atoms.{atom_among, gives_atom, spot_fits};
-ghost use Rattle.lx_cap_tables.specs.Kept.{all_nodes};
-ghost use Rattle.lx_cap_tables.specs.Lists.{some_below};
-ghost use Rattle.lx_cap_tables.specs.Loans.{loans_of};
-ghost use Rattle.lx_cap_tables.specs.Owned.{AllFit, alone_by, lent_atom, listed_atom};
+ghost use Rattle.lx_cap_lists.specs.Atoms.{atom_among, gives_atom, spot_fits};
+ghost use Rattle.lx_cap_lists.specs.Kept.{all_nodes};
+ghost use Rattle.lx_cap_lists.specs.Lists.{some_below};
+ghost use Rattle.lx_cap_lists.specs.Loans.{loans_of};
+ghost use Rattle.lx_cap_lists.specs.Owned.{AllFit, alone_by, lent_atom, listed_atom};
 ghost use Rattle.lx_cap_tables.specs.Gathered.{has_part, is_byte, PartFits};
-ghost use Rattle.lx_cap_tables.specs.Tables.{loan_key, owner_key};
+ghost use Rattle.lx_cap_lists.specs.Tables.{loan_key, owner_key};
 
-use crate::entry::{Entry, Spot, atom_alone};
-use crate::holder::principal_of;
-use crate::keys::{Key, loan_key, owner_key, place_in};
-use crate::lists::{Pool, visit};
 use crate::loans::THREADS;
 use indexmap::IndexSet;
 use lx_byte_ranges::PartBytes;
+use lx_cap_lists::{
+    Entry, Key, Pool, Spot, atom_alone, loan_key, owner_key, place_in, principal_of, visit,
+};
 use lx_cap_nodes::ListName;
 use lx_caps::{Atom, Memory, Principal, is_same, put_found};
 use std::alloc::Global;
@@ -30,7 +29,7 @@ use std::marker::Model;
 pub(crate) trait Gather {
     ghost use Rattle.std.specs.Prelude.{◌≡◌, Bool, ◌&&◌, ◌||◌, true, OnOk};
     ghost use Rattle.lx_caps.specs.declared.Atom.{Atom};
-    ghost use Rattle.lx_cap_tables.specs.Atoms.{gives_atom, spot_fits};
+    ghost use Rattle.lx_cap_lists.specs.Atoms.{gives_atom, spot_fits};
 
     /// The atom is of the kind.
     ghost of_kind: { Atom → Bool };

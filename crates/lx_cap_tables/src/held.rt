@@ -5,27 +5,25 @@ ghost use Rattle.lx_caps.specs.History.{each_byte};
 ghost use Rattle.lx_caps.specs.Placed.{is_placed};
 ghost use Rattle.lx_caps.specs.Regions.{mapped};
 ghost use Rattle.lx_caps.specs.Precedence.{follows, IsFirstPrincipal};
-ghost use Rattle.lx_cap_tables.specs.Holders.{counts, held_by};
+ghost use Rattle.lx_cap_lists.specs.Holders.{counts, held_by};
 ghost use Rattle.lx_caps.specs.declared.Atom.{Atom};
 ghost use Rattle.lx_caps.specs.declared.Atom.TheVariants.{Byte};
-ghost use Rattle.lx_cap_tables.specs.Tables.{Key};
+ghost use Rattle.lx_cap_lists.specs.Tables.{Key};
 ghost use Rattle.lx_caps.specs.Order.{is_behind, IsFirst};
-ghost use Rattle.lx_cap_tables.specs.Kept.{AreAll};
-ghost use Rattle.lx_cap_tables.specs.Lists.{some_below};
-ghost use Rattle.lx_cap_tables.specs.Loans.{loans_of};
-ghost use Rattle.lx_cap_tables.specs.Owned.{AllFit, lent_atom, listed_atom, owned_from};
-ghost use Rattle.lx_cap_tables.specs.Tables.{behind_parts, bit_of, HoldsPart, is_in_order, owner_key, part_list, place_in, place_of, shown_at, shown_cap};
+ghost use Rattle.lx_cap_lists.specs.Kept.{AreAll};
+ghost use Rattle.lx_cap_lists.specs.Lists.{some_below};
+ghost use Rattle.lx_cap_lists.specs.Loans.{loans_of};
+ghost use Rattle.lx_cap_lists.specs.Owned.{AllFit, lent_atom, listed_atom, owned_from};
+ghost use Rattle.lx_cap_lists.specs.Tables.{behind_parts, bit_of, HoldsPart, is_in_order, owner_key, part_list, place_in, place_of, shown_at, shown_cap};
 
-use crate::bits::is_set;
 use crate::caps::list_of_key;
-use crate::entry::{bits_from, first_byte, sooner};
-use crate::holder::InReach;
-use crate::keys::{Key, call_key, loan_key, owner_key, place_in, ref_key};
-use crate::lists::{Pool, first_owned, first_owner, reached};
 use crate::loans::THREADS;
-use crate::parts::list_of_part;
-use crate::piece::{PART, parts_end, piece_bits, piece_of};
 use indexmap::IndexSet;
+use lx_cap_lists::{
+    InReach, Key, PART, Pool, bits_from, call_key, first_byte, first_owned, first_owner, is_set,
+    list_of_part, loan_key, owner_key, parts_end, piece_bits, piece_of, place_in, reached, ref_key,
+    sooner,
+};
 use lx_caps::{Atom, Cap, Principal};
 
 /// Whether each of these bits is among the others.

@@ -15,18 +15,11 @@
 //! ```
 #![tactic(auto)]
 
-mod bits;
 mod caps;
-mod entry;
 mod gather;
 mod held;
-mod holder;
-mod keys;
 mod laws;
-mod lists;
 mod loans;
-mod parts;
-mod piece;
 mod tables;
 
 pub use laws::{holder_laws, worked_bounds};

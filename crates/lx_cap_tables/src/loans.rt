@@ -2,15 +2,14 @@
 ghost use Rattle.std.specs.Prelude.{◌≡◌, ◌≢◌, ◌-◌, ◌+◌, ◌<◌, ◌≤◌, ℕ, Bool, [], true, length, not, List, Some, IfSome};
 ghost use Rattle.lx_cap_nodes.specs.Words.{nodes_at};
 ghost use Rattle.lx_cap_nodes.specs.declared.pool.ListName.{ListName};
-ghost use Rattle.lx_cap_tables.specs.declared.entry.Entry.{Entry};
-ghost use Rattle.lx_cap_tables.specs.declared.holder.Holder.{Holder};
-ghost use Rattle.lx_cap_tables.specs.Entries.{bit_among};
-ghost use Rattle.lx_cap_tables.specs.Kept.{all_nodes, AllNodes, AreAll, AreEnded, StayBut};
-ghost use Rattle.lx_cap_tables.specs.Tables.{Key, count_in, is_in_order, loan_key, loans_work, place_in};
+ghost use Rattle.lx_cap_lists.specs.declared.entry.Entry.{Entry};
+ghost use Rattle.lx_cap_lists.specs.declared.holder.Holder.{Holder};
+ghost use Rattle.lx_cap_lists.specs.Entries.{bit_among};
+ghost use Rattle.lx_cap_lists.specs.Kept.{all_nodes, AllNodes, AreAll, AreEnded, StayBut};
+ghost use Rattle.lx_cap_lists.specs.Tables.{Key, count_in, is_in_order, loan_key, loans_work, place_in};
 
-use crate::keys::{Key, loan_key, place_in};
-use crate::lists::{Pool, take_all};
 use indexmap::IndexSet;
+use lx_cap_lists::{Key, Pool, loan_key, place_in, take_all};
 use lx_caps::Steps;
 use std::sync::ledger::Ledger;
 

@@ -9,7 +9,7 @@ use Rattle.lx_model.specs.Thread.{first_fuel, has_call}
 use Rattle.lx_model.specs.Next.{other_calls}
 use Rattle.lx_images.specs.Image.{Code, after_end}
 use Rattle.lx_interp.specs.declared.runner.Runner.{Runner}
-use Rattle.lx_interp.specs.Runner.{calls_left, events_left, events_of, unpaid_events, paid, paid_for, thread_of}
+use Rattle.lx_interp.specs.Runner.{calls_left, events_left, events_of, paid, paid_for, thread_of, unpaid_events}
 
 -- no call is left where as many have ended
 none_before : (n : ℕ) → leb (suc n) 0 ≡ false
@@ -62,8 +62,3 @@ paid_at_most (what.Perform n post k env source dest) = omega arith
 paid_at_most (what.Return low high) = omega arith
 paid_at_most (what.Native k args) = omega arith
 paid_at_most (what.Finish o) = omega arith
-
--- the same calls are left
-pub same_events : (old new : Runner) → new.calls ≡ old.calls → new.endings ≡ old.endings → unpaid_events (calls_left new) ≡ unpaid_events (calls_left old)
-same_events old new calls ended =
-    ap (λ (xs : List ScriptCall). unpaid_events (drop (length new.endings.items) xs)) calls ∙ ap (λ v. unpaid_events (drop (length v.items) old.calls)) ended

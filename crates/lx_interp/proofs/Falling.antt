@@ -18,7 +18,7 @@ use Rattle.lx_model.specs.Next.{has_action, request}
 use Rattle.lx_images.specs.Image.{Code, Place, AtPre, AtPost, ImageFrame, Runs, Wraps, ImageThread, ImageStep, ImageAsking, Goes, Asks, Marks, no_marks, if_paid, if_room, has_room, comes_to, effect_step, wrapped_import, costly_step, one_step, instruction_step, after_leaving, with_shadow, tail, perform, post_line, wrapper_line, start_step, frame_step, due_or, image_next_within}
 use Rattle.lx_image_steps.specs.Marks.{plain_step}
 use Rattle.lx_image_steps.specs.Standing.{head_of}
-use Rattle.lx_interp.specs.Frames.{marked_frame_step}
+use Rattle.lx_frames.specs.Frames.{marked_frame_step}
 use Rattle.lx_interp.specs.Runner.{marked_step}
 
 abbrev pub steps_left : ImageThread → ℕ

@@ -1,9 +1,7 @@
 pub mod Calls
-pub mod Counting
 pub mod Falling
 pub mod Lines
 pub mod Marking
 pub mod Takings
 pub mod Goings
-pub mod Entering
 pub mod Replies

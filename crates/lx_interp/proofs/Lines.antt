@@ -9,12 +9,12 @@ use Rattle.lx_model.specs.Next.{has_action}
 use Rattle.lx_images.specs.Image.{Code, ImageFrame, ImageThread, ImageStep, Wraps, Marks, comes_to, frame_step, if_paid, post_line, start_step}
 use Rattle.lx_image_steps.specs.Marks.{plain_step}
 use Rattle.lx_image_steps.specs.Standing.{head_of, run_of}
-use Rattle.lx_interp.specs.declared.frame.Place.{Place as KeptPlace}
-use Rattle.lx_interp.specs.declared.frame.Place.TheVariants as kept_place
-use Rattle.lx_interp.specs.declared.frame.Frame.{Frame as KeptFrame}
-use Rattle.lx_interp.specs.declared.frame.Frame.TheVariants as kept
-use Rattle.lx_interp.specs.Frames.{Stack, frame_of, frames_of, marked_frame_step, place_of}
-use Rattle.lx_interp.specs.Runner.{IsUnwrapped, action_on, args_on, costly_or_none, function_on, instruction_in, marks_in, place_on, poorer, running_on}
+use Rattle.lx_frames.specs.declared.frame.Place.{Place as KeptPlace}
+use Rattle.lx_frames.specs.declared.frame.Place.TheVariants as kept_place
+use Rattle.lx_frames.specs.declared.frame.Frame.{Frame as KeptFrame}
+use Rattle.lx_frames.specs.declared.frame.Frame.TheVariants as kept
+use Rattle.lx_frames.specs.Frames.{IsUnwrapped, Stack, args_on, frame_of, frames_of, function_on, marked_frame_step, place_of, place_on, running_on}
+use Rattle.lx_interp.specs.Runner.{action_on, costly_or_none, instruction_in, marks_in, poorer}
 
 -- a step that costs a unit
 pub paid_step : (v : ImageThread) (go : ImageThread → ImageStep) → 0 < v.fuel → if_paid v go ≡ go (poorer v)

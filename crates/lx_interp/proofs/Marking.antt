@@ -9,11 +9,12 @@ use Rattle.lx_model.specs.Effect.{Effect, Moves, Wants, Enters, Calls, Traps, ef
 use Rattle.lx_images.specs.Image.{Code, ImageFrame, ImageThread, ImageStep, Goes, Asks, Runs, Wraps, Marks, comes_to, costly_step, due_or, effect_step, has_room, if_paid, if_room, with_frames, wrapped_import}
 use Rattle.lx_image_steps.specs.Marks.{plain_step}
 use Rattle.lx_image_steps.specs.Standing.{head_of}
-use Rattle.lx_interp.specs.declared.frame.Frame.{Frame as KeptFrame}
-use Rattle.lx_interp.specs.declared.frame.Frame.TheVariants as kept
+use Rattle.lx_frames.specs.declared.frame.Frame.{Frame as KeptFrame}
+use Rattle.lx_frames.specs.declared.frame.Frame.TheVariants as kept
 use Rattle.lx_interp.specs.declared.runner.Runner.{Runner}
-use Rattle.lx_interp.specs.Frames.{Stack, frame_of, frames_of, marked_frame_step, runs}
-use Rattle.lx_interp.specs.Runner.{GoesOn, IsReadyIf, asking_behind, asking_or, marked_step, thread_of}
+use Rattle.lx_frames.specs.Frames.{Stack, frame_of, frames_of, marked_frame_step, runs}
+use Rattle.lx_frames.specs.Stack.{IsReadyIf}
+use Rattle.lx_interp.specs.Runner.{GoesOn, asking_behind, asking_or, marked_step, thread_of}
 use Rattle.lx_interp.proofs.Takings.{left_same, thread_is}
 
 -- what a function on top comes to has nothing of the frames that the thread had
@@ -84,26 +85,26 @@ abbrev pub TakesMarks : Code → KeptFrame → KeptFrame → Option Marks → Ty
 TakesMarks c f g None = g ≡ f
 TakesMarks c f g (Some m) = IsSome (runs g) × ((w : ImageThread) (hs : List ImageFrame) → marked_frame_step c None w (frame_of c f ∷ hs) ≡ marked_frame_step c (Some m) w (frame_of c g ∷ hs))
 
-thread_with : (c : Code) (old new : Runner) (g : KeptFrame) → new.calls ≡ old.calls → new.endings ≡ old.endings → new.fuel ≡ old.fuel → new.due ≡ old.due → new.top ≡ Some g → new.below ≡ old.below → new.shadow ≡ old.shadow →
-    thread_of c new ≡ with_frames (frame_of c g ∷ map (frame_of c) old.below.frames) (thread_of c old)
+thread_with : (c : Code) (old new : Runner) (g : KeptFrame) → new.calls ≡ old.calls → new.endings ≡ old.endings → new.fuel ≡ old.fuel → new.due ≡ old.due → new.stack.top ≡ Some g → new.stack.below ≡ old.stack.below → new.stack.shadow ≡ old.stack.shadow →
+    thread_of c new ≡ with_frames (frame_of c g ∷ map (frame_of c) old.stack.below.frames) (thread_of c old)
 thread_with c old new g e1 e2 e3 e4 e5 e6 e7 =
     thread_is c new _ _ _ _ _ _ (left_same old new e1 e2) (ap (λ v. v.items) e2) e3 e4
-    (ap (λ (o : Option KeptFrame). frames_of c o new.below) e5 ∙ ap (λ (s : Stack). frame_of c g ∷ map (frame_of c) s.frames) e6) (ap (λ s. s.principals) e7)
+    (ap (λ (o : Option KeptFrame). frames_of c o new.stack.below) e5 ∙ ap (λ (s : Stack). frame_of c g ∷ map (frame_of c) s.frames) e6) (ap (λ s. s.principals) e7)
 
-asks_same : (c : Code) (old new : Runner) (f g : KeptFrame) (taken : Option Marks) → old.due ≡ None → old.top ≡ Some f → TakesMarks c f g taken →
-    thread_of c new ≡ with_frames (frame_of c g ∷ map (frame_of c) old.below.frames) (thread_of c old) → asking_or c taken (thread_of c new) None ≡ asking_or c None (thread_of c old) None
+asks_same : (c : Code) (old new : Runner) (f g : KeptFrame) (taken : Option Marks) → old.due ≡ None → old.stack.top ≡ Some f → TakesMarks c f g taken →
+    thread_of c new ≡ with_frames (frame_of c g ∷ map (frame_of c) old.stack.below.frames) (thread_of c old) → asking_or c taken (thread_of c new) None ≡ asking_or c None (thread_of c old) None
 asks_same c old new f g None due top h state =
     ap (λ v. asking_or c None v None)
     (state
-    ∙ ap (λ x. with_frames (frame_of c x ∷ map (frame_of c) old.below.frames) (thread_of c old)) h
+    ∙ ap (λ x. with_frames (frame_of c x ∷ map (frame_of c) old.stack.below.frames) (thread_of c old)) h
     ∙ sym (thread_with c old old f refl refl refl refl top refl refl))
 asks_same c old new f g (Some m) due top h state =
     ap (λ v. asking_or c (Some m) v None) state
-    ∙ marks_taken c m (thread_of c old) (frame_of c f) (frame_of c g) (map (frame_of c) old.below.frames) due (function_of c g h.0) h.1
+    ∙ marks_taken c m (thread_of c old) (frame_of c f) (frame_of c g) (map (frame_of c) old.stack.below.frames) due (function_of c g h.0) h.1
     ∙ ap (λ v. asking_or c None v None) (sym (thread_with c old old f refl refl refl refl top refl refl))
 
-pub passed_on : (c : Code) (old new : Runner) (f g : KeptFrame) (taken : Option Marks) → old.request ≡ None → old.due ≡ None → old.marks ≡ None → old.top ≡ Some f → TakesMarks c f g taken →
-    new.thread ≡ old.thread → new.calls ≡ old.calls → new.endings ≡ old.endings → new.fuel ≡ old.fuel → new.due ≡ old.due → new.top ≡ Some g → new.below ≡ old.below → new.shadow ≡ old.shadow → new.marks ≡ taken → new.request ≡ old.request →
+pub passed_on : (c : Code) (old new : Runner) (f g : KeptFrame) (taken : Option Marks) → old.request ≡ None → old.due ≡ None → old.marks ≡ None → old.stack.top ≡ Some f → TakesMarks c f g taken →
+    new.thread ≡ old.thread → new.calls ≡ old.calls → new.endings ≡ old.endings → new.fuel ≡ old.fuel → new.due ≡ old.due → new.stack.top ≡ Some g → new.stack.below ≡ old.stack.below → new.stack.shadow ≡ old.stack.shadow → new.marks ≡ taken → new.request ≡ old.request →
     GoesOn c old new
 passed_on c old new f g taken idle due marks top h e0 e1 e2 e3 e4 e5 e6 e7 e8 e9 =
     record {
@@ -116,7 +117,7 @@ passed_on c old new f g taken idle due marks top h e0 e1 e2 e3 e4 e5 e6 e7 e8 e9
           ∙ asks_same c old new f g taken due top h (thread_with c old new g e1 e2 e3 e4 e5 e6 e7)
           ∙ ap (λ (m : Option Marks). asking_or c m (thread_of c old) None) (sym marks)
           ∙ ap (asking_or c old.marks (thread_of c old)) (sym idle);
-      ready = subst (IsReadyIf c new) (sym (e9 ∙ idle)) tt;
+      ready = subst (IsReadyIf c new.stack) (sym (e9 ∙ idle)) tt;
     }
 
 pub taken_marks : (c : Code) (f g : KeptFrame) (taken : Option Marks) →

@@ -1,6 +1,6 @@
 -- Steps as the runner takes them.
-use Rattle.std.proofs.Common.{◌≡◌, ℕ, zero, suc, ◌+◌, ◌-◌, ◌<◌, ◌≤◌, Bool, true, false, Option, Some, None, IsSome, List, [], ◌∷◌, length, map, drop, get_or, IsTrue, refl, sym, ap, ◌∙◌, subst, arith}
-use Rattle.std.specs.Prelude.{slice_get, vec_capacity}
+use Rattle.std.proofs.Common.{◌≡◌, ℕ, zero, suc, ◌-◌, ◌<◌, Bool, true, false, Option, Some, None, IsSome, List, [], ◌∷◌, length, map, drop, get_or, IsTrue, refl, sym, ap, ◌∙◌, subst, arith}
+use Rattle.std.specs.Prelude.{slice_get}
 use Rattle.lx_words.specs.Word.{Word}
 use Rattle.lx_caps.specs.declared.Principal.{Principal}
 use Rattle.lx_caps.specs.declared.Principal.TheVariants.{Kernel}
@@ -20,12 +20,14 @@ use Rattle.lx_images.specs.Image.{Code, ImageFrame, Runs, Wraps, AtEnter, ImageT
 use Rattle.lx_image_steps.specs.Standing.{run_of}
 use Rattle.lx_image_steps.specs.declared.activation.Activation.{Activation as Running}
 use Rattle.lx_image_steps.specs.declared.effect.Effect.TheVariants as found
-use Rattle.lx_interp.specs.declared.frame.Place.TheVariants as kept_place
-use Rattle.lx_interp.specs.declared.frame.Frame.{Frame as KeptFrame}
-use Rattle.lx_interp.specs.declared.frame.Frame.TheVariants as kept
+use Rattle.lx_frames.specs.declared.frame.Place.TheVariants as kept_place
+use Rattle.lx_frames.specs.declared.frame.Frame.{Frame as KeptFrame}
+use Rattle.lx_frames.specs.declared.frame.Frame.TheVariants as kept
+use Rattle.lx_frames.specs.declared.stack.FrameStack.{FrameStack}
 use Rattle.lx_interp.specs.declared.runner.Runner.{Runner}
-use Rattle.lx_interp.specs.Frames.{HasSpaceOn, Stack, arrival_in, changed, frame_of, frames_of, runs}
-use Rattle.lx_interp.specs.Runner.{CanEnter, CanGoIn, CanGoOn, HasTaken, HasStayed, HasRoomFor, IsPrepared, IsReadyIf, IsRoomier, action_of, action_on, asker_in, args_on, calls_left, effect_in, function_on, place_on, poorer, running_on, taken, thread_of, wrapper_in}
+use Rattle.lx_frames.specs.Frames.{Stack, args_on, arrival_in, changed, frame_of, frames_of, function_on, place_on, running_on, runs}
+use Rattle.lx_frames.specs.Stack.{CanEnter, CanGoOn, HasRoomFor, IsReadyIf, IsRoomier}
+use Rattle.lx_interp.specs.Runner.{HasStayed, HasTaken, action_of, action_on, asker_in, calls_left, effect_in, poorer, taken, thread_of, wrapper_in}
 use Rattle.lx_interp.proofs.Lines.{before_body, behind_body, paid_step, unpaid_step}
 
 -- the same step, taken from another state of the same thread
@@ -45,7 +47,7 @@ paid_taken c old new go e h = taken_as c old new _ _ (paid_step (thread_of c old
 
 -- the thread of a runner by its parts
 pub thread_is : (c : Code) (r : Runner) (calls : List ScriptCall) (ended : List Ending) (fuel : ℕ) (due : Option Outcome) (frames : List ImageFrame) (shadow : List Principal) →
-    calls_left r ≡ calls → r.endings.items ≡ ended → r.fuel ≡ fuel → r.due ≡ due → frames_of c r.top r.below ≡ frames → r.shadow.principals ≡ shadow →
+    calls_left r ≡ calls → r.endings.items ≡ ended → r.fuel ≡ fuel → r.due ≡ due → frames_of c r.stack.top r.stack.below ≡ frames → r.stack.shadow.principals ≡ shadow →
     thread_of c r ≡ record { calls = calls; ended = ended; fuel = fuel; due = due; frames = frames; shadow = shadow }
 thread_is c r calls ended fuel due frames shadow e0 e1 e2 e3 e4 e5 =
     λ j. record { calls = e0 j; ended = e1 j; fuel = e2 j; due = e3 j; frames = e4 j; shadow = e5 j }
@@ -55,13 +57,13 @@ left_same old new calls ended =
     ap (λ (xs : List ScriptCall). drop (length new.endings.items) xs) calls ∙ ap (λ v. drop (length v.items) old.calls) ended
 
 -- more room changes no step
-pub same_state : (c : Code) (old new : Runner) → IsRoomier c old new → thread_of c new ≡ thread_of c old
-same_state c old new h =
-    thread_is c new _ _ _ _ _ _ (left_same old new h.calls h.ended) (ap (λ v. v.items) h.ended) h.fuel h.due h.frames h.shadow
+pub same_state : (c : Code) (old new : Runner) → new.calls ≡ old.calls → new.endings ≡ old.endings → new.fuel ≡ old.fuel → new.due ≡ old.due → IsRoomier c old.stack new.stack → thread_of c new ≡ thread_of c old
+same_state c old new e1 e2 e3 e4 h = thread_is c new _ _ _ _ _ _ (left_same old new e1 e2) (ap (λ v. v.items) e2) e3 e4 h.frames h.shadow
 
-pub roomier_stays : (c : Code) (old new : Runner) → old.request ≡ None → IsRoomier c old new → HasStayed c old new
-roomier_stays c old new idle h =
-    record { number = h.number; calls = h.calls; ended = h.ended; marks = h.marks; state = same_state c old new h; idle = h.request ∙ idle }
+pub roomier_stays : (c : Code) (old new : Runner) → old.request ≡ None → new.thread ≡ old.thread → new.calls ≡ old.calls → new.endings ≡ old.endings → new.fuel ≡ old.fuel → new.due ≡ old.due → new.marks ≡ old.marks → new.request ≡ old.request →
+    IsRoomier c old.stack new.stack → HasStayed c old new
+roomier_stays c old new idle e0 e1 e2 e3 e4 e5 e6 h =
+    record { number = e0; calls = e1; ended = e2; marks = e5; state = same_state c old new e1 e2 e3 e4 h; idle = e6 ∙ idle }
 
 -- the start of a call
 
@@ -89,54 +91,26 @@ start_paid (y ∷ ys) x v h e f =
 
 -- a request that has its room
 
-enters_same : (c : Code) (old new : Runner) (count frames : ℕ) → new.below ≡ old.below → new.registers ≡ old.registers → CanEnter c old count frames → CanEnter c new count frames
-enters_same c old new count frames e6 e7 h =
-    (subst (λ v. IsPrepared c count v.items (vec_capacity v)) (sym e7) h.0, subst (λ (s : Stack). frames ≤ s.room) (sym e6) h.1)
+spent : (c : Code) (old new : Runner) → new.calls ≡ old.calls → new.endings ≡ old.endings → new.fuel ≡ old.fuel - 1 → new.due ≡ old.due → IsRoomier c old.stack new.stack → thread_of c new ≡ poorer (thread_of c old)
+spent c old new e1 e2 e3 e4 h = thread_is c new _ _ _ _ _ _ (left_same old new e1 e2) (ap (λ v. v.items) e2) e3 e4 h.frames h.shadow
 
-pub goes_in_same : (c : Code) (old new : Runner) (top : Option KeptFrame) → new.below ≡ old.below → new.registers ≡ old.registers → CanGoIn c old top → CanGoIn c new top
-goes_in_same c old new None e6 e7 h = tt
-goes_in_same c old new (Some (kept.Runs run)) e6 e7 h = tt
-goes_in_same c old new (Some (kept.Wraps n args place)) e6 e7 h = enters_same c old new (length args) 1 e6 e7 h
-
-goes_on_same : (c : Code) (old new : Runner) (top : Option KeptFrame) → new.below ≡ old.below → new.registers ≡ old.registers → CanGoOn c old top → CanGoOn c new top
-goes_on_same c old new None e6 e7 h = tt
-goes_on_same c old new (Some (kept.Runs run)) e6 e7 h = tt
-goes_on_same c old new (Some (kept.Wraps n args kept_place.Enter)) e6 e7 h = tt
-goes_on_same c old new (Some (kept.Wraps n args (kept_place.Pre k))) e6 e7 h = enters_same c old new (length args) 1 e6 e7 h
-goes_on_same c old new (Some (kept.Wraps n args kept_place.Body)) e6 e7 h = tt
-goes_on_same c old new (Some (kept.Wraps n args (kept_place.Post k x))) e6 e7 h = h
-
-pub same_room : (c : Code) (old new : Runner) (w : What) → new.top ≡ old.top → new.below ≡ old.below → new.registers ≡ old.registers → new.shadow ≡ old.shadow → HasRoomFor c old w → HasRoomFor c new w
-same_room c old new (what.Load at width) e5 e6 e7 e8 h = h
-same_room c old new (what.Store at v) e5 e6 e7 e8 h = h
-same_room c old new (what.Copy to at len) e5 e6 e7 e8 h = h
-same_room c old new (what.Fill to byte len) e5 e6 e7 e8 h = h
-same_room c old new (what.Alloca at size) e5 e6 e7 e8 h = subst HasSpaceOn (sym e5) h
-same_room c old new (what.Enter way args) e5 e6 e7 e8 h =
-    (enters_same c old new (length args) 2 e6 e7 h.0, subst (CanGoIn c new) (sym e5) (goes_in_same c old new old.top e6 e7 h.1), subst (λ s. 0 < s.room) (sym e8) h.2)
-same_room c old new (what.Perform n post k env source dest) e5 e6 e7 e8 h = subst (CanGoOn c new) (sym e5) (goes_on_same c old new old.top e6 e7 h)
-same_room c old new (what.Return low high) e5 e6 e7 e8 h = h
-same_room c old new (what.Native k args) e5 e6 e7 e8 h = h
-same_room c old new (what.Finish o) e5 e6 e7 e8 h = h
-
-spent : (c : Code) (old new : Runner) → new.calls ≡ old.calls → new.endings ≡ old.endings → new.fuel ≡ old.fuel - 1 → new.due ≡ old.due → new.top ≡ old.top → new.below ≡ old.below → new.shadow ≡ old.shadow →
-    thread_of c new ≡ poorer (thread_of c old)
-spent c old new e1 e2 e3 e4 e5 e6 e7 =
-    thread_is c new _ _ _ _ _ _ (left_same old new e1 e2) (ap (λ v. v.items) e2) e3 e4
-    (ap (λ (o : Option KeptFrame). frames_of c o new.below) e5 ∙ ap (frames_of c old.top) e6) (ap (λ s. s.principals) e7)
-
-pub asked_with_room : (c : Code) (old mid new : Runner) (q : Request) → IsRoomier c old mid → HasRoomFor c mid q.what →
-    new.thread ≡ mid.thread → new.calls ≡ mid.calls → new.endings ≡ mid.endings → new.fuel ≡ mid.fuel - 1 → new.due ≡ mid.due → new.top ≡ mid.top → new.below ≡ mid.below → new.registers ≡ mid.registers → new.shadow ≡ mid.shadow →
+asked_behind : (c : Code) (old new : Runner) (q : Request) → new.thread ≡ old.thread → new.calls ≡ old.calls → new.endings ≡ old.endings → new.fuel ≡ old.fuel - 1 → new.due ≡ old.due → IsRoomier c old.stack new.stack → HasRoomFor c new.stack q.what →
     new.marks ≡ None → new.request ≡ Some q → HasTaken c old new (Asks (poorer (thread_of c old)) q)
-asked_with_room c old mid new q h room e0 e1 e2 e3 e4 e5 e6 e7 e8 e9 e10 =
+asked_behind c old new q e0 e1 e2 e3 e4 h room e5 e6 =
     record {
-      number = e0 ∙ h.number;
-      calls = e1 ∙ h.calls;
-      ended = e2 ∙ h.ended;
-      marks = e9;
-      is = ap (λ x. taken (poorer x) (Some q)) (sym (same_state c old mid h)) ∙ ap (λ x. taken x (Some q)) (sym (spent c mid new e1 e2 e3 e4 e5 e6 e8)) ∙ ap (taken (thread_of c new)) (sym e10);
-      ready = subst (IsReadyIf c new) (sym e10) (same_room c mid new q.what e5 e6 e7 e8 room);
+      number = e0;
+      calls = e1;
+      ended = e2;
+      marks = e5;
+      is = ap (λ v. taken v (Some q)) (sym (spent c old new e1 e2 e3 e4 h)) ∙ ap (taken (thread_of c new)) (sym e6);
+      ready = subst (IsReadyIf c new.stack) (sym e6) room;
     }
+
+pub asked_with_room : (c : Code) (old new : Runner) (mid : FrameStack) (q : Request) → IsRoomier c old.stack mid → HasRoomFor c mid q.what →
+    new.thread ≡ old.thread → new.calls ≡ old.calls → new.endings ≡ old.endings → new.fuel ≡ old.fuel - 1 → new.due ≡ old.due → new.stack ≡ mid → new.marks ≡ None → new.request ≡ Some q →
+    HasTaken c old new (Asks (poorer (thread_of c old)) q)
+asked_with_room c old new mid q h room e0 e1 e2 e3 e4 e5 e6 e7 =
+    asked_behind c old new q e0 e1 e2 e3 e4 (subst (IsRoomier c old.stack) (sym e5) h) (subst (λ (s : FrameStack). HasRoomFor c s q.what) (sym e5) room) e6 e7
 
 -- an action
 
@@ -144,29 +118,22 @@ asks_action : (v : ImageThread) (n : ℕ) (args : List Word) (post : Bool) (k : 
 asks_action v n args true k x = refl
 asks_action v n args false k x = refl
 
-performs_ready : (c : Code) (r : Runner) (shadow : List Principal) (n : ℕ) (args : List Word) (post : Bool) (k : ℕ) (x : Option Word) → CanGoOn c r r.top → HasRoomFor c r (action_of shadow n args post k x).what
+performs_ready : (c : Code) (r : FrameStack) (shadow : List Principal) (n : ℕ) (args : List Word) (post : Bool) (k : ℕ) (x : Option Word) → CanGoOn c r r.top → HasRoomFor c r (action_of shadow n args post k x).what
 performs_ready c r shadow n args true k x h = h
 performs_ready c r shadow n args false k x h = h
 
 pub budget_action : (c : Code) (old new : Runner) (n : ℕ) (args : List Word) (post : Bool) (k : ℕ) (x : Option Word) → old.fuel ≡ 0 → HasTaken c old new (comes_to Budget (thread_of c old)) →
     HasTaken c old new (action_on (thread_of c old) n args post k x)
-budget_action c old new n args post k x e h = taken_as c old new _ _ (asks_action (thread_of c old) n args post k x) (budget c old new (λ w. Asks w (action_of old.shadow.principals n args post k x)) e h)
+budget_action c old new n args post k x e h = taken_as c old new _ _ (asks_action (thread_of c old) n args post k x) (budget c old new (λ w. Asks w (action_of old.stack.shadow.principals n args post k x)) e h)
 
-pub performs : (c : Code) (old new : Runner) (n : ℕ) (args : List Word) (post : Bool) (k : ℕ) (x : Option Word) → 0 < old.fuel → CanGoOn c old old.top →
-    new.thread ≡ old.thread → new.calls ≡ old.calls → new.endings ≡ old.endings → new.fuel ≡ old.fuel - 1 → new.due ≡ old.due → new.top ≡ old.top → new.below ≡ old.below → new.registers ≡ old.registers → new.shadow ≡ old.shadow →
-    new.marks ≡ None → new.request ≡ Some (action_of old.shadow.principals n args post k x) → HasTaken c old new (action_on (thread_of c old) n args post k x)
-performs c old new n args post k x fuel ready e0 e1 e2 e3 e4 e5 e6 e7 e8 e9 e10 =
-    let q = action_of old.shadow.principals n args post k x in
+pub performs : (c : Code) (old new : Runner) (n : ℕ) (args : List Word) (post : Bool) (k : ℕ) (x : Option Word) → 0 < old.fuel → CanGoOn c old.stack old.stack.top →
+    new.thread ≡ old.thread → new.calls ≡ old.calls → new.endings ≡ old.endings → new.fuel ≡ old.fuel - 1 → new.due ≡ old.due → new.stack ≡ old.stack → new.marks ≡ None →
+    new.request ≡ Some (action_of old.stack.shadow.principals n args post k x) → HasTaken c old new (action_on (thread_of c old) n args post k x)
+performs c old new n args post k x fuel ready e0 e1 e2 e3 e4 e5 e6 e7 =
+    let q = action_of old.stack.shadow.principals n args post k x in
     taken_as c old new _ _ (asks_action (thread_of c old) n args post k x)
     (paid_taken c old new (λ w. Asks w q) fuel
-    (record {
-      number = e0;
-      calls = e1;
-      ended = e2;
-      marks = e9;
-      is = ap (λ v. taken v (Some q)) (sym (spent c old new e1 e2 e3 e4 e5 e6 e8)) ∙ ap (taken (thread_of c new)) (sym e10);
-      ready = subst (IsReadyIf c new) (sym e10) (same_room c old new q.what e5 e6 e7 e8 (performs_ready c old old.shadow.principals n args post k x ready));
-    }))
+    (asked_with_room c old new old.stack q (record { frames = refl; shadow = refl }) (performs_ready c old.stack old.stack.shadow.principals n args post k x ready) e0 e1 e2 e3 e4 e5 e6 e7))
 
 -- the effects of instructions
 
@@ -230,37 +197,38 @@ pub goes_out : (c : Code) (v : ImageThread) (top : Option KeptFrame) (fs : List 
     post_line (has_action c.program (function_on top) true k) v (function_on top) (args_on top) k x fs ≡ post_line b v (function_on top) (args_on top) k x fs
 goes_out c v top fs k x b e = ap (λ y. post_line y v (function_on top) (args_on top) k x fs) (sym e)
 
-pub counted_behind : (c : Code) (r : Runner) (top : Option KeptFrame) (k : ℕ) (x : Option Word) → place_on top ≡ Some (kept_place.Post k x) → k < 4294967295 → CanGoOn c r top
+pub counted_behind : (c : Code) (r : FrameStack) (top : Option KeptFrame) (k : ℕ) (x : Option Word) → place_on top ≡ Some (kept_place.Post k x) → k < 4294967295 → CanGoOn c r top
 counted_behind c r None k x e h = tt
 counted_behind c r (Some (kept.Runs run)) k x e h = tt
 counted_behind c r (Some (kept.Wraps n args place)) k x e h =
     let s : kept_place.Post k x ≡ place = cc in
     subst (λ p. CanGoOn c r (Some (kept.Wraps n args p))) s h
 
-pub prepared_before : (c : Code) (r : Runner) (top : Option KeptFrame) (k : ℕ) → place_on top ≡ Some (kept_place.Pre k) → CanEnter c r (length (args_on top)) 1 → CanGoOn c r top
+pub prepared_before : (c : Code) (r : FrameStack) (top : Option KeptFrame) (k : ℕ) → place_on top ≡ Some (kept_place.Pre k) → CanEnter c r (length (args_on top)) 1 → CanGoOn c r top
 prepared_before c r None k e h = tt
 prepared_before c r (Some (kept.Runs run)) k e h = tt
 prepared_before c r (Some (kept.Wraps n args place)) k e h =
     let s : kept_place.Pre k ≡ place = cc in
     subst (λ p. CanGoOn c r (Some (kept.Wraps n args p))) s h
 
-pub goes_in : (c : Code) (old mid new : Runner) (k : ℕ) → IsRoomier c old mid → mid.top ≡ old.top → place_on old.top ≡ Some (kept_place.Pre k) →
-    HasTaken c mid new (action_on (thread_of c mid) (function_on mid.top) (args_on mid.top) false k None) → HasTaken c old new (frame_step c (thread_of c old) (frames_of c old.top old.below))
-goes_in c old mid new k a top place h =
-    retaken c old mid new _ _ a.number a.calls a.ended
-    (before_body c (thread_of c old) old.top old.below k place
-    ∙ ap (λ v. action_on v (function_on old.top) (args_on old.top) false k None) (sym (same_state c old mid a))
+pub goes_in : (c : Code) (old mid new : Runner) (k : ℕ) → mid.thread ≡ old.thread → mid.calls ≡ old.calls → mid.endings ≡ old.endings → mid.fuel ≡ old.fuel → mid.due ≡ old.due → IsRoomier c old.stack mid.stack → mid.stack.top ≡ old.stack.top →
+    place_on old.stack.top ≡ Some (kept_place.Pre k) → HasTaken c mid new (action_on (thread_of c mid) (function_on mid.stack.top) (args_on mid.stack.top) false k None) →
+    HasTaken c old new (frame_step c (thread_of c old) (frames_of c old.stack.top old.stack.below))
+goes_in c old mid new k e0 e1 e2 e3 e4 a top place h =
+    retaken c old mid new _ _ e0 e1 e2
+    (before_body c (thread_of c old) old.stack.top old.stack.below k place
+    ∙ ap (λ v. action_on v (function_on old.stack.top) (args_on old.stack.top) false k None) (sym (same_state c old mid e1 e2 e3 e4 a))
     ∙ ap (λ (o : Option KeptFrame). action_on (thread_of c mid) (function_on o) (args_on o) false k None) (sym top)) h
 
-pub goes_to_action : (c : Code) (old new : Runner) (k : ℕ) (x : Option Word) → place_on old.top ≡ Some (kept_place.Post k x) → true ≡ has_action c.program (function_on old.top) true k →
-    HasTaken c old new (action_on (thread_of c old) (function_on old.top) (args_on old.top) true k x) → HasTaken c old new (frame_step c (thread_of c old) (frames_of c old.top old.below))
+pub goes_to_action : (c : Code) (old new : Runner) (k : ℕ) (x : Option Word) → place_on old.stack.top ≡ Some (kept_place.Post k x) → true ≡ has_action c.program (function_on old.stack.top) true k →
+    HasTaken c old new (action_on (thread_of c old) (function_on old.stack.top) (args_on old.stack.top) true k x) → HasTaken c old new (frame_step c (thread_of c old) (frames_of c old.stack.top old.stack.below))
 goes_to_action c old new k x place has h =
-    taken_as c old new _ _ (behind_body c (thread_of c old) old.top old.below k x place ∙ goes_out c (thread_of c old) old.top (map (frame_of c) old.below.frames) k x true has) h
+    taken_as c old new _ _ (behind_body c (thread_of c old) old.stack.top old.stack.below k x place ∙ goes_out c (thread_of c old) old.stack.top (map (frame_of c) old.stack.below.frames) k x true has) h
 
-pub leaves : (c : Code) (old new : Runner) (k : ℕ) (x : Option Word) → place_on old.top ≡ Some (kept_place.Post k x) → false ≡ has_action c.program (function_on old.top) true k →
+pub leaves : (c : Code) (old new : Runner) (k : ℕ) (x : Option Word) → place_on old.stack.top ≡ Some (kept_place.Post k x) → false ≡ has_action c.program (function_on old.stack.top) true k →
     new.thread ≡ old.thread → new.calls ≡ old.calls → new.endings ≡ old.endings → new.marks ≡ None → new.request ≡ None →
-    thread_of c new ≡ after_leaving x (map (frame_of c) old.below.frames) (with_shadow (tail old.shadow.principals) (thread_of c old)) →
-    HasTaken c old new (frame_step c (thread_of c old) (frames_of c old.top old.below))
+    thread_of c new ≡ after_leaving x (map (frame_of c) old.stack.below.frames) (with_shadow (tail old.stack.shadow.principals) (thread_of c old)) →
+    HasTaken c old new (frame_step c (thread_of c old) (frames_of c old.stack.top old.stack.below))
 leaves c old new k x place has e0 e1 e2 e3 e4 state =
     record {
       number = e0;
@@ -268,11 +236,11 @@ leaves c old new k x place has e0 e1 e2 e3 e4 state =
       ended = e2;
       marks = e3;
       is =
-          behind_body c (thread_of c old) old.top old.below k x place
-          ∙ goes_out c (thread_of c old) old.top (map (frame_of c) old.below.frames) k x false has
+          behind_body c (thread_of c old) old.stack.top old.stack.below k x place
+          ∙ goes_out c (thread_of c old) old.stack.top (map (frame_of c) old.stack.below.frames) k x false has
           ∙ ap Goes (sym state)
           ∙ ap (taken (thread_of c new)) (sym e4);
-      ready = subst (IsReadyIf c new) (sym e4) tt;
+      ready = subst (IsReadyIf c new.stack) (sym e4) tt;
     }
 
 pub jump_lost : (c : Code) (m : Marks) (v : ImageThread) (top : Option KeptFrame) (below : Stack) (f g : KeptFrame) (k : ℕ) {there : Bool} → top ≡ Some f → IsSome (running_on top) →
@@ -291,23 +259,20 @@ wrapper_full c v None below n h e = absurd (cc)
 wrapper_full c v (Some (kept.Runs run)) below n h e = if_full (has_room (frames_of c (Some (kept.Runs run)) below)) v _ (sym e)
 wrapper_full c v (Some (kept.Wraps k xs place)) below n h e = absurd (cc)
 
-pub asks_enter : (c : Code) (old new : Runner) (who : Principal) (n : ℕ) (args copy : List Word) → copy ≡ args → CanEnter c old (length args) 3 → 0 < old.shadow.room →
-    new.thread ≡ old.thread → new.calls ≡ old.calls → new.endings ≡ old.endings → new.fuel ≡ old.fuel - 1 → new.due ≡ old.due → new.shadow ≡ old.shadow → new.marks ≡ None → new.registers ≡ old.registers →
-    frames_of c new.top new.below ≡ Wraps n copy AtEnter ∷ frames_of c old.top old.below → new.top ≡ Some (kept.Wraps n copy kept_place.Enter) → old.below.room ≤ new.below.room + 1 →
-    new.request ≡ Some (request who (what.Enter (Direct n) args)) →
-    HasTaken c old new (Asks (with_frames (Wraps n args AtEnter ∷ frames_of c old.top old.below) (poorer (thread_of c old))) (request who (what.Enter (Direct n) args)))
-asks_enter c old new who n args copy same enter room e0 e1 e2 e3 e4 e5 e6 e7 e8 e9 e10 e11 =
+pub asks_enter : (c : Code) (old new : Runner) (who : Principal) (n : ℕ) (args copy : List Word) → copy ≡ args →
+    new.thread ≡ old.thread → new.calls ≡ old.calls → new.endings ≡ old.endings → new.fuel ≡ old.fuel - 1 → new.due ≡ old.due → new.marks ≡ None → new.request ≡ Some (request who (what.Enter (Direct n) args)) →
+    frames_of c new.stack.top new.stack.below ≡ Wraps n copy AtEnter ∷ frames_of c old.stack.top old.stack.below → new.stack.shadow ≡ old.stack.shadow → HasRoomFor c new.stack (what.Enter (Direct n) copy) →
+    HasTaken c old new (Asks (with_frames (Wraps n args AtEnter ∷ frames_of c old.stack.top old.stack.below) (poorer (thread_of c old))) (request who (what.Enter (Direct n) args)))
+asks_enter c old new who n args copy same e0 e1 e2 e3 e4 e5 e6 frames shadow ready =
     let q = request who (what.Enter (Direct n) args) in
-    let state : thread_of c new ≡ with_frames (Wraps n args AtEnter ∷ frames_of c old.top old.below) (poorer (thread_of c old)) =
+    let state : thread_of c new ≡ with_frames (Wraps n args AtEnter ∷ frames_of c old.stack.top old.stack.below) (poorer (thread_of c old)) =
     thread_is c new _ _ _ _ _ _ (left_same old new e1 e2) (ap (λ v. v.items) e2) e3 e4
-    (e8 ∙ ap (λ (xs : List Word). Wraps n xs AtEnter ∷ frames_of c old.top old.below) same) (ap (λ s. s.principals) e5) in
-    let prepared = subst (λ v. IsPrepared c (length args) v.items (vec_capacity v)) (sym e7) enter.0 in
-    let body : CanGoIn c new (Some (kept.Wraps n copy kept_place.Enter)) = (subst (λ (xs : List Word). IsPrepared c (length xs) new.registers.items (vec_capacity new.registers)) (sym same) prepared, omega (arith, enter.1, e10)) in
+    (frames ∙ ap (λ (xs : List Word). Wraps n xs AtEnter ∷ frames_of c old.stack.top old.stack.below) same) (ap (λ s. s.principals) shadow) in
     record {
       number = e0;
       calls = e1;
       ended = e2;
-      marks = e6;
-      is = ap (λ v. taken v (Some q)) (sym state) ∙ ap (taken (thread_of c new)) (sym e11);
-      ready = subst (IsReadyIf c new) (sym e11) ((prepared, omega (arith, enter.1, e10)), subst (CanGoIn c new) (sym e9) body, subst (λ s. 0 < s.room) (sym e5) room);
+      marks = e5;
+      is = ap (λ v. taken v (Some q)) (sym state) ∙ ap (taken (thread_of c new)) (sym e6);
+      ready = subst (IsReadyIf c new.stack) (sym e6) (subst (λ (xs : List Word). HasRoomFor c new.stack (what.Enter (Direct n) xs)) same ready);
     }

@@ -1,5 +1,5 @@
 -- What a runner of images is: the thread that it stands for, what it asks, and what may answer it.
-use Rattle.std.specs.Prelude.{◌≡◌, ℕ, suc, ◌+◌, ◌-◌, ◌*◌, ◌≤◌, ◌<◌, Bool, true, false, IsTrue, IsSome, Option, Some, None, List, [], ◌∷◌, length, drop, nat_le, option_and_then, vec_capacity, ⊤}
+use Rattle.std.specs.Prelude.{◌≡◌, ℕ, suc, ◌+◌, ◌-◌, ◌*◌, ◌≤◌, Bool, true, false, IsTrue, IsSome, Option, Some, None, List, [], ◌∷◌, length, drop, nat_le, option_and_then, ⊤}
 use Rattle.lx_words.specs.Word.{Word}
 use Rattle.lx_caps.specs.declared.Principal.{Principal}
 use Rattle.lx_caps.specs.declared.Principal.TheVariants.{Kernel}
@@ -14,23 +14,18 @@ use Rattle.lx_model.specs.declared.request.What.TheVariants as what
 use Rattle.lx_model.specs.declared.request.Request.{Request}
 use Rattle.lx_model.specs.declared.request.Reply.{Reply}
 use Rattle.lx_model.specs.declared.request.Reply.TheVariants as reply
-use Rattle.lx_model.specs.Thread.{Activation, has_call, start_of}
-use Rattle.lx_model.specs.Effect.{returned_value, text_of}
+use Rattle.lx_model.specs.Thread.{Activation, has_call}
+use Rattle.lx_model.specs.Effect.{text_of}
 use Rattle.lx_model.specs.Next.{request}
 use Rattle.lx_ir.specs.declared.instr.Op.{Op}
-use Rattle.lx_images.specs.Image.{Code, ImageFrame, Runs, Wraps, ImageThread, ImageStep, Goes, Asks, ImageAsking, Marks, no_marks, top as top_of, below_top, asker, comes_to, effect_step, costly_step, wrapped_import, wrapper_call, perform, InBody, at_pre, behind_enter, entered_frames, image_routine, shadow_with, stack_top, due_or, image_next, image_next_within}
-use Rattle.lx_image_code.specs.Tables.{HasLocals}
+use Rattle.lx_images.specs.Image.{Code, ImageFrame, Runs, ImageThread, ImageStep, Goes, Asks, ImageAsking, Marks, no_marks, top as top_of, below_top, asker, comes_to, effect_step, costly_step, wrapped_import, wrapper_call, perform, behind_enter, due_or, image_next, image_next_within}
 use Rattle.lx_image_steps.specs.Standing.{head_of}
-use Rattle.lx_image_steps.specs.declared.activation.Activation.{Activation as Running}
 use Rattle.lx_image_steps.specs.Marks.{next_args}
 use Rattle.lx_image_steps.specs.Effects.{effect_of}
 use Rattle.lx_image_steps.specs.declared.effect.Effect.{Effect as Found}
-use Rattle.lx_interp.specs.declared.frame.Place.{Place as KeptPlace}
-use Rattle.lx_interp.specs.declared.frame.Place.TheVariants as kept_place
-use Rattle.lx_interp.specs.declared.frame.Frame.{Frame as KeptFrame}
-use Rattle.lx_interp.specs.declared.frame.Frame.TheVariants as kept
 use Rattle.lx_interp.specs.declared.runner.Runner.{Runner}
-use Rattle.lx_interp.specs.Frames.{HasSpaceOn, frames_of, marked_frame_step, runs, wrapped_args, wrapped_function, wrapped_place}
+use Rattle.lx_frames.specs.Frames.{frames_of, marked_frame_step, running_on}
+use Rattle.lx_frames.specs.Stack.{IsReadyIf}
 
 -- the thread
 
@@ -46,8 +41,8 @@ thread_of c r =
       ended = r.endings.items;
       fuel = r.fuel;
       due = r.due;
-      frames = frames_of c r.top r.below;
-      shadow = r.shadow.principals;
+      frames = frames_of c r.stack.top r.stack.below;
+      shadow = r.stack.shadow.principals;
     }
 
 -- the next step of a thread, where the marks of its next instruction may have been taken
@@ -68,43 +63,9 @@ asking_or c m v None = asking_behind c v (marked_step c m v)
 abbrev pub asking_of : Code → Runner → ImageAsking
 asking_of c r = asking_or c r.marks (thread_of c r) r.request
 
--- room for what a reply needs
-
--- no registers yet, and room for those of whatever function is entered with so many arguments
-abbrev pub IsPrepared : Code → ℕ → List Word → ℕ → Type 0
-IsPrepared c count registers room = (most : ℕ) × (registers ≡ []) × (count + most ≤ room) × HasLocals c most
-
--- a function may be entered with so many arguments, and so many frames may stand on the others
-abbrev pub CanEnter : Code → Runner → ℕ → ℕ → Type 0
-CanEnter c r count frames = IsPrepared c count r.registers.items (vec_capacity r.registers) × (frames ≤ r.below.room)
-
--- a wrapper on top may go into its body
-abbrev pub CanGoIn : Code → Runner → Option KeptFrame → Type 0
-CanGoIn c r (Some (kept.Wraps n args place)) = CanEnter c r (length args) 1
-CanGoIn c r _ = ⊤
-
--- a wrapper on top may go on behind an action: before its body perhaps into it, and a `u32` counts the actions behind the body
-abbrev pub CanGoOn : Code → Runner → Option KeptFrame → Type 0
-CanGoOn c r (Some (kept.Wraps n args (kept_place.Pre k))) = CanEnter c r (length args) 1
-CanGoOn c r (Some (kept.Wraps n args (kept_place.Post k x))) = k < 4294967295
-CanGoOn c r _ = ⊤
-
--- the runner has what the reply needs: room for the registers, the frames and the principal of what is entered, and a place for
--- the bytes that a function is given
-abbrev pub HasRoomFor : Code → Runner → What → Type 0
-HasRoomFor c r (what.Perform n post k env source dest) = CanGoOn c r r.top
-HasRoomFor c r (what.Enter way args) = CanEnter c r (length args) 2 × CanGoIn c r r.top × (0 < r.shadow.room)
-HasRoomFor c r (what.Alloca at size) = HasSpaceOn r.top
-HasRoomFor c r w = ⊤
-
--- and whatever it asks, if anything
-abbrev pub IsReadyIf : Code → Runner → Option Request → Type 0
-IsReadyIf c r None = ⊤
-IsReadyIf c r (Some q) = HasRoomFor c r q.what
-
 -- the runner is ready for every reply to what it asks
 abbrev pub IsReady : Code → Runner → Type 0
-IsReady c r = IsReadyIf c r r.request
+IsReady c r = IsReadyIf c r.stack r.request
 
 -- what a runner stands for
 
@@ -205,38 +166,6 @@ abbrev pub marks_in : Option Marks → Marks
 marks_in None = no_marks
 marks_in (Some m) = m
 
--- what stands on top
-
--- the function that runs there; none, where a wrapper or nothing does
-abbrev pub running_on : Option KeptFrame → Option Running
-running_on None = None
-running_on (Some f) = runs f
-
--- the line of a wrapper there
-abbrev pub place_on : Option KeptFrame → Option KeptPlace
-place_on None = None
-place_on (Some f) = wrapped_place f
-
--- the number of the function that a wrapper there wraps
-abbrev pub function_on : Option KeptFrame → ℕ
-function_on None = 0
-function_on (Some f) = wrapped_function f
-
--- the arguments that it was called with
-abbrev pub args_on : Option KeptFrame → List Word
-args_on None = []
-args_on (Some f) = wrapped_args f
-
--- no wrapper stands on top
-abbrev pub IsUnwrapped : Option KeptFrame → Type 0
-IsUnwrapped (Some (kept.Wraps n args place)) = ⊥
-IsUnwrapped _ = ⊤
-
--- a wrapper stands on top
-abbrev pub IsWrapper : Option KeptFrame → Type 0
-IsWrapper (Some (kept.Wraps n args place)) = ⊤
-IsWrapper _ = ⊥
-
 -- what a function on top of these frames comes to, with a unit of fuel paid: by an effect
 abbrev pub effect_in : Code → Marks → ImageThread → List ImageFrame → Found → ImageStep
 effect_in c m v (Runs a ∷ fs) e = effect_step c v m a fs (effect_of c.program a e)
@@ -274,11 +203,6 @@ wrapper_in c v fs n = comes_to (Trapped Unreachable) v
 abbrev pub wrapper_on : Code → ImageThread → ℕ → ImageStep
 wrapper_on c v n = wrapper_in c v v.frames n
 
--- the arguments of the call that it stands at
-abbrev pub args_in : Code → List ImageFrame → List Word
-args_in c (Runs a ∷ fs) = next_args c a a.code
-args_in c fs = []
-
 -- the import whose wrapper it stands to call
 abbrev pub wrapped_in : Code → List ImageFrame → Option ℕ
 wrapped_in c (Runs a ∷ fs) = option_and_then (wrapped_import c (text_of c.program a)) (head_of a.code)
@@ -301,15 +225,6 @@ action_of shadow n args false k x = request (below_top shadow) (what.Perform n f
 
 -- what a reply leaves of the frames
 
--- a wrapper on top before the action with this number, or in its body where there is none
-abbrev pub line_before : Code → ℕ → ℕ → List ImageFrame → List ImageFrame
-line_before c t k (Wraps n args place ∷ fs) = at_pre c t k n args fs
-line_before c t k fs = fs
-
--- a function that a call enters, in its wrapper where the call crosses
-abbrev pub entered : Code → ℕ → List Word → ℕ → Principal → Bool → ImageThread → ImageThread
-entered c t args n q crosses v = record v { shadow = shadow_with crosses q v.shadow; frames = entered_frames c t crosses n args v.frames }
-
 -- the wrapper of an import behind its enter
 abbrev pub behind_direct : Code → ℕ → Principal → ImageThread → ImageThread
 behind_direct c t q v = record v { shadow = q ∷ v.shadow; frames = behind_enter c t v.frames }
@@ -319,40 +234,7 @@ abbrev pub is_direct : Way → Bool
 is_direct (Direct f) = true
 is_direct way = false
 
--- what the function on top returns, where one runs there
-abbrev pub returned_on : Code → List ImageFrame → Option (Option Word)
-returned_on c (Runs a ∷ fs) = Some (returned_value c.program a)
-returned_on c fs = None
-
--- a wrapper on top in its body
-abbrev pub body_before : Code → ℕ → List ImageFrame → List ImageFrame
-body_before c t (Wraps n args place ∷ fs) = Runs (start_of n (image_routine c n) args (stack_top t fs)) ∷ Wraps n args InBody ∷ fs
-body_before c t fs = fs
-
 -- what a runner has done
-
--- the frames alone have changed
-pub record IsSameBut (old new : Runner) : Type 0 where
-  pub number : new.thread ≡ old.thread
-  pub calls : new.calls ≡ old.calls
-  pub ended : new.endings ≡ old.endings
-  pub fuel : new.fuel ≡ old.fuel
-  pub due : new.due ≡ old.due
-  pub shadow : new.shadow ≡ old.shadow
-  pub marks : new.marks ≡ old.marks
-  pub request : new.request ≡ old.request
-
--- nothing but room has changed
-pub record IsRoomier (c : Code) (old new : Runner) : Type 0 where
-  pub number : new.thread ≡ old.thread
-  pub calls : new.calls ≡ old.calls
-  pub ended : new.endings ≡ old.endings
-  pub fuel : new.fuel ≡ old.fuel
-  pub due : new.due ≡ old.due
-  pub marks : new.marks ≡ old.marks
-  pub request : new.request ≡ old.request
-  pub frames : frames_of c new.top new.below ≡ frames_of c old.top old.below
-  pub shadow : new.shadow.principals ≡ old.shadow.principals
 
 -- the runner has taken this step
 pub record HasTaken (c : Code) (old new : Runner) (s : ImageStep) : Type 0 where
@@ -382,12 +264,12 @@ pub record GoesOn (c : Code) (old new : Runner) : Type 0 where
 
 -- how many steps the runner may take before it asks, and 0 where it asks
 abbrev pub steps_before : Code → Runner → Option Request → ℕ
-steps_before c r None = suc (2 * r.fuel + length (frames_of c r.top r.below))
+steps_before c r None = suc (2 * r.fuel + length (frames_of c r.stack.top r.stack.below))
 steps_before c r (Some q) = 0
 
 -- the marks of the next instruction have been taken where a function runs on top and no outcome is due
 abbrev pub IsMarked : Runner → Type 0
-IsMarked r = r.due ≡ None → IsSome (running_on r.top) → IsSome r.marks
+IsMarked r = r.due ≡ None → IsSome (running_on r.stack.top) → IsSome r.marks
 
 -- steps are under way: nothing else is asked, and a call is left
 pub record IsUnderWay (c : Code) (old new : Runner) : Type 0 where

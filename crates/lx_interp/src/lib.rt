@@ -14,11 +14,7 @@
 //! ```
 #![tactic(auto)]
 
-mod callers;
-mod copies;
 mod ending;
-mod frame;
-mod registers;
 mod runner;
 
 pub use ending::Ending;

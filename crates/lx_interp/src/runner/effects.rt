@@ -1,21 +1,17 @@
 //! What the effect of an instruction does to the runner.
-ghost use Rattle.std.specs.Prelude.{◌≡◌, ◌+◌, ◌<◌, ◌≤◌, ◌∷◌, OnOk, OnErr, IsSome, None, Some, option_copied};
+ghost use Rattle.std.specs.Prelude.{◌≡◌, ◌<◌, ◌≤◌, OnOk, OnErr, IsSome, None, Some};
 ghost use Rattle.lx_images.specs.Image.{Code as Images, comes_to, has_room};
 ghost use Rattle.lx_model.specs.Next.{finish};
 ghost use Rattle.lx_image_steps.specs.declared.effect.Effect.TheVariants as effect;
-ghost use Rattle.lx_interp.specs.Frames.{frame_of, frames_of};
-ghost use Rattle.lx_interp.specs.Runner.{HasStayed, HasTaken, IsSameBut, asker_in, effect_on, events_left, marks_in, poorer, running_on, thread_of};
+ghost use Rattle.lx_frames.specs.Frames.{frames_of, running_on};
+ghost use Rattle.lx_interp.specs.Runner.{HasStayed, HasTaken, asker_in, effect_on, events_left, marks_in, poorer, thread_of};
 
 use super::Runner;
-use crate::frame::Frame;
 use lx_caps::Principal;
 use lx_image_code::Code;
-use lx_image_steps::{Activation, Effect, Marks, asker, registers_of};
+use lx_image_steps::{Effect, Marks, asker, registers_of};
 use lx_model::request::{Outcome, Request, Trap, What};
 use lx_words::{Memory, Word, Words};
-
-/// How many functions of a thread may run at a time. Wrappers do not count.
-const MOST_RUNNING: usize = 256;
 
 /// The request that ends a call.
 pub(super) fn finishing(outcome: &Outcome) -> Request
@@ -34,8 +30,8 @@ impl Runner {
         ensures spares { events_left self.new ≤ events_left self.old }
     {
         self.due = Some(*outcome);
-        self.top = None;
-        self.shadow.clear();
+        self.stack.top = None;
+        self.stack.shadow.clear();
         self.marks = None;
         self.request = Some(finishing(outcome));
     }
@@ -48,16 +44,6 @@ impl Runner {
     {
         self.fuel -= 1;
         self.stop(&Outcome::Trapped(trap));
-    }
-
-    /// The function that runs.
-    pub(super) fn running(&self) -> Option<&Activation>
-        ensures { option_copied result ≡ running_on self.now.top }
-    {
-        match &self.top {
-            Some(frame) => frame.running(),
-            None => None,
-        }
     }
 
     // What guards and checks have left for the instruction.
@@ -77,13 +63,13 @@ impl Runner {
     fn give(&mut self, code: &Code, word: Word)
         requires fuel { 0 < self.old.fuel }
         requires request { self.old.request ≡ None }
-        requires top { IsSome (running_on self.old.top) }
+        requires top { IsSome (running_on self.old.stack.top) }
         ensures steps { HasTaken code.now self.old self.new (effect_on code.now (marks_in self.old.marks) (poorer (thread_of code.now self.old)) (effect.Gives word)) }
         ensures spares { events_left self.new ≤ events_left self.old }
     {
         self.fuel -= 1; // an instruction costs a unit
         self.marks = None; // marks are for one instruction
-        if let Some(frame) = &mut self.top {
+        if let Some(frame) = &mut self.stack.top {
             frame.pass(code, &Some(word));
         }
     }
@@ -92,12 +78,12 @@ impl Runner {
     fn jump(&mut self, code: &Code, block: usize) -> Result<(), Memory>
         requires fuel { 0 < self.old.fuel }
         requires request { self.old.request ≡ None }
-        requires top { IsSome (running_on self.old.top) }
+        requires top { IsSome (running_on self.old.stack.top) }
         ensures steps { OnOk result (HasTaken code.now self.old self.new (effect_on code.now (marks_in self.old.marks) (poorer (thread_of code.now self.old)) (effect.Jumps block))) }
         ensures stays { OnErr result (HasStayed code.now self.old self.new) }
         ensures spares { events_left self.new ≤ events_left self.old }
     {
-        if let Some(frame) = &mut self.top {
+        if let Some(frame) = &mut self.stack.top {
             if frame.arrive(self.alloc, code, block)? {
                 self.fuel -= 1;
                 self.marks = None;
@@ -110,13 +96,13 @@ impl Runner {
 
     // For whom the function asks something.
     fn asker(&self, code: &Code, what: &What) -> Principal
-        ensures { result ≡ asker_in code.now (marks_in self.now.marks) self.now.shadow.principals (frames_of code.now self.now.top self.now.below) what.now }
+        ensures { result ≡ asker_in code.now (marks_in self.now.marks) self.now.stack.shadow.principals (frames_of code.now self.now.stack.top self.now.stack.below) what.now }
     {
-        match self.running() {
+        match self.stack.running() {
             Some(run) => asker(
                 code.program_code().home(run.function),
                 &self.marks_left(),
-                self.shadow.top(),
+                self.stack.shadow.top(),
                 what,
             ),
             None => Principal::Kernel,
@@ -127,37 +113,29 @@ impl Runner {
     fn ask(&mut self, code: &Code, what: What) -> Result<(), Memory>
         requires fuel { 0 < self.old.fuel }
         requires request { self.old.request ≡ None }
-        requires top { IsSome (running_on self.old.top) }
+        requires top { IsSome (running_on self.old.stack.top) }
         ensures steps { OnOk result (HasTaken code.now self.old self.new (effect_on code.now (marks_in self.old.marks) (poorer (thread_of code.now self.old)) (effect.Wants what))) }
         ensures stays { OnErr result (HasStayed code.now self.old self.new) }
         ensures spares { events_left self.new ≤ events_left self.old }
     {
         let who = self.asker(code, &what);
-        self.make_room(code, &what)?;
+        self.stack.make_room(code, &what)?;
         self.fuel -= 1;
         self.marks = None;
         self.request = Some(Request { who, what });
         Ok(())
     }
 
-    /// Whether a further function may run.
-    pub(super) fn has_room(&self) -> bool
-        requires { IsSome (running_on self.now.top) }
-        ensures { (c : Images) → result ≡ has_room (frames_of c self.now.top self.now.below) }
-    {
-        self.below.running() < MOST_RUNNING - 1
-    }
-
     // The function asks to enter another.
     fn ask_entry(&mut self, code: &Code, what: What) -> Result<(), Memory>
         requires fuel { 0 < self.old.fuel }
         requires request { self.old.request ≡ None }
-        requires top { IsSome (running_on self.old.top) }
+        requires top { IsSome (running_on self.old.stack.top) }
         ensures steps { OnOk result (HasTaken code.now self.old self.new (effect_on code.now (marks_in self.old.marks) (poorer (thread_of code.now self.old)) (effect.Enters what))) }
         ensures stays { OnErr result (HasStayed code.now self.old self.new) }
         ensures spares { events_left self.new ≤ events_left self.old }
     {
-        if self.has_room() {
+        if self.stack.has_room() {
             self.ask(code, what)?;
         } else {
             self.trap(Trap::TooDeep);
@@ -165,40 +143,24 @@ impl Runner {
         Ok(())
     }
 
-    /// A frame stands on the others.
-    pub(super) fn push(&mut self, frame: Frame)
-        requires { 0 < self.old.below.room }
-        ensures frames { (c : Images) → frames_of c self.new.top self.new.below ≡ frame_of c frame ∷ frames_of c self.old.top self.old.below }
-        ensures top { self.new.top ≡ Some frame }
-        ensures takes { self.old.below.room ≤ self.new.below.room + 1 }
-        ensures registers { self.new.registers ≡ self.old.registers }
-        ensures rest { IsSameBut self.old self.new }
-    {
-        match self.top.take() {
-            Some(caller) => self.below.push(caller),
-            None => self.below.clear(),
-        }
-        self.top = Some(frame);
-    }
-
     // The function calls another of the same text.
     fn call(&mut self, code: &Code, function: u32, args: Words) -> Result<(), Memory>
         requires fuel { 0 < self.old.fuel }
         requires request { self.old.request ≡ None }
-        requires top { IsSome (running_on self.old.top) }
+        requires top { IsSome (running_on self.old.stack.top) }
         ensures steps { OnOk result (HasTaken code.now self.old self.new (effect_on code.now (marks_in self.old.marks) (poorer (thread_of code.now self.old)) (effect.Calls function args))) }
         ensures stays { OnErr result (HasStayed code.now self.old self.new) }
         ensures spares { events_left self.new ≤ events_left self.old }
     {
-        if !self.has_room() {
+        if !self.stack.has_room() {
             self.trap(Trap::TooDeep);
             return Ok(());
         }
         let registers = registers_of(args.into_vec(), code.locals(function))?;
-        self.below.reserve(1)?;
+        self.stack.below.reserve(1)?;
         self.fuel -= 1;
         self.marks = None;
-        self.run_function(function, registers);
+        self.stack.run_function(self.thread, function, registers);
         Ok(())
     }
 
@@ -206,7 +168,7 @@ impl Runner {
     pub(super) fn apply(&mut self, code: &Code, effect: Effect) -> Result<(), Memory>
         requires fuel { 0 < self.old.fuel }
         requires request { self.old.request ≡ None }
-        requires top { IsSome (running_on self.old.top) }
+        requires top { IsSome (running_on self.old.stack.top) }
         ensures steps { OnOk result (HasTaken code.now self.old self.new (effect_on code.now (marks_in self.old.marks) (poorer (thread_of code.now self.old)) effect)) }
         ensures stays { OnErr result (HasStayed code.now self.old self.new) }
         ensures spares { events_left self.new ≤ events_left self.old }

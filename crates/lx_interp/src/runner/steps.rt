@@ -5,20 +5,18 @@ ghost use Rattle.lx_model.specs.declared.request.What.TheVariants as what;
 ghost use Rattle.lx_model.specs.Thread.{first_fuel, has_call};
 ghost use Rattle.lx_images.specs.Image.{Code as Images, ImageAsking, ImageThread, Marks, image_next, start_step};
 ghost use Rattle.lx_images.specs.ImageWorld.{fresh_image_thread};
-ghost use Rattle.lx_interp.specs.Frames.{frames_of, marked_frame_step};
-ghost use Rattle.lx_interp.specs.Runner.{GoesOn, HasStayed, HasTaken, IsAsking, IsMarked, StandsFor, calls_left, events_left, events_of, found_in, instruction_in, instruction_on, marked_step, marks_in, place_on, poorer, request_of, running_on, steps_before, thread_of, wrapped_in};
+ghost use Rattle.lx_frames.specs.Frames.{frames_of, marked_frame_step, place_on, running_on};
+ghost use Rattle.lx_interp.specs.Runner.{GoesOn, HasStayed, HasTaken, IsAsking, IsMarked, StandsFor, calls_left, events_left, events_of, found_in, instruction_in, instruction_on, marked_step, marks_in, poorer, request_of, steps_before, thread_of, wrapped_in};
 
 use super::Runner;
 use super::effects::finishing;
-use crate::callers::Callers;
-use crate::copies::copies_of;
 use crate::ending::Ending;
 use lx_caps::Principal;
+use lx_frames::{FrameStack, copies_of};
 use lx_image_code::Code;
 use lx_image_steps::{Effect, next_effect, wrapped_call};
 use lx_model::program::{Calls, ScriptCall};
 use lx_model::request::{Outcome, Request, Trap, Way, What};
-use lx_shadow::Shadow;
 use lx_words::{Items, Memory};
 use std::alloc::Global;
 
@@ -55,7 +53,7 @@ impl Runner {
     {
         let calls = copies_of(alloc, calls.as_slice())?;
         let endings = Vec::with_capacity(alloc, calls.len())?;
-        let shadow = Shadow::open(alloc)?;
+        let stack = FrameStack::open(alloc)?;
         let fuel = fuel_at(&calls, 0);
         Ok(Runner {
             alloc,
@@ -64,11 +62,8 @@ impl Runner {
             endings,
             fuel,
             due: None,
-            top: None,
-            below: Callers::new(alloc),
-            shadow,
+            stack,
             marks: None,
-            registers: Vec::new(alloc),
             request: None,
         })
     }
@@ -85,7 +80,7 @@ impl Runner {
     // The first call that is left starts.
     fn start(&mut self, code: &Code) -> Result<(), Memory>
         requires request { self.old.request ≡ None }
-        requires top { self.old.top ≡ None }
+        requires top { self.old.stack.top ≡ None }
         requires work { IsTrue (has_call (calls_left self.old)) }
         ensures steps { OnOk result (HasTaken code.now self.old self.new (start_step (calls_left self.old) (thread_of code.now self.old))) }
         ensures stays { OnErr result (HasStayed code.now self.old self.new) }
@@ -97,7 +92,7 @@ impl Runner {
         }
         let place = self.endings.len();
         let what = entry(self.alloc, &self.calls.as_slice()[place])?;
-        self.make_room(code, &what)?;
+        self.stack.make_room(code, &what)?;
         self.fuel -= 1; // the start of a call costs a unit
         self.marks = None;
         self.request = Some(Request {
@@ -109,9 +104,9 @@ impl Runner {
 
     // The import whose wrapper the function stands to call.
     fn wrapped(&self, code: &Code) -> Option<u32>
-        ensures { result ≡ wrapped_in code.now (frames_of code.now self.now.top self.now.below) }
+        ensures { result ≡ wrapped_in code.now (frames_of code.now self.now.stack.top self.now.stack.below) }
     {
-        match self.running() {
+        match self.stack.running() {
             Some(run) => wrapped_call(code, run),
             None => None,
         }
@@ -119,9 +114,9 @@ impl Runner {
 
     // The effect of the next instruction, which calls no wrapper; none, where there is no instruction.
     fn next_effect(&self, code: &Code) -> Result<Option<Effect>, Memory>
-        ensures { IfOk result (λ e. (m : Marks) → (v : ImageThread) → wrapped_in code.now (frames_of code.now self.now.top self.now.below) ≡ None → instruction_in code.now m v (frames_of code.now self.now.top self.now.below) ≡ found_in code.now m v (frames_of code.now self.now.top self.now.below) e) }
+        ensures { IfOk result (λ e. (m : Marks) → (v : ImageThread) → wrapped_in code.now (frames_of code.now self.now.stack.top self.now.stack.below) ≡ None → instruction_in code.now m v (frames_of code.now self.now.stack.top self.now.stack.below) ≡ found_in code.now m v (frames_of code.now self.now.stack.top self.now.stack.below) e) }
     {
-        match self.running() {
+        match self.stack.running() {
             Some(run) => {
                 let effect = next_effect(self.alloc, code, run)?;
                 Ok(effect)
@@ -134,8 +129,8 @@ impl Runner {
     fn take_effect(&mut self, code: &Code) -> Result<(), Memory>
         requires fuel { 0 < self.old.fuel }
         requires request { self.old.request ≡ None }
-        requires top { IsSome (running_on self.old.top) }
-        requires plain { wrapped_in code.now (frames_of code.now self.old.top self.old.below) ≡ None }
+        requires top { IsSome (running_on self.old.stack.top) }
+        requires plain { wrapped_in code.now (frames_of code.now self.old.stack.top self.old.stack.below) ≡ None }
         ensures steps { OnOk result (HasTaken code.now self.old self.new (instruction_on code.now (marks_in self.old.marks) (poorer (thread_of code.now self.old)))) }
         ensures stays { OnErr result (HasStayed code.now self.old self.new) }
         ensures spares { events_left self.new ≤ events_left self.old }
@@ -152,7 +147,7 @@ impl Runner {
     fn take_instruction(&mut self, code: &Code) -> Result<(), Memory>
         requires fuel { 0 < self.old.fuel }
         requires request { self.old.request ≡ None }
-        requires top { IsSome (running_on self.old.top) }
+        requires top { IsSome (running_on self.old.stack.top) }
         ensures steps { OnOk result (HasTaken code.now self.old self.new (instruction_on code.now (marks_in self.old.marks) (poorer (thread_of code.now self.old)))) }
         ensures stays { OnErr result (HasStayed code.now self.old self.new) }
         ensures spares { events_left self.new ≤ events_left self.old }
@@ -167,9 +162,9 @@ impl Runner {
     // The function on top takes a step, behind its marks.
     fn run(&mut self, code: &Code) -> Result<(), Memory>
         requires request { self.old.request ≡ None }
-        requires top { IsSome (running_on self.old.top) }
+        requires top { IsSome (running_on self.old.stack.top) }
         requires marks { IsSome self.old.marks }
-        ensures steps { OnOk result (HasTaken code.now self.old self.new (marked_frame_step code.now self.old.marks (thread_of code.now self.old) (frames_of code.now self.old.top self.old.below))) }
+        ensures steps { OnOk result (HasTaken code.now self.old self.new (marked_frame_step code.now self.old.marks (thread_of code.now self.old) (frames_of code.now self.old.stack.top self.old.stack.below))) }
         ensures stays { OnErr result (HasStayed code.now self.old self.new) }
         ensures spares { events_left self.new ≤ events_left self.old }
     {
@@ -195,14 +190,14 @@ impl Runner {
     // A step of the function on top, or the start of a call where no frame is.
     fn run_or_start(&mut self, code: &Code) -> Result<(), Memory>
         requires request { self.old.request ≡ None }
-        requires place { place_on self.old.top ≡ None }
-        requires marked { IsSome (running_on self.old.top) → IsSome self.old.marks }
+        requires place { place_on self.old.stack.top ≡ None }
+        requires marked { IsSome (running_on self.old.stack.top) → IsSome self.old.marks }
         requires work { IsTrue (has_call (calls_left self.old)) }
-        ensures steps { OnOk result (HasTaken code.now self.old self.new (marked_frame_step code.now self.old.marks (thread_of code.now self.old) (frames_of code.now self.old.top self.old.below))) }
+        ensures steps { OnOk result (HasTaken code.now self.old self.new (marked_frame_step code.now self.old.marks (thread_of code.now self.old) (frames_of code.now self.old.stack.top self.old.stack.below))) }
         ensures stays { OnErr result (HasStayed code.now self.old self.new) }
         ensures spares { events_left self.new ≤ events_left self.old }
     {
-        if self.running().is_some() {
+        if self.stack.running().is_some() {
             self.run(code)?;
         } else {
             self.start(code)?;
@@ -220,7 +215,7 @@ impl Runner {
         ensures stays { OnErr result (HasStayed code.now self.old self.new) }
         ensures spares { events_left self.new ≤ events_left self.old }
     {
-        match self.place() {
+        match self.stack.place() {
             Some(place) => self.go_on(code, place)?,
             None => self.run_or_start(code)?,
         }
@@ -256,7 +251,7 @@ impl Runner {
         if self.due.is_some() || self.marks.is_some() {
             return;
         }
-        if let Some(frame) = &mut self.top {
+        if let Some(frame) = &mut self.stack.top {
             self.marks = frame.take_marks(code);
         }
     }

@@ -4,57 +4,26 @@ ghost use Rattle.lx_model.specs.declared.request.Way.TheVariants.{Direct};
 ghost use Rattle.lx_model.specs.declared.request.What.TheVariants as what;
 ghost use Rattle.lx_model.specs.Next.{request};
 ghost use Rattle.lx_images.specs.Image.{Asks, AtEnter, Code as Images, Wraps, after_leaving, frame_step, with_frames};
-ghost use Rattle.lx_interp.specs.declared.frame.Place.TheVariants as kept_place;
-ghost use Rattle.lx_interp.specs.Frames.{frame_of, frames_of};
-ghost use Rattle.lx_interp.specs.Runner.{CanEnter, CanGoOn, HasStayed, HasTaken, action_of, action_on, args_in, args_on, events_left, function_on, place_on, poorer, running_on, thread_of, wrapper_on};
+ghost use Rattle.lx_frames.specs.declared.frame.Place.TheVariants as kept_place;
+ghost use Rattle.lx_frames.specs.Frames.{args_on, frame_of, frames_of, function_on, place_on, running_on};
+ghost use Rattle.lx_frames.specs.Stack.{CanEnter, CanGoOn};
+ghost use Rattle.lx_interp.specs.Runner.{HasStayed, HasTaken, action_of, action_on, events_left, poorer, thread_of, wrapper_on};
 
 use super::Runner;
-use crate::frame::{Frame, Place};
 use lx_annot::expr::Env;
 use lx_caps::Principal;
+use lx_frames::Place;
 use lx_image_code::Code;
-use lx_image_steps::call_arguments;
 use lx_model::request::{Outcome, Request, Trap, Way, What};
 use lx_words::{Items, Memory, Word, Words};
-use std::alloc::Global;
 
 impl Runner {
-    /// The line of the wrapper on top; none, where no wrapper is there.
-    pub(super) fn place(&self) -> Option<Place>
-        ensures { result ≡ place_on self.now.top }
-    {
-        match &self.top {
-            Some(frame) => frame.place(),
-            None => None,
-        }
-    }
-
-    /// The number of the function that the wrapper on top wraps.
-    pub(super) fn function(&self) -> u32
-        ensures { result ≡ function_on self.now.top }
-    {
-        match &self.top {
-            Some(frame) => frame.function(),
-            None => 0,
-        }
-    }
-
-    /// The arguments that the wrapper on top was called with.
-    pub(super) fn args(&self) -> &[Word]
-        ensures { result.now ≡ args_on self.now.top }
-    {
-        match &self.top {
-            Some(frame) => frame.args(),
-            None => &[],
-        }
-    }
-
     // The request for an action of the wrapper on top, before its body or behind it: from the caller to the callee, or back.
     fn action(&self, post: bool, index: u32, value: &Option<Word>) -> Result<Request, Memory>
-        ensures { IfOk result (λ q. q ≡ action_of self.now.shadow.principals (function_on self.now.top) (args_on self.now.top) post index value.now) }
+        ensures { IfOk result (λ q. q ≡ action_of self.now.stack.shadow.principals (function_on self.now.stack.top) (args_on self.now.stack.top) post index value.now) }
     {
-        let args = Items::from_slice(self.alloc, self.args())?;
-        let (callee, caller) = (self.shadow.top(), self.shadow.below_top());
+        let args = Items::from_slice(self.alloc, self.stack.args())?;
+        let (callee, caller) = (self.stack.shadow.top(), self.stack.shadow.below_top());
         let (source, dest, ret) = if post {
             (callee, caller, *value)
         } else {
@@ -63,7 +32,7 @@ impl Runner {
         Ok(Request {
             who: source,
             what: What::Perform {
-                function: self.function(),
+                function: self.stack.function(),
                 post,
                 index,
                 env: Env { args, ret },
@@ -76,7 +45,7 @@ impl Runner {
     // The wrapper on top asks for an action, which costs a unit.
     fn perform(&mut self, post: bool, index: u32, value: &Option<Word>) -> Result<(), Memory>
         requires request { self.old.request ≡ None }
-        ensures steps { OnOk result ((c : Images) → CanGoOn c self.old self.old.top → HasTaken c self.old self.new (action_on (thread_of c self.old) (function_on self.old.top) (args_on self.old.top) post index value.now)) }
+        ensures steps { OnOk result ((c : Images) → CanGoOn c self.old.stack self.old.stack.top → HasTaken c self.old self.new (action_on (thread_of c self.old) (function_on self.old.stack.top) (args_on self.old.stack.top) post index value.now)) }
         ensures stays { OnErr result ((c : Images) → HasStayed c self.old self.new) }
         ensures spares { events_left self.new ≤ events_left self.old }
     {
@@ -94,13 +63,13 @@ impl Runner {
     // The wrapper on top goes on before its body, to an action.
     fn go_in(&mut self, code: &Code, index: u32) -> Result<(), Memory>
         requires request { self.old.request ≡ None }
-        requires place { place_on self.old.top ≡ Some (kept_place.Pre index) }
-        ensures steps { OnOk result (HasTaken code.now self.old self.new (frame_step code.now (thread_of code.now self.old) (frames_of code.now self.old.top self.old.below))) }
+        requires place { place_on self.old.stack.top ≡ Some (kept_place.Pre index) }
+        ensures steps { OnOk result (HasTaken code.now self.old self.new (frame_step code.now (thread_of code.now self.old) (frames_of code.now self.old.stack.top self.old.stack.below))) }
         ensures stays { OnErr result (HasStayed code.now self.old self.new) }
         ensures spares { events_left self.new ≤ events_left self.old }
     {
-        let args = self.args().len();
-        self.prepare(code, args, 1)?;
+        let args = self.stack.args().len();
+        self.stack.prepare(code, args, 1)?;
         self.perform(false, index, &None)?;
         Ok(())
     }
@@ -108,7 +77,7 @@ impl Runner {
     /// The frame on top is left: its caller goes on with the value, or a wrapper goes on to its actions behind the body, or the call
     /// comes to its end.
     pub(super) fn leave(&mut self, code: &Code, value: &Option<Word>)
-        ensures state { thread_of code.now self.new ≡ after_leaving value.now (map (frame_of code.now) self.old.below.frames) (thread_of code.now self.old) }
+        ensures state { thread_of code.now self.new ≡ after_leaving value.now (map (frame_of code.now) self.old.stack.below.frames) (thread_of code.now self.old) }
         ensures number { self.new.thread ≡ self.old.thread }
         ensures calls { self.new.calls ≡ self.old.calls }
         ensures ended { self.new.endings ≡ self.old.endings }
@@ -116,15 +85,15 @@ impl Runner {
         ensures marks { self.new.marks ≡ self.old.marks }
         ensures request { self.new.request ≡ self.old.request }
     {
-        match self.below.pop() {
+        match self.stack.below.pop() {
             Some(mut frame) => {
                 frame.resume(code, value);
-                self.top = Some(frame);
+                self.stack.top = Some(frame);
             }
             None => {
                 self.due = Some(Outcome::Returned(*value));
-                self.top = None;
-                self.shadow.clear();
+                self.stack.top = None;
+                self.stack.shadow.clear();
             }
         }
     }
@@ -132,15 +101,18 @@ impl Runner {
     // The wrapper on top goes on behind its body: to an action, or out, and its principal with it.
     fn go_out(&mut self, code: &Code, index: u32, value: &Option<Word>) -> Result<(), Memory>
         requires request { self.old.request ≡ None }
-        requires place { place_on self.old.top ≡ Some (kept_place.Post index value.now) }
-        ensures steps { OnOk result (HasTaken code.now self.old self.new (frame_step code.now (thread_of code.now self.old) (frames_of code.now self.old.top self.old.below))) }
+        requires place { place_on self.old.stack.top ≡ Some (kept_place.Post index value.now) }
+        ensures steps { OnOk result (HasTaken code.now self.old self.new (frame_step code.now (thread_of code.now self.old) (frames_of code.now self.old.stack.top self.old.stack.below))) }
         ensures stays { OnErr result (HasStayed code.now self.old self.new) }
         ensures spares { events_left self.new ≤ events_left self.old }
     {
-        if code.program_code().has_action(self.function(), true, index) {
+        if code
+            .program_code()
+            .has_action(self.stack.function(), true, index)
+        {
             self.perform(true, index, value)?;
         } else {
-            self.shadow.pop();
+            self.stack.shadow.pop();
             self.marks = None;
             self.leave(code, value);
         }
@@ -150,8 +122,8 @@ impl Runner {
     /// A step of the wrapper on top, by its line.
     pub(super) fn go_on(&mut self, code: &Code, place: Place) -> Result<(), Memory>
         requires request { self.old.request ≡ None }
-        requires place { place_on self.old.top ≡ Some place }
-        ensures steps { OnOk result (HasTaken code.now self.old self.new (frame_step code.now (thread_of code.now self.old) (frames_of code.now self.old.top self.old.below))) }
+        requires place { place_on self.old.stack.top ≡ Some place }
+        ensures steps { OnOk result (HasTaken code.now self.old self.new (frame_step code.now (thread_of code.now self.old) (frames_of code.now self.old.stack.top self.old.stack.below))) }
         ensures stays { OnErr result (HasStayed code.now self.old self.new) }
         ensures spares { events_left self.new ≤ events_left self.old }
     {
@@ -163,33 +135,16 @@ impl Runner {
         Ok(())
     }
 
-    // The arguments of the call that the function stands at.
-    fn arguments(&self, code: &Code) -> Result<Words, Memory>
-        ensures { IfOk result (λ args. args ≡ args_in code.now (frames_of code.now self.now.top self.now.below)) }
-    {
-        match self.running() {
-            Some(run) => {
-                let args = call_arguments(self.alloc, code, run)?;
-                Ok(args)
-            }
-            None => Ok(Items::new(self.alloc)),
-        }
-    }
-
     // A wrapper stands on the function that calls it, and asks to enter what it wraps.
     fn ask_enter(&mut self, who: Principal, function: u32, args: Words, copy: Words)
         requires fuel { 0 < self.old.fuel }
-        requires room { 0 < self.old.below.room }
-        ensures steps { (c : Images) → copy ≡ args → CanEnter c self.old (length args) 3 → 0 < self.old.shadow.room → HasTaken c self.old self.new (Asks (with_frames (Wraps function args AtEnter ∷ frames_of c self.old.top self.old.below) (poorer (thread_of c self.old))) (request who (what.Enter (Direct function) args))) }
+        requires room { 0 < self.old.stack.below.room }
+        ensures steps { (c : Images) → copy ≡ args → CanEnter c self.old.stack (length args) 3 → 0 < self.old.stack.shadow.room → HasTaken c self.old self.new (Asks (with_frames (Wraps function args AtEnter ∷ frames_of c self.old.stack.top self.old.stack.below) (poorer (thread_of c self.old))) (request who (what.Enter (Direct function) args))) }
         ensures spares { self.old.request ≡ None → events_left self.new ≤ events_left self.old }
     {
         self.fuel -= 1; // the call of a wrapper costs a unit
         self.marks = None;
-        self.push(Frame::Wraps {
-            function,
-            args: copy,
-            place: Place::Enter,
-        });
+        self.stack.push_wrapper(function, copy);
         self.request = Some(Request {
             who,
             what: What::Enter {
@@ -203,19 +158,19 @@ impl Runner {
     pub(super) fn call_wrapper(&mut self, code: &Code, function: u32) -> Result<(), Memory>
         requires fuel { 0 < self.old.fuel }
         requires request { self.old.request ≡ None }
-        requires top { IsSome (running_on self.old.top) }
+        requires top { IsSome (running_on self.old.stack.top) }
         ensures steps { OnOk result (HasTaken code.now self.old self.new (wrapper_on code.now (poorer (thread_of code.now self.old)) function)) }
         ensures stays { OnErr result (HasStayed code.now self.old self.new) }
         ensures spares { events_left self.new ≤ events_left self.old }
     {
-        if !self.has_room() {
+        if !self.stack.has_room() {
             self.trap(Trap::TooDeep);
             return Ok(());
         }
-        let args = self.arguments(code)?;
+        let args = self.stack.arguments(code)?;
         let copy = Items::from_slice(self.alloc, args.as_slice())?;
-        self.prepare_entry(code, args.len(), 3)?;
-        let who = self.shadow.top();
+        self.stack.prepare_entry(code, args.len(), 3)?;
+        let who = self.stack.shadow.top();
         self.ask_enter(who, function, args, copy);
         Ok(())
     }

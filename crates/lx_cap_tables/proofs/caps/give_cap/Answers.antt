@@ -1,12 +1,12 @@
 use Rattle.std.proofs.Common.{◌≡◌, ◌≢◌, ◌||◌, Bool, ℕ, List, Some, sym, ap, ◌∙◌, subst}
 use Rattle.lx_cap_nodes.specs.Words.{nodes_at}
-use Rattle.lx_cap_tables.specs.Entries.{bit_among}
-use Rattle.lx_cap_tables.specs.Tables.{Key, place_in, behind_parts}
-use Rattle.lx_cap_tables.specs.declared.entry.Spot.TheVariants as spot
-use Rattle.lx_cap_tables.specs.Kept.{FitsSpots}
-use Rattle.lx_cap_tables.proofs.KeptLemmas.{parts_from_spots}
+use Rattle.lx_cap_lists.specs.Entries.{bit_among}
+use Rattle.lx_cap_lists.specs.Tables.{Key, place_in, behind_parts}
+use Rattle.lx_cap_lists.specs.declared.entry.Spot.TheVariants as spot
+use Rattle.lx_cap_lists.specs.Kept.{FitsSpots}
+use Rattle.lx_cap_lists.proofs.KeptLemmas.{parts_from_spots}
 use Rattle.lx_cap_tables.proofs.AtomLemmas.{empty_given, call_given, ref_given, still_found}
-use Rattle.lx_cap_tables.specs.declared.holder.Holder.{Holder}
+use Rattle.lx_cap_lists.specs.declared.holder.Holder.{Holder}
 use Rattle.lx_cap_tables.proofs.caps.give_cap.Goals as goal
 
 pub returns-in-Call-clause-shows : goal.returns-in-Call-clause-shows

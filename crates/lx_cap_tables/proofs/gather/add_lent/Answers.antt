@@ -1,7 +1,7 @@
 use Rattle.std.proofs.Common.{◌≡◌, ◌&&◌, ◌||◌, ap, ◌∙◌, subst, arith}
 use Rattle.lx_caps.specs.declared.Atom.{Atom}
-use Rattle.lx_cap_tables.specs.Owned.{lent_atom, listed_atom}
-use Rattle.lx_cap_tables.specs.Tables.{loan_key}
+use Rattle.lx_cap_lists.specs.Owned.{lent_atom, listed_atom}
+use Rattle.lx_cap_lists.specs.Tables.{loan_key}
 use Rattle.lx_cap_tables.proofs.AloneLemmas.{below_step, none_below}
 use Rattle.lx_cap_tables.proofs.gather.add_lent.Goals as goal
 

@@ -1,6 +1,6 @@
 use Rattle.std.proofs.Common.{◌≡◌, ◌≤◌, ◌&&◌, ◌||◌}
 use Rattle.lx_caps.specs.declared.Atom.{Atom}
-use Rattle.lx_cap_tables.specs.Owned.{lent_atom}
+use Rattle.lx_cap_lists.specs.Owned.{lent_atom}
 use Rattle.lx_cap_tables.proofs.gather.add_lent.Given as goal
 
 abbrev pub invariant-loop-older : goal.invariant-loop-older

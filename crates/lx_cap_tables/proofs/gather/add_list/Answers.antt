@@ -1,12 +1,12 @@
 use Rattle.std.proofs.Common.{◌≡◌, ◌||◌, ◌&&◌, ◌∷◌, sym, ap, ◌∙◌}
 use Rattle.lx_cap_nodes.specs.declared.pool.Family.TheVariants as family
 use Rattle.lx_cap_nodes.specs.Words.{nodes_at}
-use Rattle.lx_cap_tables.specs.Atoms.{atom_among, spot_fits}
-use Rattle.lx_cap_tables.specs.Kept.{all_nodes}
-use Rattle.lx_cap_tables.specs.Walks.{from}
+use Rattle.lx_cap_lists.specs.Atoms.{atom_among, spot_fits}
+use Rattle.lx_cap_lists.specs.Kept.{all_nodes}
+use Rattle.lx_cap_lists.specs.Walks.{from}
 use Rattle.lx_cap_tables.proofs.AloneLemmas.{node_step}
-use Rattle.lx_cap_tables.proofs.HeldLemmas.{and_yes}
-use Rattle.lx_cap_tables.proofs.WalkLemmas.{begins}
+use Rattle.lx_cap_lists.proofs.HeldLemmas.{and_yes}
+use Rattle.lx_cap_lists.proofs.WalkLemmas.{begins}
 use Rattle.lx_cap_tables.proofs.gather.add_list.Goals as goal
 
 pub loop-node-init : goal.loop-node-init

@@ -1,9 +1,9 @@
 use Rattle.std.proofs.Common.{◌≡◌, ◌||◌, ◌&&◌, true, length}
 use Rattle.lx_caps.specs.declared.Atom.{Atom}
 use Rattle.lx_cap_nodes.specs.Words.{nodes_at}
-use Rattle.lx_cap_tables.specs.Atoms.{atom_among, spot_fits}
-use Rattle.lx_cap_tables.specs.Kept.{all_nodes}
-use Rattle.lx_cap_tables.specs.Walks.{from, HasCome}
+use Rattle.lx_cap_lists.specs.Atoms.{atom_among, spot_fits}
+use Rattle.lx_cap_lists.specs.Kept.{all_nodes}
+use Rattle.lx_cap_lists.specs.Walks.{from, HasCome}
 use Rattle.lx_cap_tables.proofs.gather.add_list.Given as goal
 
 abbrev pub invariant-loop-node : goal.invariant-loop-node

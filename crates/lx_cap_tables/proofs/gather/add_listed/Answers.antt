@@ -1,6 +1,6 @@
 use Rattle.std.proofs.Common.{◌≡◌, Some, sym, ◌∙◌, arith}
-use Rattle.lx_cap_tables.specs.Owned.{AllFit}
-use Rattle.lx_cap_tables.specs.Tables.{place_in}
+use Rattle.lx_cap_lists.specs.Owned.{AllFit}
+use Rattle.lx_cap_lists.specs.Tables.{place_in}
 use Rattle.lx_cap_tables.proofs.AtomLemmas.{list_within}
 use Rattle.lx_cap_tables.proofs.gather.add_listed.Goals as goal
 

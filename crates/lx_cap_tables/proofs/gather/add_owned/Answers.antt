@@ -1,8 +1,8 @@
 use Rattle.std.proofs.Common.{◌&&◌, ◌||◌, ap, ◌∙◌}
-use Rattle.lx_cap_tables.specs.Lists.{some_below}
-use Rattle.lx_cap_tables.specs.Loans.{loans_of}
-use Rattle.lx_cap_tables.specs.Owned.{lent_atom, listed_atom}
-use Rattle.lx_cap_tables.specs.Tables.{owner_key}
+use Rattle.lx_cap_lists.specs.Lists.{some_below}
+use Rattle.lx_cap_lists.specs.Loans.{loans_of}
+use Rattle.lx_cap_lists.specs.Owned.{lent_atom, listed_atom}
+use Rattle.lx_cap_lists.specs.Tables.{owner_key}
 use Rattle.lx_cap_tables.proofs.AloneLemmas.{or_step}
 use Rattle.lx_cap_tables.proofs.gather.add_owned.Goals as goal
 

@@ -1,6 +1,6 @@
 use Rattle.std.proofs.Common.{sym, ap, ◌∙◌, arith}
-use Rattle.lx_cap_tables.specs.Holders.{counts}
-use Rattle.lx_cap_tables.specs.Tables.{shown_at}
+use Rattle.lx_cap_lists.specs.Holders.{counts}
+use Rattle.lx_cap_lists.specs.Tables.{shown_at}
 use Rattle.lx_cap_tables.proofs.AtomLemmas.{behind_within}
 use Rattle.lx_cap_tables.proofs.held.holds_atom.Goals as goal
 

@@ -1,11 +1,11 @@
 use Rattle.std.proofs.Common.{◌≡◌, ◌<◌, ◌+◌, ◌*◌, ◌/◌, ◌%◌, ◌^◌, nat_eq, true, false, Bool, ℕ, Some, refl, sym, ap, ◌∙◌, arith}
-use Rattle.lx_cap_tables.specs.Holders.{counts}
+use Rattle.lx_cap_lists.specs.Holders.{counts}
 use Rattle.lx_caps.specs.Regions.{covers}
-use Rattle.lx_cap_tables.specs.Bits.{is_set}
-use Rattle.lx_cap_tables.specs.Tables.{shown_at, part_list, HoldsPart}
-use Rattle.lx_cap_tables.proofs.WalkLemmas.{same_from_eq, eq_self}
-use Rattle.lx_cap_tables.proofs.PartLemmas.{piece_bit}
-use Rattle.lx_cap_tables.proofs.HeldLemmas.{present, missing, and_yes, and_join, byte_of, some_byte}
+use Rattle.lx_cap_lists.specs.Bits.{is_set}
+use Rattle.lx_cap_lists.specs.Tables.{shown_at, part_list, HoldsPart}
+use Rattle.lx_cap_lists.proofs.WalkLemmas.{same_from_eq, eq_self}
+use Rattle.lx_cap_lists.proofs.PartLemmas.{piece_bit}
+use Rattle.lx_cap_lists.proofs.HeldLemmas.{present, missing, and_yes, and_join, byte_of, some_byte}
 use Rattle.lx_cap_tables.proofs.held.holds_part.Goals as goal
 
 pub returns-in-Some : goal.returns-in-Some

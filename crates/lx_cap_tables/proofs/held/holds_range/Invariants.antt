@@ -1,7 +1,7 @@
 use Rattle.std.proofs.Common.{◌≡◌, ◌≤◌, ◌+◌, ◌/◌, ◌%◌, true, ℕ}
-use Rattle.lx_cap_tables.specs.Holders.{counts}
-use Rattle.lx_cap_tables.specs.Tables.{shown_at, part_list}
-use Rattle.lx_cap_tables.proofs.Ranges.{covered}
+use Rattle.lx_cap_lists.specs.Holders.{counts}
+use Rattle.lx_cap_lists.specs.Tables.{shown_at, part_list}
+use Rattle.lx_cap_lists.proofs.Ranges.{covered}
 use Rattle.lx_cap_tables.proofs.held.holds_range.Given as goal
 
 abbrev pub invariant-loop-part : goal.invariant-loop-part

@@ -1,7 +1,7 @@
 use Rattle.std.proofs.Common.{◌≡◌, ◌&&◌, Some, None, sym, ap, ◌∙◌, subst, arith}
 use Rattle.lx_caps.specs.Order.{is_behind, IsFirst}
-use Rattle.lx_cap_tables.specs.Owned.{AllFit, given_in}
-use Rattle.lx_cap_tables.specs.Tables.{place_in}
+use Rattle.lx_cap_lists.specs.Owned.{AllFit, given_in}
+use Rattle.lx_cap_lists.specs.Tables.{place_in}
 use Rattle.lx_cap_tables.proofs.AtomLemmas.{list_within}
 use Rattle.lx_cap_tables.proofs.TieLemmas.{and_nothing}
 use Rattle.lx_cap_tables.proofs.held.owned_by_list.Goals as goal

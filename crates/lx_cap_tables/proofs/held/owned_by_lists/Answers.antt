@@ -1,9 +1,9 @@
 use Rattle.std.proofs.Common.{◌&&◌, subst}
 use Rattle.lx_caps.specs.Order.{is_behind, IsFirst}
-use Rattle.lx_cap_tables.specs.Lists.{some_below}
-use Rattle.lx_cap_tables.specs.Loans.{loans_of}
-use Rattle.lx_cap_tables.specs.Owned.{lent_atom, listed_atom}
-use Rattle.lx_cap_tables.specs.Tables.{owner_key}
+use Rattle.lx_cap_lists.specs.Lists.{some_below}
+use Rattle.lx_cap_lists.specs.Loans.{loans_of}
+use Rattle.lx_cap_lists.specs.Owned.{lent_atom, listed_atom}
+use Rattle.lx_cap_lists.specs.Tables.{owner_key}
 use Rattle.lx_cap_tables.proofs.TieLemmas.{all_fit, first_is}
 use Rattle.lx_cap_tables.proofs.held.owned_by_lists.Goals as goal
 

@@ -2,10 +2,10 @@ use Rattle.std.proofs.Common.{◌&&◌, ◌+◌, ◌/◌, ◌%◌, List, Option,
 use Rattle.lx_caps.specs.declared.Atom.{Atom}
 use Rattle.lx_caps.specs.declared.Atom.TheVariants.{Byte}
 use Rattle.lx_caps.specs.Order.{is_behind, IsFirst}
-use Rattle.lx_cap_tables.specs.Holders.{held_by}
-use Rattle.lx_cap_tables.specs.Owned.{owned_from}
-use Rattle.lx_cap_tables.specs.Tables.{Key, place_of, bit_of, shown_at}
-use Rattle.lx_cap_tables.proofs.NearLemmas.{found_here, found_next}
+use Rattle.lx_cap_lists.specs.Holders.{held_by}
+use Rattle.lx_cap_lists.specs.Owned.{owned_from}
+use Rattle.lx_cap_lists.specs.Tables.{Key, place_of, bit_of, shown_at}
+use Rattle.lx_cap_lists.proofs.NearLemmas.{found_here, found_next}
 use Rattle.lx_cap_tables.proofs.held.owned_near.Goals as goal
 
 pub returns-in-Some : goal.returns-in-Some

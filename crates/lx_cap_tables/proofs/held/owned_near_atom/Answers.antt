@@ -1,7 +1,7 @@
 use Rattle.std.proofs.Common.{◌&&◌, Some, IfSome, sym, subst}
 use Rattle.lx_caps.specs.Order.{is_behind, IsFirst}
-use Rattle.lx_cap_tables.specs.Holders.{held_by}
-use Rattle.lx_cap_tables.specs.Tables.{place_of, bit_of, shown_at}
+use Rattle.lx_cap_lists.specs.Holders.{held_by}
+use Rattle.lx_cap_lists.specs.Tables.{place_of, bit_of, shown_at}
 use Rattle.lx_cap_tables.proofs.held.owned_near_atom.Goals as goal
 
 pub returns-in-Byte : goal.returns-in-Byte

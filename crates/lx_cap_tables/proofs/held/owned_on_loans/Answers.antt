@@ -1,9 +1,9 @@
 use Rattle.std.proofs.Common.{◌≡◌, ◌&&◌, Bool, ℕ, subst, arith}
 use Rattle.lx_caps.specs.declared.Atom.{Atom}
 use Rattle.lx_caps.specs.Order.{is_behind, IsFirst}
-use Rattle.lx_cap_tables.specs.Lists.{some_below}
-use Rattle.lx_cap_tables.specs.Loans.{loans_of}
-use Rattle.lx_cap_tables.specs.Owned.{lent_atom}
+use Rattle.lx_cap_lists.specs.Lists.{some_below}
+use Rattle.lx_cap_lists.specs.Loans.{loans_of}
+use Rattle.lx_cap_lists.specs.Owned.{lent_atom}
 use Rattle.lx_cap_tables.proofs.Below.{some_none, one_more_found}
 use Rattle.lx_cap_tables.proofs.TieLemmas.{and_nothing}
 use Rattle.lx_cap_tables.proofs.held.owned_on_loans.Goals as goal

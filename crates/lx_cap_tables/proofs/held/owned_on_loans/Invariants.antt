@@ -1,8 +1,8 @@
 use Rattle.std.proofs.Common.{◌≤◌, ◌&&◌}
 use Rattle.lx_caps.specs.Order.{is_behind, IsFirst}
-use Rattle.lx_cap_tables.specs.Lists.{some_below}
-use Rattle.lx_cap_tables.specs.Loans.{loans_of}
-use Rattle.lx_cap_tables.specs.Owned.{lent_atom}
+use Rattle.lx_cap_lists.specs.Lists.{some_below}
+use Rattle.lx_cap_lists.specs.Loans.{loans_of}
+use Rattle.lx_cap_lists.specs.Owned.{lent_atom}
 use Rattle.lx_cap_tables.proofs.held.owned_on_loans.Given as goal
 
 abbrev pub invariant-loop-thread : goal.invariant-loop-thread

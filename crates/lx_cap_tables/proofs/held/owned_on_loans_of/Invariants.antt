@@ -1,6 +1,6 @@
 use Rattle.std.proofs.Common.{◌≤◌, ◌&&◌}
 use Rattle.lx_caps.specs.Order.{is_behind, IsFirst}
-use Rattle.lx_cap_tables.specs.Owned.{lent_atom}
+use Rattle.lx_cap_lists.specs.Owned.{lent_atom}
 use Rattle.lx_cap_tables.proofs.held.owned_on_loans_of.Given as goal
 
 abbrev pub invariant-loop-older : goal.invariant-loop-older

@@ -1,6 +1,6 @@
 use Rattle.std.proofs.Common.{◌∙◌, sym, ap}
 use Rattle.lx_caps.specs.History.{same_principal}
-use Rattle.lx_cap_tables.specs.Holders.{had}
+use Rattle.lx_cap_lists.specs.Holders.{had}
 use Rattle.lx_cap_tables.proofs.HadLemmas.{kept_is, owned_is, keeper_is}
 use Rattle.lx_cap_tables.proofs.laws.holder_laws.Goals as goal
 

@@ -1,5 +1,5 @@
 use Rattle.std.proofs.Common.{refl}
-use Rattle.lx_cap_tables.specs.Lists.{some_below}
+use Rattle.lx_cap_lists.specs.Lists.{some_below}
 use Rattle.lx_cap_tables.specs.Work.{shut_bound, strip_bound}
 use Rattle.lx_cap_tables.proofs.laws.worked_bounds.Goals as goal
 

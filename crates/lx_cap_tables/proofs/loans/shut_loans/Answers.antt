@@ -1,5 +1,5 @@
 use Rattle.std.proofs.Common.{◌<◌, refl, ◌∙◌, arith}
-use Rattle.lx_cap_tables.specs.Tables.{is_in_order, loan_key, place_in}
+use Rattle.lx_cap_lists.specs.Tables.{is_in_order, loan_key, place_in}
 use Rattle.lx_cap_tables.proofs.EndLemmas.{ended_none, ended_more, ended_less, ended_kept, stay_none, stay_more, stay_all, other_loan, one_loan_more, no_loan_more, same_loan}
 use Rattle.lx_cap_tables.proofs.loans.shut_loans.Goals as goal
 

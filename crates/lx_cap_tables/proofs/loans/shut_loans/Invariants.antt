@@ -1,9 +1,9 @@
 use Rattle.std.proofs.Common.{◌≡◌, ◌+◌, ◌-◌, Some, ◌≤◌, ℕ, Bool, [], List, max, length}
 use Rattle.lx_cap_nodes.specs.declared.pool.ListName.{ListName}
 use Rattle.lx_cap_nodes.specs.Words.{nodes_at}
-use Rattle.lx_cap_tables.specs.declared.entry.Entry.{Entry}
-use Rattle.lx_cap_tables.specs.Kept.{AllNodes, AreAll, AreEnded, StayBut}
-use Rattle.lx_cap_tables.specs.Tables.{Key, is_in_order, loan_key, loans_work, place_in}
+use Rattle.lx_cap_lists.specs.declared.entry.Entry.{Entry}
+use Rattle.lx_cap_lists.specs.Kept.{AllNodes, AreAll, AreEnded, StayBut}
+use Rattle.lx_cap_lists.specs.Tables.{Key, is_in_order, loan_key, loans_work, place_in}
 use Rattle.lx_cap_tables.proofs.loans.shut_loans.Given as goal
 
 abbrev pub invariant-loop-older : goal.invariant-loop-older

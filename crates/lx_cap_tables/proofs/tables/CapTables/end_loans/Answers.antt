@@ -1,12 +1,12 @@
 use Rattle.std.proofs.Common.{◌≡◌, ◌<◌, ◌≤◌, true, false, nat_eq, cond, ◌∷◌, length, refl, sym, ap, ◌∙◌, subst, arith, length-set}
 use Rattle.std.proofs.lemmas.Bool.Decides.{nat_tests}
-use Rattle.lx_cap_tables.specs.Holders.{left_by, open_count}
-use Rattle.lx_cap_tables.specs.Loans.{loans_of}
-use Rattle.lx_cap_tables.specs.Tables.{place_of, bit_of, is_in_order}
+use Rattle.lx_cap_lists.specs.Holders.{left_by, open_count}
+use Rattle.lx_cap_lists.specs.Loans.{loans_of}
+use Rattle.lx_cap_lists.specs.Tables.{place_of, bit_of, is_in_order}
 use Rattle.lx_cap_tables.specs.Sound.{StandsFor}
 use Rattle.lx_cap_tables.proofs.EndLemmas.{loans_set, deep_set, order_left, shown_left}
 use Rattle.lx_cap_tables.specs.Sound.{Tables}
-use Rattle.lx_cap_tables.specs.Kept.{AreEnded, StayBut}
+use Rattle.lx_cap_lists.specs.Kept.{AreEnded, StayBut}
 use Rattle.lx_cap_tables.proofs.tables.CapTables.end_loans.Goals as goal
 
 pub invariant_of-self : goal.invariant_of-self

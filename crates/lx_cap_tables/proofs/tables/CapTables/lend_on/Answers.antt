@@ -1,10 +1,10 @@
 use Rattle.std.proofs.Common.{◌≡◌, ◌≤◌, ◌+◌, ◌-◌, ◌&&◌, ◌||◌, true, length, Some, sym, ap, ◌∙◌, subst, arith}
 use Rattle.std.proofs.lemmas.Bool.Decides.{nat_tests}
 use Rattle.lx_caps.specs.History.{has}
-use Rattle.lx_cap_tables.specs.declared.holder.Holder.TheVariants.{Borrower}
-use Rattle.lx_cap_tables.specs.Holders.{had, open_count}
-use Rattle.lx_cap_tables.specs.Loans.{is_open, loans_of}
-use Rattle.lx_cap_tables.specs.Tables.{place_in, holder_key, is_in_order}
+use Rattle.lx_cap_lists.specs.declared.holder.Holder.TheVariants.{Borrower}
+use Rattle.lx_cap_lists.specs.Holders.{had, open_count}
+use Rattle.lx_cap_lists.specs.Loans.{is_open, loans_of}
+use Rattle.lx_cap_lists.specs.Tables.{place_in, holder_key, is_in_order}
 use Rattle.lx_cap_tables.specs.Sound.{Tables, StandsFor}
 use Rattle.lx_cap_tables.proofs.AtomLemmas.{list_within, one_longer, still_found}
 use Rattle.lx_cap_tables.proofs.SoundLemmas.{some_cells, order_respects, order_more, given_in_order}

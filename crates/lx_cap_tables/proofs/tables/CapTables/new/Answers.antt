@@ -1,6 +1,6 @@
 use Rattle.std.proofs.Common.{length, ap, ◌∙◌, arith}
 use Rattle.lx_cap_nodes.specs.Words.{nodes_at}
-use Rattle.lx_cap_tables.specs.Loans.{loans_of}
+use Rattle.lx_cap_lists.specs.Loans.{loans_of}
 use Rattle.lx_cap_tables.specs.Sound.{StandsFor}
 use Rattle.lx_cap_tables.proofs.SoundLemmas.{sound_new, shows_none, no_loans}
 use Rattle.lx_cap_tables.proofs.tables.CapTables.new.Goals as goal

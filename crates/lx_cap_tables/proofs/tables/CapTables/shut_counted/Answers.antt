@@ -1,10 +1,10 @@
 use Rattle.std.proofs.Common.{◌≡◌, ◌+◌, ◌-◌, true, nat_eq, refl, sym, ap, ◌∙◌, subst, arith}
 use Rattle.std.proofs.lemmas.Bool.Decides.{nat_tests}
 use Rattle.lx_caps.specs.declared.Act.TheVariants.{Shut}
-use Rattle.lx_cap_tables.specs.Holders.{had, left_by, open_count}
+use Rattle.lx_cap_lists.specs.Holders.{had, left_by, open_count}
 use Rattle.lx_cap_tables.specs.Sound.{Tables, StandsFor}
-use Rattle.lx_cap_tables.specs.Loans.{loans_of}
-use Rattle.lx_cap_tables.specs.Tables.{loans_work}
+use Rattle.lx_cap_lists.specs.Loans.{loans_of}
+use Rattle.lx_cap_lists.specs.Tables.{loans_work}
 use Rattle.lx_cap_tables.proofs.HadLemmas.{count_shut_here, count_shut_other}
 use Rattle.lx_cap_tables.proofs.ShutLemmas.{shut_within}
 use Rattle.lx_cap_tables.proofs.tables.CapTables.shut_counted.Goals as goal

@@ -1,6 +1,6 @@
 use Rattle.std.proofs.Common.{not, ◌&&◌, sym, ap, ◌∙◌, subst, arith}
 use Rattle.lx_caps.specs.History.{has}
-use Rattle.lx_cap_tables.specs.Tables.{is_in_order}
+use Rattle.lx_cap_lists.specs.Tables.{is_in_order}
 use Rattle.lx_cap_tables.specs.Sound.{StandsFor}
 use Rattle.lx_cap_tables.proofs.SoundLemmas.{order_respects}
 use Rattle.lx_cap_tables.proofs.BoundLemmas.{work_within}

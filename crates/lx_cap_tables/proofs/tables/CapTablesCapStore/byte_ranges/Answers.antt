@@ -2,9 +2,9 @@ use Rattle.std.proofs.Common.{ℕ, Bool, length, sym, ap, ◌∙◌, subst, arit
 use Rattle.lx_caps.specs.declared.Atom.TheVariants.{Byte}
 use Rattle.lx_caps.specs.History.{same_principal}
 use Rattle.lx_caps.specs.Ranges.{IsRanges}
-use Rattle.lx_cap_tables.specs.Holders.{held_by}
-use Rattle.lx_cap_tables.specs.Kept.{AreAll}
-use Rattle.lx_cap_tables.specs.Tables.{is_in_order}
+use Rattle.lx_cap_lists.specs.Holders.{held_by}
+use Rattle.lx_cap_lists.specs.Kept.{AreAll}
+use Rattle.lx_cap_lists.specs.Tables.{is_in_order}
 use Rattle.lx_cap_tables.specs.Sound.{StandsFor}
 use Rattle.lx_cap_tables.proofs.HadLemmas.{owned_is}
 use Rattle.lx_cap_tables.proofs.TieLemmas.{all_fit, listed_is}

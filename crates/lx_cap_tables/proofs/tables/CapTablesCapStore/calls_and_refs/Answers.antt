@@ -2,9 +2,9 @@ use Rattle.std.proofs.Common.{◌&&◌, None, length, sym, ap, ◌∙◌, subst,
 use Rattle.lx_caps.specs.History.{owns, same_principal}
 use Rattle.lx_caps.specs.Order.{is_call_or_ref, stands_in}
 use Rattle.lx_caps.proofs.InOrder.{all_behind-same}
-use Rattle.lx_cap_tables.specs.Holders.{held_by}
-use Rattle.lx_cap_tables.specs.Kept.{AreAll}
-use Rattle.lx_cap_tables.specs.Tables.{is_in_order}
+use Rattle.lx_cap_lists.specs.Holders.{held_by}
+use Rattle.lx_cap_lists.specs.Kept.{AreAll}
+use Rattle.lx_cap_lists.specs.Tables.{is_in_order}
 use Rattle.lx_cap_tables.specs.Sound.{StandsFor}
 use Rattle.lx_cap_tables.proofs.HadLemmas.{owned_is}
 use Rattle.lx_cap_tables.proofs.TieLemmas.{all_fit, listed_is}

@@ -1,8 +1,8 @@
 use Rattle.std.proofs.Common.{length, sym, ap, ◌∙◌, subst, arith}
-use Rattle.lx_cap_tables.specs.Tables.{is_in_order}
+use Rattle.lx_cap_lists.specs.Tables.{is_in_order}
 use Rattle.lx_cap_tables.specs.Sound.{StandsFor}
 use Rattle.lx_cap_tables.proofs.SoundLemmas.{next_owned_is}
-use Rattle.lx_cap_tables.specs.Kept.{AreAll}
+use Rattle.lx_cap_lists.specs.Kept.{AreAll}
 use Rattle.lx_cap_tables.proofs.tables.CapTablesCapStore.next_owned.Goals as goal
 
 pub owned_behind-requires : goal.owned_behind-requires

@@ -1,13 +1,13 @@
 use Rattle.std.proofs.Common.{◌≡◌, ◌<◌, ◌≤◌, true, false, ℕ, nat_eq, cond, ◌∷◌, length, refl, sym, ap, ◌∙◌, subst, arith, length-set}
 use Rattle.std.proofs.lemmas.Bool.Decides.{nat_tests}
 use Rattle.lx_caps.specs.declared.Act.TheVariants.{Loan}
-use Rattle.lx_cap_tables.specs.Holders.{open_count}
-use Rattle.lx_cap_tables.specs.Loans.{loans_of}
-use Rattle.lx_cap_tables.specs.Tables.{is_in_order}
+use Rattle.lx_cap_lists.specs.Holders.{open_count}
+use Rattle.lx_cap_lists.specs.Loans.{loans_of}
+use Rattle.lx_cap_lists.specs.Tables.{is_in_order}
 use Rattle.lx_cap_tables.specs.Sound.{StandsFor}
 use Rattle.lx_cap_tables.proofs.HadLemmas.{count_loan_here, count_loan_other}
 use Rattle.lx_cap_tables.proofs.EndLemmas.{loans_set, deep_set, order_opened}
-use Rattle.lx_cap_tables.specs.Kept.{AreAll}
+use Rattle.lx_cap_lists.specs.Kept.{AreAll}
 use Rattle.lx_cap_tables.proofs.tables.CapTablesCapStore.open_loan.Goals as goal
 
 pub count_loan-count-requires : goal.count_loan-count-requires

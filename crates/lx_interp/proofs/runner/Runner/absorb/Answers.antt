@@ -24,4 +24,4 @@ returns-in-Some-clause-spends c = λ work spent.
 pub returns-in-Some-asked-clause-stands : goal.returns-in-Some-asked-clause-stands
 returns-in-Some-asked-clause-stands c = λ t asking a m.
     reply_taken c.args.code.now t c.args.self.now _ c.take_in.new.self asking c.in-Some-asked.request c.args.reply.now a c.in-Some-asked.ensures.value c.in-None.ensures m
-    refl refl refl refl refl refl refl c.take-asked.ensures.after c.take_in.ensures.becomes
+    refl refl refl refl c.take-asked.ensures.after c.take_in.ensures.becomes

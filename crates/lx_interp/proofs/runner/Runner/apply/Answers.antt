@@ -9,4 +9,4 @@ returns-in-Traps-clause-steps c =
     let old = c.args.self.now in
     let v = poorer (thread_of p old) in
     taken_as p old c.trap.new.self _ _
-    (ap (effect_on p (marks_in old.marks) v) c.in-Traps.is ∙ traps_on p (marks_in old.marks) v old.top old.below c.in-Traps.trap c.requires.top) (c.trap.ensures.stops p)
+    (ap (effect_on p (marks_in old.marks) v) c.in-Traps.is ∙ traps_on p (marks_in old.marks) v old.stack.top old.stack.below c.in-Traps.trap c.requires.top) (c.trap.ensures.stops p)

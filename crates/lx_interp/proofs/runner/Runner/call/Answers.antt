@@ -9,4 +9,4 @@ returns-then-not-has_room-clause-steps c =
     let old = c.args.self.now in
     let full : c.has_room.result ≡ false = c.if-not-has_room.true in
     taken_as p old c.trap.new.self _ _
-    (call_full p (marks_in old.marks) (poorer (thread_of p old)) old.top old.below c.args.function c.args.args c.requires.top (sym full ∙ c.has_room.ensures p)) (c.trap.ensures.stops p)
+    (call_full p (marks_in old.marks) (poorer (thread_of p old)) old.stack.top old.stack.below c.args.function c.args.args c.requires.top (sym full ∙ c.has_room.ensures p)) (c.trap.ensures.stops p)

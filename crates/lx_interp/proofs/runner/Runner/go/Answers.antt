@@ -1,6 +1,7 @@
 use Rattle.std.proofs.Common.{not, refl, sym, ap, ◌∙◌, subst, arith}
 use Rattle.lx_model.specs.Thread.{has_call}
-use Rattle.lx_interp.specs.Runner.{IsReadyIf, steps_before}
+use Rattle.lx_frames.specs.Stack.{IsReadyIf}
+use Rattle.lx_interp.specs.Runner.{steps_before}
 use Rattle.lx_interp.proofs.Goings.{none_is, taken_on, goes_further, fewer_steps, same_left}
 use Rattle.lx_interp.proofs.runner.Runner.go.Goals as goal
 
@@ -9,7 +10,7 @@ loop-self-init c =
     let p = c.args.code.now in
     let old = c.args.self.now in
     record {
-      goes = record { number = refl; calls = refl; ended = refl; asks = refl; ready = subst (IsReadyIf p old) (sym c.requires.request) tt };
+      goes = record { number = refl; calls = refl; ended = refl; asks = refl; ready = subst (IsReadyIf p old.stack) (sym c.requires.request) tt };
       events = omega arith;
       work = c.requires.work;
     }

@@ -9,6 +9,6 @@ returns-in-Enter-clause-steps c =
     let p = c.args.code.now in
     let old = c.args.self.now in
     elim c.in-Enter.is [
-      | inl a ↦ taken_as p old c.stop.new.self _ _ (before_enter p (thread_of p old) old.top old.below (c.requires.place ∙ ap Some a)) (c.stop.ensures.stops p)
-      | inr b ↦ taken_as p old c.stop.new.self _ _ (within_body p (thread_of p old) old.top old.below (c.requires.place ∙ ap Some b)) (c.stop.ensures.stops p)
+      | inl a ↦ taken_as p old c.stop.new.self _ _ (before_enter p (thread_of p old) old.stack.top old.stack.below (c.requires.place ∙ ap Some a)) (c.stop.ensures.stops p)
+      | inr b ↦ taken_as p old c.stop.new.self _ _ (within_body p (thread_of p old) old.stack.top old.stack.below (c.requires.place ∙ ap Some b)) (c.stop.ensures.stops p)
     ]

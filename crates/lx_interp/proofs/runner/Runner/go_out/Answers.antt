@@ -13,4 +13,4 @@ returns-in_ok-perform-clause-steps c =
     ∙ ap (λ x. has_action x c.function.result true c.args.index) c.program_code.ensures
     ∙ ap (λ n. has_action p.program n true c.args.index) c.function.ensures in
     goes_to_action p old c.perform.new.self c.args.index c.args.value.now c.requires.place has
-    (c.in_ok-perform.ensures.steps p (counted_behind p old old.top c.args.index c.args.value.now c.requires.place (c.has_action.ensures.within c.if-has_action.true)))
+    (c.in_ok-perform.ensures.steps p (counted_behind p old.stack old.stack.top c.args.index c.args.value.now c.requires.place (c.has_action.ensures.within c.if-has_action.true)))

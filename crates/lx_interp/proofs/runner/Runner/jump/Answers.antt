@@ -8,5 +8,5 @@ returns-else-branch-clause-steps c =
     let p = c.args.code.now in
     let old = c.args.self.now in
     retaken p old _ c.trap.new.self _ _ refl refl refl
-    (jump_lost p (marks_in old.marks) (poorer (thread_of p old)) old.top old.below _ _ c.args.block c.in-Some.is c.requires.top c.in_ok-arrive.ensures.arrives c.if-branch.false)
+    (jump_lost p (marks_in old.marks) (poorer (thread_of p old)) old.stack.top old.stack.below _ _ c.args.block c.in-Some.is c.requires.top c.in_ok-arrive.ensures.arrives c.if-branch.false)
     (c.trap.ensures.stops p)

@@ -1,5 +1,5 @@
 use Rattle.std.proofs.Common.{ap, ◌∙◌}
-use Rattle.lx_interp.specs.Frames.{frames_of}
+use Rattle.lx_frames.specs.Frames.{frames_of}
 use Rattle.lx_interp.specs.Runner.{found_in, marks_in, poorer, thread_of}
 use Rattle.lx_interp.proofs.Takings.{taken_as}
 use Rattle.lx_interp.proofs.runner.Runner.take_effect.Goals as goal
@@ -11,4 +11,4 @@ returns-in-None-clause-steps c =
     let m = marks_in old.marks in
     let v = poorer (thread_of p old) in
     taken_as p old c.trap.new.self _ _
-    (c.in_ok-found.ensures m v c.requires.plain ∙ ap (found_in p m v (frames_of p old.top old.below)) c.in-None.is) (c.trap.ensures.stops p)
+    (c.in_ok-found.ensures m v c.requires.plain ∙ ap (found_in p m v (frames_of p old.stack.top old.stack.below)) c.in-None.is) (c.trap.ensures.stops p)

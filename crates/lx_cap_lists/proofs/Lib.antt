@@ -1,0 +1,13 @@
+pub mod Masks
+pub mod Ranges
+pub mod WalkLemmas
+pub mod VisitLemmas
+pub mod BitLemmas
+pub mod KeyLemmas
+pub mod PartLemmas
+pub mod HeldLemmas
+pub mod NearLemmas
+pub mod EntryLemmas
+pub mod KeptLemmas
+pub mod NodeLemmas
+pub mod TakenLemmas

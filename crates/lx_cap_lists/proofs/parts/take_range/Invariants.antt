@@ -1,0 +1,25 @@
+use Rattle.std.proofs.Common.{◌≡◌, ◌≤◌, ◌+◌, ◌-◌, ◌/◌, ◌%◌, ◌&&◌, not, Bool, ℕ, length, Some}
+use Rattle.lx_cap_nodes.specs.Words.{nodes_at}
+use Rattle.lx_cap_lists.specs.declared.entry.Entry.{Entry}
+use Rattle.lx_cap_lists.specs.Entries.{bit_among}
+use Rattle.lx_cap_nodes.specs.declared.pool.ListName.{ListName}
+use Rattle.lx_cap_lists.specs.Kept.{AllNodes, AreAll, Respects}
+use Rattle.lx_cap_lists.specs.Tables.{part_list, work_in}
+use Rattle.lx_cap_lists.proofs.Ranges.{covered}
+use Rattle.lx_cap_lists.specs.declared.holder.Holder.{Holder}
+use Rattle.lx_cap_lists.proofs.parts.take_range.Given as goal
+
+abbrev pub invariant-loop-part : goal.invariant-loop-part
+invariant-loop-part g l = record {
+  low : l.at / 64 ≤ l.part;
+  high : l.part ≤ (l.at + l.size + 63) / 64;
+  bytes : (b k : ℕ) → part_list (b / 64) ≡ Some k → (among : Holder → Bool)
+      → bit_among among (nodes_at l.pool.places k) (b % 64) ≡ (bit_among among (nodes_at l.fn.pool.places k) (b % 64) && not (covered l.at l.size l.part b));
+  others : (k : ℕ) → 0xc000 ≤ k → nodes_at l.pool.places k ≡ nodes_at l.fn.pool.places k;
+  later : (p k : ℕ) → l.part ≤ p → part_list p ≡ Some k → nodes_at l.pool.places k ≡ nodes_at l.fn.pool.places k;
+  counts : (length l.pool.places ≡ length l.fn.pool.places) × (length l.pool.owners ≡ length l.fn.pool.owners);
+  spare : l.fn.pool.spare ≤ l.pool.spare;
+  nodes : AllNodes l.fn.pool.places → AllNodes l.pool.places;
+  kept : (p : ListName → Entry → Bool) → Respects p → AreAll p l.fn.pool → AreAll p l.pool;
+  cost : l.steps + work_in l.fn.pool.places l.part ((l.at + l.size + 63) / 64 - l.part) ≡ l.fn.steps + work_in l.fn.pool.places (l.at / 64) ((l.at + l.size + 63) / 64 - l.at / 64);
+}

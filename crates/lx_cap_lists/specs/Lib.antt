@@ -1,0 +1,11 @@
+pub mod Bits
+pub mod Pieces
+pub mod Walks
+pub mod Holders
+pub mod Loans
+pub mod Entries
+pub mod Lists
+pub mod Tables
+pub mod Kept
+pub mod Atoms
+pub mod Owned

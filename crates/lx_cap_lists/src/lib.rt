@@ -1,0 +1,27 @@
+//! Lists of who has what, as page tables of capabilities have them.
+//!
+//! Memory is cut into parts of 64 bytes. What a holder has of a part stands in one node, with a bit for each byte; so does each call
+//! and each reference, with the lowest bit. A node stands in the list of its place (a part, a call or a reference) and in
+//! the list of its owner (a principal, or a loan), so that both are walked at what they hold.
+//!
+//! ```
+//! // The bytes 0x2000000 to 0x200000f are the principal's, whose list has the number 0.
+//! give_range(&mut pool, Holder::Keeper(who), 0, 0x2000000, 16);
+//! ```
+#![tactic(auto)]
+
+mod bits;
+mod entry;
+mod holder;
+mod keys;
+mod lists;
+mod parts;
+mod piece;
+
+pub use bits::is_set;
+pub use entry::{Entry, Spot, atom_alone, bits_from, first_byte, sooner};
+pub use holder::{Holder, InReach, principal_of};
+pub use keys::{Key, call_key, loan_key, owner_key, place_for, place_in, ref_key};
+pub use lists::{Pool, Seen, first_owned, first_owner, give, reached, take, take_all, visit};
+pub use parts::{give_range, list_of_part, take_range};
+pub use piece::{PART, Piece, parts_end, piece_bits, piece_of};

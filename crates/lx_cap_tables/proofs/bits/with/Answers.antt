@@ -1,5 +1,0 @@
-use Rattle.lx_cap_tables.proofs.Masks.{set_in_either}
-use Rattle.lx_cap_tables.proofs.bits.with.Goals as goal
-
-pub returns-clause-bits : goal.returns-clause-bits
-returns-clause-bits c = set_in_either c.args.mask c.args.more

@@ -1,0 +1,156 @@
+-- The frames that a runner keeps, and what the definitions see of them.
+use Rattle.std.specs.Prelude.{ℕ, suc, Bool, true, Option, Some, None, List, [], ◌∷◌, ◌<◌, map, vec_len, vec_capacity, ⊤}
+use Rattle.lx_words.specs.Word.{Word}
+use Rattle.lx_model.specs.declared.request.Trap.TheVariants.{Unreachable}
+use Rattle.lx_model.specs.Thread.{Activation, activation_behind}
+use Rattle.lx_model.specs.Effect.{Effect, Moves, Traps}
+use Rattle.lx_images.specs.Image.{Code, ImageFrame, Runs, Wraps, Place, AtEnter, AtPre, InBody, AtPost, ImageThread, ImageStep, Marks, frame_step}
+use Rattle.lx_image_steps.specs.Marks.{plain_step}
+use Rattle.lx_image_steps.specs.Standing.{head_of, run_of}
+use Rattle.lx_image_steps.specs.declared.activation.Activation.{Activation as Running}
+use Rattle.lx_frames.specs.declared.frame.Place.{Place as KeptPlace}
+use Rattle.lx_frames.specs.declared.frame.Place.TheVariants as kept_place
+use Rattle.lx_frames.specs.declared.frame.Frame.{Frame as KeptFrame}
+use Rattle.lx_frames.specs.declared.frame.Frame.TheVariants as kept
+
+-- the line at which a wrapper stands, as the definitions have it
+abbrev pub place_of : KeptPlace → Place
+place_of kept_place.Enter = AtEnter
+place_of (kept_place.Pre k) = AtPre k
+place_of kept_place.Body = InBody
+place_of (kept_place.Post k x) = AtPost k x
+
+-- a frame, as the definitions have it
+abbrev pub frame_of : Code → KeptFrame → ImageFrame
+frame_of c (kept.Runs run) = Runs (run_of c run)
+frame_of c (kept.Wraps n args place) = Wraps n args (place_of place)
+
+-- the frames below the top one, the newest first, and for how many more there is room
+pub record Stack : Type 0 where
+  pub frames : List KeptFrame
+  pub room : ℕ
+
+-- the frames of a thread: without a top one there is none
+abbrev pub frames_of : Code → Option KeptFrame → Stack → List ImageFrame
+frames_of c None below = []
+frames_of c (Some f) below = frame_of c f ∷ map (frame_of c) below.frames
+
+-- the newest frame
+abbrev pub newest : List KeptFrame → Option KeptFrame
+newest [] = None
+newest (f ∷ fs) = Some f
+
+-- the frames but the newest
+abbrev pub older : List KeptFrame → List KeptFrame
+older [] = []
+older (f ∷ fs) = fs
+
+-- how many of these frames run a function
+abbrev pub running_in : List KeptFrame → ℕ
+running_in [] = 0
+running_in (kept.Runs run ∷ fs) = suc (running_in fs)
+running_in (kept.Wraps n args place ∷ fs) = running_in fs
+
+-- where the stack of the newest function that runs ends
+abbrev pub high_in : List KeptFrame → Option ℕ
+high_in [] = None
+high_in (kept.Runs run ∷ fs) = Some run.high
+high_in (kept.Wraps n args place ∷ fs) = high_in fs
+
+-- and with a frame on top
+abbrev pub high_on : Option KeptFrame → Stack → Option ℕ
+high_on None below = None
+high_on (Some f) below = high_in (f ∷ below.frames)
+
+-- a running function, changed; a wrapper stays as it is
+abbrev pub changed : (Activation → Activation) → ImageFrame → ImageFrame
+changed change (Runs a) = Runs (change a)
+changed change (Wraps n args place) = Wraps n args place
+
+-- the frame behind the one that it called: a function goes on with the value, and a wrapper goes on to its actions behind the body
+abbrev pub resumed : Option Word → ImageFrame → ImageFrame
+resumed x (Runs a) = Runs (activation_behind x a)
+resumed x (Wraps n args place) = Wraps n args (AtPost 0 x)
+
+-- the function that runs; none, in a wrapper
+abbrev pub runs : KeptFrame → Option Running
+runs (kept.Runs run) = Some run
+runs (kept.Wraps n args place) = None
+
+-- the number of the function that a wrapper wraps
+abbrev pub wrapped_function : KeptFrame → ℕ
+wrapped_function (kept.Runs run) = 0
+wrapped_function (kept.Wraps n args place) = n
+
+-- the arguments that it was called with
+abbrev pub wrapped_args : KeptFrame → List Word
+wrapped_args (kept.Runs run) = []
+wrapped_args (kept.Wraps n args place) = args
+
+-- and its line
+abbrev pub wrapped_place : KeptFrame → Option KeptPlace
+wrapped_place (kept.Runs run) = None
+wrapped_place (kept.Wraps n args place) = Some place
+
+-- a function that runs has room for bytes of the stack more
+abbrev pub HasSpace : KeptFrame → Type 0
+HasSpace (kept.Runs run) = vec_len run.allocas < vec_capacity run.allocas
+HasSpace (kept.Wraps n args place) = ⊤
+
+-- and a frame on top, if there is one
+abbrev pub HasSpaceOn : Option KeptFrame → Type 0
+HasSpaceOn None = ⊤
+HasSpaceOn (Some f) = HasSpace f
+
+-- what a jump comes to: the function goes on from its block, or there is no such block
+abbrev pub arrival_in : Bool → ImageFrame → Effect
+arrival_in true (Runs a) = Moves a
+arrival_in _ f = Traps Unreachable
+
+-- the step of the frame on top, where a function may stand behind guards and checks that have left these marks
+abbrev pub marked_frame_step : Code → Option Marks → ImageThread → List ImageFrame → ImageStep
+marked_frame_step c None v fs = frame_step c v fs
+marked_frame_step c (Some m) v (Runs a ∷ fs) = plain_step c v fs m a (head_of a.code)
+marked_frame_step c (Some m) v fs = frame_step c v fs
+
+-- a wrapper at another line
+abbrev pub placed : KeptPlace → KeptFrame → KeptFrame
+placed place (kept.Runs run) = kept.Runs run
+placed place (kept.Wraps n args old) = kept.Wraps n args place
+
+-- a wrapper on top at another line
+abbrev pub placed_on : KeptPlace → Option KeptFrame → Option KeptFrame
+placed_on place None = None
+placed_on place (Some f) = Some (placed place f)
+
+-- what stands on top
+
+-- the function that runs there; none, where a wrapper or nothing does
+abbrev pub running_on : Option KeptFrame → Option Running
+running_on None = None
+running_on (Some f) = runs f
+
+-- the line of a wrapper there
+abbrev pub place_on : Option KeptFrame → Option KeptPlace
+place_on None = None
+place_on (Some f) = wrapped_place f
+
+-- the number of the function that a wrapper there wraps
+abbrev pub function_on : Option KeptFrame → ℕ
+function_on None = 0
+function_on (Some f) = wrapped_function f
+
+-- the arguments that it was called with
+abbrev pub args_on : Option KeptFrame → List Word
+args_on None = []
+args_on (Some f) = wrapped_args f
+
+-- no wrapper stands on top
+abbrev pub IsUnwrapped : Option KeptFrame → Type 0
+IsUnwrapped (Some (kept.Wraps n args place)) = ⊥
+IsUnwrapped _ = ⊤
+
+-- a wrapper stands on top
+abbrev pub IsWrapper : Option KeptFrame → Type 0
+IsWrapper (Some (kept.Wraps n args place)) = ⊤
+IsWrapper _ = ⊥

@@ -1,0 +1,178 @@
+//! The frames of a thread, and the principals of the wrappers among them.
+ghost use Rattle.std.specs.Prelude.{◌≡◌, ◌≤◌, [], IfOk, IfSome, IsSome, option_copied};
+ghost use Rattle.lx_images.specs.Image.{Code as Images, fits_site, has_room, stack_top};
+ghost use Rattle.lx_frames.specs.Frames.{args_on, frames_of, function_on, high_on, place_on, running_on};
+ghost use Rattle.lx_frames.specs.Stack.{args_in, returned_on};
+ghost use Rattle.lx_model.specs.Program.{same_result};
+
+mod entries;
+mod room;
+
+use crate::callers::{Callers, high_of};
+use crate::frame::{Frame, Place};
+pub use entries::Entry;
+use lx_caps::stack_start;
+use lx_image_code::Code;
+use lx_image_steps::{Activation, call_arguments, call_result, returned};
+use lx_model::request::Way;
+use lx_shadow::Shadow;
+use lx_words::{Items, Memory, Width, Word, Words};
+use std::alloc::Global;
+
+/// How many functions of a thread may run at a time. Wrappers do not count.
+const MOST_RUNNING: usize = 256;
+
+/// The frames of a thread: the one on top, those below it, and the principals of the wrappers among them, with room for the
+/// registers of a function that may be entered.
+#[derive(Drop)]
+pub struct FrameStack {
+    alloc: Global,
+    pub top: Option<Frame>,
+    pub below: Callers,
+    pub shadow: Shadow,
+    registers: Vec<Word>,
+}
+
+// Whether two results are of one width, or both are none.
+fn is_same_result(a: Option<Width>, b: Option<Width>) -> bool
+    ensures { result ≡ same_result a b }
+{
+    match (a, b) {
+        (None, None) => true,
+        (Some(v), Some(w)) => v.bit_count() == w.bit_count(),
+        _ => false,
+    }
+}
+
+impl FrameStack {
+    /// No frame and no principal.
+    ///
+    /// # Errors
+    /// Want of memory for the principals to come.
+    pub fn open(alloc: Global) -> Result<FrameStack, Memory>
+        ensures frames { IfOk result (λ s. (c : Images) → frames_of c s.top s.below ≡ []) }
+        ensures principals { IfOk result (λ s. s.shadow.principals ≡ []) }
+    {
+        let shadow = Shadow::open(alloc)?;
+        Ok(FrameStack {
+            alloc,
+            top: None,
+            below: Callers::new(alloc),
+            shadow,
+            registers: Vec::new(alloc),
+        })
+    }
+
+    /// The function that runs on top; none, where a wrapper or nothing does.
+    pub fn running(&self) -> Option<&Activation>
+        ensures { option_copied result ≡ running_on self.now.top }
+    {
+        match &self.top {
+            Some(frame) => frame.running(),
+            None => None,
+        }
+    }
+
+    /// The line of the wrapper on top; none, where no wrapper is there.
+    pub fn place(&self) -> Option<Place>
+        ensures { result ≡ place_on self.now.top }
+    {
+        match &self.top {
+            Some(frame) => frame.place(),
+            None => None,
+        }
+    }
+
+    /// The number of the function that the wrapper on top wraps, and 0 where no wrapper is there.
+    pub fn function(&self) -> u32
+        ensures { result ≡ function_on self.now.top }
+    {
+        match &self.top {
+            Some(frame) => frame.function(),
+            None => 0,
+        }
+    }
+
+    /// The arguments that the wrapper on top was called with; none, where no wrapper is there.
+    pub fn args(&self) -> &[Word]
+        ensures { result.now ≡ args_on self.now.top }
+    {
+        match &self.top {
+            Some(frame) => frame.args(),
+            None => &[],
+        }
+    }
+
+    /// Whether a further function may run.
+    pub fn has_room(&self) -> bool
+        requires { IsSome (running_on self.now.top) }
+        ensures { (c : Images) → result ≡ has_room (frames_of c self.now.top self.now.below) }
+    {
+        self.below.running() < MOST_RUNNING - 1
+    }
+
+    /// The arguments of the call that the function on top stands at.
+    ///
+    /// # Errors
+    /// Want of memory.
+    pub fn arguments(&self, code: &Code) -> Result<Words, Memory>
+        ensures { IfOk result (λ args. args ≡ args_in code.now (frames_of code.now self.now.top self.now.below)) }
+    {
+        match self.running() {
+            Some(run) => {
+                let args = call_arguments(self.alloc, code, run)?;
+                Ok(args)
+            }
+            None => Ok(Items::new(self.alloc)),
+        }
+    }
+
+    /// The value that the function on top returns, where one runs there.
+    pub fn returned(&self, code: &Code) -> Option<Option<Word>>
+        ensures { result ≡ returned_on code.now (frames_of code.now self.now.top self.now.below) }
+    {
+        match self.running() {
+            Some(run) => Some(returned(code, run)),
+            None => None,
+        }
+    }
+
+    /// Whether the site of an indirect call has the function's result.
+    pub fn fits(&self, code: &Code, way: &Way, function: u32) -> bool
+        ensures { result ≡ fits_site code.now way.now (frames_of code.now self.now.top self.now.below) function }
+    {
+        match way {
+            Way::Indirect(_) => match self.running() {
+                Some(run) => is_same_result(
+                    call_result(code, run),
+                    code.program_code().result_width(function),
+                ),
+                None => true,
+            },
+            _ => true,
+        }
+    }
+
+    // Where the stack of the newest function that runs ends; none, where none runs.
+    fn high(&self) -> Option<u64>
+        ensures high { result ≡ high_on self.now.top self.now.below }
+        ensures small { IfSome result (λ high. high ≤ 9223372036854775808) }
+    {
+        match &self.top {
+            Some(frame) => high_of(frame, &self.below),
+            None => None,
+        }
+    }
+
+    // Where the next frame's part of the stack begins, in the thread with a number.
+    #[tactic(auto, using(crate::proofs::Counting::high_found, crate::proofs::Counting::high_missing))]
+    fn stack_top(&self, thread: u32) -> u64
+        ensures top { (c : Images) → result ≡ stack_top thread (frames_of c self.now.top self.now.below) }
+        ensures small { result ≤ 9223372036854775808 }
+    {
+        match self.high() {
+            Some(high) => high,
+            None => stack_start(thread),
+        }
+    }
+}
