@@ -22,6 +22,10 @@ AreAccepted p images = All (IsAcceptedBy p.interface) images
 abbrev pub IsImageOfText : Module → Module → Type 0
 IsImageOfText m x = SameText (program_of x) m
 
+-- the image with this number is there, and is one of the text of the module with this number
+abbrev pub HasImageAt : Program → List Module → ℕ → Type 0
+HasImageAt p images m = (x : Module) × (slice_get images m ≡ Some x) × IsImageOfText (module_of p (Some m)) x
+
 -- each module's image is an image of its text
 abbrev pub AreOfTexts : Program → List Module → Type 0
-AreOfTexts p images = (m : ℕ) → m < length p.modules → (x : Module) × (slice_get images m ≡ Some x) × IsImageOfText (module_of p (Some m)) x
+AreOfTexts p images = (m : ℕ) → m < length p.modules → HasImageAt p images m

@@ -277,9 +277,11 @@ unread_of (answer.Text text) status = absurd cc
 unread_of answer.Accepted status = absurd cc
 unread_of (answer.Refused f) status = absurd cc
 
--- and the line about it
-pub line_of : (a : Answer) (file : List ℕ) → a ≡ answer.Unread file → answer_text a ≡ unread_line file
-line_of a file is = ap answer_text is
+-- and what is written is the line about it
+pub unread_written : (a : Answer) (file text told : List ℕ) (now : Option (List ℕ)) → a ≡ answer.Unread file → text ≡ answer_text a → now ≡ Some (told ++ text) → now ≡ Some (told ++ unread_line file)
+unread_written a file text told now is same gained =
+    let line : text ≡ unread_line file = same ∙ ap answer_text is in
+    rw line at gained
 
 -- no status is above 8
 pub few_statuses : (a : Answer) (result : ℕ) → (result ≢ 5 → result ≡ status_of a) → result ≤ 8

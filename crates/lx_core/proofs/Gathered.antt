@@ -16,8 +16,7 @@ use Rattle.lx_images.specs.Image.{Code, ImageThread}
 use Rattle.lx_images.specs.ImageWorld.{ImageWorld}
 use Rattle.lx_images.specs.Shown.{shown, shown_thread}
 use Rattle.lx_interp.specs.declared.runner.Runner.{Runner}
-use Rattle.lx_ownership.specs.Accounts.{LastIsFree, owned_as, owned_in}
-use Rattle.lx_ownership.specs.Laws.{OwnedLaws}
+use Rattle.lx_ownership.specs.Accounts.{owned_as, owned_in}
 use Rattle.lx_core.specs.Accounts.{call_outcome, runner_outcomes}
 use Rattle.lx_core.specs.Worlds.{AllStand, StandsForWorld}
 use Rattle.lx_core.specs.declared.world.World.{World}
@@ -37,17 +36,17 @@ unfolding owned_in
 owned_opened types h qs = refl
 
 -- the parts of an account are the world's
-pub account_of : {C : Type 0} (stands : C → History → Type 0) → OwnedLaws → (w : World C) (c : Code) (v : ImageWorld) → StandsForWorld stands c w v →
+pub account_of : {C : Type 0} (stands : C → History → Type 0) (w : World C) (c : Code) (v : ImageWorld) → StandsForWorld stands c w v →
     (schedule : List ℕ) (outcomes : List CallOutcome) (notes : List Note) (images : List ImageCount) (owners : List Owned) (names : List InstanceName) →
     schedule ≡ map (λ e. e.thread) v.state.journal → outcomes ≡ flat_map runner_outcomes (enumerate_from 0 w.runners.list.items) → notes ≡ v.state.notes
     → images ≡ map (image_count w.code.program) (below (length w.code.program.modules))
-    → (LastIsFree v.state.history → owners ≡ flat_map (owned_in (length w.code.program.interface.reftypes) v.state.history) (flat_map (module_principals v.state.names) (below (length w.code.program.modules))))
+    → owners ≡ flat_map (owned_in (length w.code.program.interface.reftypes) v.state.history) (flat_map (module_principals v.state.names) (below (length w.code.program.modules)))
     → names ≡ flat_map (instance_names v.state.names) (below (length w.code.program.modules))
     → record { schedule = schedule; outcomes = outcomes; notes = notes; images = images; owners = owners; names = names } ≡ account c.program (shown v)
-account_of stands laws w c v s schedule outcomes notes images owners names es eo en ei eh ek =
+account_of stands w c v s schedule outcomes notes images owners names es eo en ei eh ek =
     let b = eo ∙ outcomes_stand c 0 w.runners.list.items v.threads s.threads in
     let d = ei ∙ ap (λ q. map (image_count q.program) (below (length q.program.modules))) s.code in
-    let h = eh (laws.last v.state.history s.shared.keeps.history.placed)
+    let h = eh
     ∙ (ap (λ q. flat_map (owned_in (length q.program.interface.reftypes) v.state.history) (flat_map (module_principals v.state.names) (below (length q.program.modules)))) s.code
     ∙ owned_opened (length c.program.interface.reftypes) v.state.history (flat_map (module_principals v.state.names) (below (length c.program.modules)))) in
     let k = ek ∙ ap (λ q. flat_map (instance_names v.state.names) (below (length q.program.modules))) s.code in

@@ -5,7 +5,7 @@ use crate::outcomes::outcomes;
 use crate::world::World;
 use lx_caps::CapStore;
 use lx_model::account::{Account, ImageCount};
-use lx_ownership::{instance_names, owned_laws, owners};
+use lx_ownership::{instance_names, owners};
 use lx_words::{Items, Memory, number_of};
 use std::alloc::Global;
 
@@ -28,7 +28,6 @@ impl<C: CapStore + Drop> World<C> {
         requires images { images ≡ map (image_count (program_of self.now)) (below (length (program_of self.now).modules)) }
         ensures { IfOk result (λ a. (c : Code) (v : ImageWorld) → StandsForWorld C.stands c self.now v → a ≡ account c.program (shown v)) }
     {
-        owned_laws();
         let program = self.code.program();
         let modules = number_of(program.modules.len())?;
         let types = number_of(program.interface.reftypes.len())?;

@@ -3,7 +3,7 @@ use Rattle.std.proofs.Common.{◌≡◌, ℕ, ◌+◌, ◌<◌, Bool, true, fals
 use Rattle.std.proofs.lemmas.Bool.Decides.{nat_tests}
 use Rattle.lx_ir.specs.declared.module.Module.{Module}
 use Rattle.lx_model.specs.declared.program.Program.{Program}
-use Rattle.lx_opening.specs.Differing.{HasImageAt}
+use Rattle.lx_accepted.specs.Accepted.{HasImageAt}
 
 is_before : (m k : ℕ) → nat_lt m k ≡ true → m < k
 is_before m k e = grind (arith, nat_tests, e)

@@ -1,9 +1,8 @@
 -- What an account says of what principals own.
-use Rattle.std.specs.Prelude.{◌≡◌, ℕ, ◌^◌, ◌-◌, false, List, map}
+use Rattle.std.specs.Prelude.{ℕ, List, map}
 use Rattle.lx_caps.specs.declared.Principal.{Principal}
 use Rattle.lx_caps.specs.declared.Cap.{Cap}
-use Rattle.lx_caps.specs.declared.Atom.TheVariants.{Byte}
-use Rattle.lx_caps.specs.History.{History, owns}
+use Rattle.lx_caps.specs.History.{History}
 use Rattle.lx_model.specs.declared.account.Owned.{Owned}
 use Rattle.lx_model.specs.Owned.{owned_caps}
 
@@ -13,7 +12,3 @@ owned_as who c = record { who = who; cap = c }
 
 unfoldable pub owned_in : ℕ → History → Principal → List Owned
 owned_in types h q = map (owned_as q) (owned_caps types h q)
-
--- nobody owns the last byte of the address space
-unfoldable pub LastIsFree : History → Type 0
-LastIsFree h = (q : Principal) → owns h q (Byte (2 ^ 64 - 1)) ≡ false

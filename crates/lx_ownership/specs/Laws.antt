@@ -4,10 +4,8 @@ use Rattle.lx_caps.specs.declared.Principal.{Principal}
 use Rattle.lx_caps.specs.declared.Cap.TheVariants as cap
 use Rattle.lx_caps.specs.declared.Atom.TheVariants as atom
 use Rattle.lx_caps.specs.History.{History, owns}
-use Rattle.lx_caps.specs.Placed.{AllPlaced}
 use Rattle.lx_caps.specs.Ranges.{IsRanges}
 use Rattle.lx_model.specs.Owned.{owned_ranges, owned_calls, owned_refs}
-use Rattle.lx_ownership.specs.Accounts.{LastIsFree}
 use Rattle.lx_ownership.specs.Listing.{IsListing}
 
 pub record OwnedLaws : Type 0 where
@@ -17,5 +15,3 @@ pub record OwnedLaws : Type 0 where
   pub calls : (h : History) (q : Principal) → (ns : List ℕ) × (owned_calls h q ≡ map cap.Call ns) × IsListing (λ a. owns h q (atom.Call a)) 0 ns
   -- so are the references of each type
   pub refs : (h : History) (q : Principal) (ty : ℕ) → (ns : List ℕ) × (owned_refs h q ty ≡ map (cap.Ref ty) ns) × IsListing (λ a. owns h q (atom.Ref ty a)) 0 ns
-  -- where all that was given lies in memory, nobody owns the last byte of the address space
-  pub last : (h : History) → AllPlaced h → LastIsFree h

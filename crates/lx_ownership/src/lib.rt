@@ -10,8 +10,7 @@ mod ownership;
 pub use instances::instance_names;
 pub use ownership::owners;
 
-/// What an account lists of what a principal owns, in the words of atoms. Where all that was given lies in memory, nobody owns
-/// the last byte of the address space, as `owners` needs it.
+/// What an account lists of what a principal owns, in the words of atoms.
 pub fn owned_laws()
     ensures { OwnedLaws }
 {}

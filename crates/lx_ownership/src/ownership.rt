@@ -6,7 +6,7 @@ ghost use Rattle.lx_caps.specs.declared.Principal.TheVariants.{Inst};
 ghost use Rattle.lx_caps.specs.History.{History};
 ghost use Rattle.lx_model.specs.State.{module_principals};
 ghost use Rattle.lx_slot_types.specs.Gets.{below};
-ghost use Rattle.lx_ownership.specs.Accounts.{LastIsFree, owned_as, owned_in};
+ghost use Rattle.lx_ownership.specs.Accounts.{owned_as, owned_in};
 
 use crate::owned::owned_caps;
 use lx_caps::{Cap, CapStore, Principal};
@@ -72,8 +72,8 @@ fn put_module<C: CapStore>(
     Ok(())
 }
 
-/// What the principals of the first `modules` modules own, module by module, by a store that stands for some history: bytes,
-/// calls, and references of the first `types` types.
+/// What the principals of the first `modules` modules own, module by module: bytes, calls, and references of the first `types`
+/// types.
 ///
 /// # Errors
 /// Want of memory.
@@ -84,9 +84,8 @@ pub fn owners<C: CapStore>(
     modules: u32,
     types: u32,
 ) -> Result<Vec<Owned>, Memory>
-    requires stands { (h : History) × C.stands caps.now h }
-    requires there { modules ≤ names.now.modules }
-    ensures { IfOk result (λ owners. (h : History) → C.stands caps.now h → LastIsFree h → owners.items ≡ flat_map (owned_in types h) (flat_map (module_principals names.now.names) (below modules))) }
+    requires { modules ≤ names.now.modules }
+    ensures { IfOk result (λ owners. (h : History) → C.stands caps.now h → owners.items ≡ flat_map (owned_in types h) (flat_map (module_principals names.now.names) (below modules))) }
 {
     let mut out = Vec::new(alloc);
     for home in 0..modules {

@@ -1,10 +1,7 @@
 -- The laws are lemmas.
-use Rattle.lx_caps.proofs.OwnerLemmas.{last_free}
-use Rattle.lx_ownership.specs.Accounts.{LastIsFree}
 use Rattle.lx_ownership.proofs.Listed.{calls_listed, refs_listed}
 use Rattle.lx_ownership.proofs.Ranges.{owned_ranges-greatest}
 use Rattle.lx_ownership.proofs.owned_laws.Goals as goal
 
 pub returns : goal.returns
-unfolding LastIsFree
-returns c = record { ranges = owned_ranges-greatest; calls = calls_listed; refs = refs_listed; last = λ h placed q. last_free h q placed }
+returns c = record { ranges = owned_ranges-greatest; calls = calls_listed; refs = refs_listed }

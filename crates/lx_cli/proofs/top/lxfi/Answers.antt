@@ -3,7 +3,7 @@ use Rattle.lx_input.specs.Files.InputStop.TheVariants as stops
 use Rattle.lx_cli.specs.Command.{texts}
 use Rattle.lx_cli.specs.Rows.{status_of}
 use Rattle.lx_cli.proofs.Written.{by_words, usage_wrote, usage_short, answer_wrote, answer_short, answer_headline}
-use Rattle.lx_cli.proofs.Statuses.{none_comes, fault_comes, missing_comes, broken_comes, all_comes, refused_comes, fault_told, broken_told, refused_told, unread_of, run_is_whole, status_is, unread_told, five_or, few_statuses, line_of, no_two, no_command, said_is}
+use Rattle.lx_cli.proofs.Statuses.{none_comes, fault_comes, missing_comes, broken_comes, all_comes, refused_comes, fault_told, broken_told, refused_told, unread_of, run_is_whole, status_is, unread_told, five_or, few_statuses, unread_written, no_two, no_command, said_is}
 use Rattle.lx_cli.proofs.top.lxfi.Goals as goal
 
 -- no command
@@ -118,8 +118,8 @@ returns-clause-unread_only g c = λ is_4.
           unread_told (texts c.args.words.now) files c.in-Ok.answer unread.0 is
           (by_words (texts c.args.words.now) files _ c.in-Ok.answer (sym c.in-Some.ensures) (c.in-Ok.ensures.answer files files_told)),
       λ told sink_told.
-          let text_is = c.as_slice.ensures ∙ c.in-Ok-answer_text.ensures ∙ line_of c.in-Ok.answer unread.0 is in
-          rw text_is at (c.put-2.ensures.all (λ e. omega (arith, is_4, e)) told sink_told),
+          unread_written c.in-Ok.answer unread.0 c.as_slice.result.now told (g.K.Sink.bytes c.put-2.new.sink) is
+          (c.as_slice.ensures ∙ c.in-Ok-answer_text.ensures) (c.put-2.ensures.all (λ e. omega (arith, is_4, e)) told sink_told),
     )
 
 pub returns-clause-broken : goal.returns-clause-broken

@@ -11,6 +11,6 @@ loop-home-preserved g c = λ h stands.
     owners_more (owned_in c.args.types h) (module_principals c.args.names.now.names) c.loop-home.home _ _ (c.loop-home.invariant h stands) (c.in_ok-put_module.ensures h stands)
 
 pub returns : goal.returns
-returns g c = λ h stands free.
+returns g c = λ h stands.
     let e : c.loop-home.home ≡ c.args.modules = omega (arith, c.loop-home-test.false, c.loop-home.auto.home-end) in
     subst (λ n. c.loop-home.out.items ≡ flat_map (owned_in c.args.types h) (flat_map (module_principals c.args.names.now.names) (below n))) e (c.loop-home.invariant h stands)

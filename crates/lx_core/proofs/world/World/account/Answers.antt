@@ -11,13 +11,8 @@ use Rattle.lx_core.specs.Accounts.{runner_outcomes}
 use Rattle.lx_core.proofs.Gathered.{account_of}
 use Rattle.lx_core.proofs.world.World.account.Goals as goal
 
-pub owners-requires-clause-stands : goal.owners-requires-clause-stands
-owners-requires-clause-stands g c =
-    let st = c.requires.stands in
-    (st.1.state.history, c.caps.ensures st.0.program st.1.state st.2.shared)
-
-pub owners-requires-clause-there : goal.owners-requires-clause-there
-owners-requires-clause-there g c =
+pub owners-requires : goal.owners-requires
+owners-requires g c =
     let st = c.requires.stands in
     let modules = c.in_ok-modules.ensures ∙ (c.len.ensures ∙ ap (λ (q : Program). length q.modules) c.program-program.ensures.whole) in
     let same = ap (λ (q : Code). length q.program.modules) st.2.code in
@@ -40,13 +35,13 @@ returns g c = λ m w s.
     let kept = ap (λ (x : Instances). x.names) (c.names-instances.ensures m.program w.state s.shared) in
     let modules = c.in_ok-modules.ensures ∙ (c.len.ensures ∙ ap (λ (q : Program). length q.modules) whole) in
     let types = c.in_ok-types.ensures ∙ (c.len-2.ensures ∙ ap (λ (q : Program). length q.interface.reftypes) whole) in
-    account_of g.C.CapStore.stands c.owned_laws.ensures c.args.self.now m w s c.in_ok-schedule.schedule c.from_vec.result c.in_ok-notes.notes c.args.images c.from_vec-2.result c.from_vec-3.result
+    account_of g.C.CapStore.stands c.args.self.now m w s c.in_ok-schedule.schedule c.from_vec.result c.in_ok-notes.notes c.args.images c.from_vec-2.result c.from_vec-3.result
     (c.in_ok-schedule.ensures ∙ c.threads.ensures m.program w.state s.shared)
     (c.from_vec.ensures ∙ (c.in_ok-outcomes.ensures ∙ ap (λ rs. flat_map runner_outcomes (enumerate_from 0 rs)) c.as_slice.ensures.value))
     (c.in_ok-notes.ensures ∙ c.notes.ensures m.program w.state s.shared)
     c.requires.images
-    (λ free. c.from_vec-2.ensures
-    ∙ (c.in_ok-owners.ensures h (c.caps.ensures m.program w.state s.shared) free
+    (c.from_vec-2.ensures
+    ∙ (c.in_ok-owners.ensures h (c.caps.ensures m.program w.state s.shared)
     ∙ (ap (λ ns. flat_map (owned_in c.in_ok-types.types h) (flat_map (module_principals ns) (below c.in_ok-modules.modules))) kept
     ∙ (ap (λ n. flat_map (owned_in c.in_ok-types.types h) (flat_map (module_principals w.state.names) (below n))) modules
     ∙ ap (λ n. flat_map (owned_in n h) (flat_map (module_principals w.state.names) (below (length code.program.modules)))) types))))
