@@ -250,7 +250,7 @@ fn a_crowd_replays_itself(rt: HostRuntime) -> Result<(), Fail> {
     let alloc = rt.alloc();
     let mut shelf = shelf_of(alloc)?;
     shelf.put_file(alloc, "row.case", crowd(alloc)?.as_bytes())?;
-    for _ in 0..10 {
+    for _ in 0..3 {
         assert!(rt; replays_itself(&rt, alloc, &mut shelf)?);
     }
     Ok(())
