@@ -2,6 +2,7 @@
 use Rattle.std.proofs.Common.{◌≡◌, subst, refl, ℕ, List, [], ◌∷◌, Option, Some, None, Result, Ok, Err}
 use Rattle.lx_ir.specs.declared.module.Module.{Module}
 use Rattle.lx_ir.specs.Faults.{FirstFault}
+use Rattle.lx_script.specs.Case.{Case}
 use Rattle.lx_script.specs.declared.case.CaseModule.{CaseModule}
 use Rattle.lx_link.specs.Answers.{origin_name}
 use Rattle.lx_files.specs.declared.stop.InputStop.{InputStop}
@@ -10,8 +11,8 @@ use Rattle.lx_files.specs.declared.sources.Sources.{Sources}
 use Rattle.lx_files.specs.Turns.{Then, Gives, HasNoted}
 use Rattle.lx_files.specs.declared.sources.ImageFile.{ImageFile}
 use Rattle.lx_input.specs.declared.input.Input.{Input}
-use Rattle.lx_input.specs.Checks.{VerifyTurn, PropagateTurn, EachModule}
-use Rattle.lx_input.specs.Inputs.{LinkTurn, ImageCheck, BehindLink, BehindSlots, BehindVerified, BehindKernel, CheckTurn}
+use Rattle.lx_input.specs.Checks.{Passed, VerifyTurn, PropagateTurn, EachModule}
+use Rattle.lx_input.specs.Inputs.{LinkTurn, ImageCheck, BehindLink, BehindSlots, BehindVerified, BehindKernel, CheckTurn, TextsTurn}
 use Rattle.lx_input.proofs.Each.{Turn}
 
 -- a fault of a module does not depend on what a check gives
@@ -20,63 +21,26 @@ verify_err A B file m stops.Memory h = h
 verify_err A B file m (stops.Unread name) h = h
 verify_err A B file m (stops.Fault f) h = h
 
-module _ (case : List ℕ) (s : Sources) where
-  -- the kernel
+-- the kernel, and then the modules
 
-  pub kernel_stops : (file : List ℕ) (e : InputStop) → file ≡ origin_name s.case.kernel → VerifyTurn {A = Module} file s.kernel (Err e) → CheckTurn case s (Err e)
+module _ (c : Case) (kernel : Module) (ms : List Module) where
+  pub kernel_stops : (file : List ℕ) (e : InputStop) → file ≡ origin_name c.kernel → VerifyTurn {A = Module} file kernel (Err e) → TextsTurn c kernel ms (Err e)
   kernel_stops file e called t =
-      (Err e, verify_err Module (Unit {0}) (origin_name s.case.kernel) s.kernel e (subst (λ (f : List ℕ). VerifyTurn {A = Module} f s.kernel (Err e)) called t), refl)
+      (Err e, verify_err Module (Unit {0}) (origin_name c.kernel) kernel e (subst (λ (f : List ℕ). VerifyTurn {A = Module} f kernel (Err e)) called t), refl)
 
-  pub kernel_passed : (answer : Result Input InputStop) → FirstFault s.kernel None → BehindKernel case s answer → CheckTurn case s answer
-  kernel_passed answer none rest = (Ok tt, none, rest)
+  pub kernel_passed : (ns : List CaseModule) (answer : Result Passed InputStop) → ns ≡ c.modules → FirstFault kernel None → EachModule VerifyTurn ns ms answer → TextsTurn c kernel ms answer
+  kernel_passed ns answer listed none rest = (Ok tt, none, subst (λ (xs : List CaseModule). EachModule VerifyTurn xs ms answer) listed rest)
 
-  -- the modules
+module _ (case : List ℕ) (s : Sources) where
+  pub texts_passed : (answer : Result Input InputStop) → TextsTurn s.case s.kernel s.modules (Ok tt) → BehindVerified case s answer → CheckTurn case s answer
+  texts_passed answer (Ok x, t, goes) rest = (Ok x, t, (Ok tt, goes, rest))
+  texts_passed answer (Err x, t, goes) rest = absurd (cc goes)
 
-  pub modules_stop : (ns : List CaseModule) (ms : List Module) (e : InputStop) → ns ≡ s.case.modules → ms ≡ s.modules → EachModule VerifyTurn ns ms (Err e) → BehindKernel case s (Err e)
-  modules_stop ns ms e listed same t = (
-    Err e,
-    subst (λ (xs : List CaseModule). EachModule VerifyTurn xs s.modules (Err e)) listed (subst (λ (ys : List Module). EachModule VerifyTurn ns ys (Err e)) same t),
-    refl,
-  )
-
-  pub modules_passed : (ns : List CaseModule) (ms : List Module) (answer : Result Input InputStop) → ns ≡ s.case.modules → ms ≡ s.modules → EachModule VerifyTurn ns ms (Ok tt) → BehindVerified case s answer → BehindKernel case s answer
-  modules_passed ns ms answer listed same t rest = (
-    Ok tt,
-    subst (λ (xs : List CaseModule). EachModule VerifyTurn xs s.modules (Ok tt)) listed (subst (λ (ys : List Module). EachModule VerifyTurn ns ys (Ok tt)) same t),
-    rest,
-  )
-
-  -- their slot types
-
-  pub slots_stop : (ns : List CaseModule) (ms : List Module) (e : InputStop) → ns ≡ s.case.modules → ms ≡ s.modules → EachModule (PropagateTurn s.interface) ns ms (Err e) → BehindVerified case s (Err e)
-  slots_stop ns ms e listed same t = (
-    Err e,
-    subst (λ (xs : List CaseModule). EachModule (PropagateTurn s.interface) xs s.modules (Err e)) listed
-        (subst (λ (ys : List Module). EachModule (PropagateTurn s.interface) ns ys (Err e)) same t),
-    refl,
-  )
-
-  pub slots_passed : (ns : List CaseModule) (ms : List Module) (answer : Result Input InputStop) → ns ≡ s.case.modules → ms ≡ s.modules → EachModule (PropagateTurn s.interface) ns ms (Ok tt) → BehindSlots case s answer → BehindVerified case s answer
-  slots_passed ns ms answer listed same t rest = (
-    Ok tt,
-    subst (λ (xs : List CaseModule). EachModule (PropagateTurn s.interface) xs s.modules (Ok tt)) listed
-        (subst (λ (ys : List Module). EachModule (PropagateTurn s.interface) ns ys (Ok tt)) same t),
-    rest,
-  )
-
-  -- all of them, linked, and the image
-
-  pub link_stops : (e : InputStop) → LinkTurn case s (Err e) → BehindSlots case s (Err e)
-  link_stops e t = (Err e, t, refl)
-
-  pub link_passed : (i : Input) (answer : Result Input InputStop) → LinkTurn case s (Ok i) → BehindLink i answer → BehindSlots case s answer
-  link_passed i answer t rest = (Ok i, t, rest)
-
-  pub linked_alike : (kernel : Module) (ms : List Module) (answer : Result Input InputStop) → kernel ≡ s.kernel → ms ≡ s.modules
-      → LinkTurn case (record { case = s.case; kernel = kernel; interface = s.interface; modules = ms; besides = s.besides }) answer → LinkTurn case s answer
-  linked_alike kernel ms answer same_kernel same h =
-      subst (λ (k : Module). LinkTurn case (record { case = s.case; kernel = k; interface = s.interface; modules = s.modules; besides = s.besides }) answer) same_kernel
-      (subst (λ (ys : List Module). LinkTurn case (record { case = s.case; kernel = kernel; interface = s.interface; modules = ys; besides = s.besides }) answer) same h)
+  pub texts_alike : (kernel : Module) (ms : List Module) (answer : Result Input InputStop) → kernel ≡ s.kernel → ms ≡ s.modules
+      → BehindVerified case (record { case = s.case; kernel = kernel; interface = s.interface; modules = ms; besides = s.besides }) answer → BehindVerified case s answer
+  texts_alike kernel ms answer same_kernel same h =
+      subst (λ (k : Module). BehindVerified case (record { case = s.case; kernel = k; interface = s.interface; modules = s.modules; besides = s.besides }) answer) same_kernel
+      (subst (λ (ys : List Module). BehindVerified case (record { case = s.case; kernel = kernel; interface = s.interface; modules = ys; besides = s.besides }) answer) same h)
 
 -- a check asks for no file
 

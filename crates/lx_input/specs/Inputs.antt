@@ -7,6 +7,9 @@ use Rattle.lx_link_texts.specs.Faults.{Fault, all_annotated}
 use Rattle.lx_link_texts.specs.Placing.{program_of}
 use Rattle.lx_link.specs.Answers.{link_fault, named_modules, origin_name, sources_of}
 use Rattle.lx_link.specs.Calls.{calls_of}
+use Rattle.lx_ir.specs.declared.module.Module.{Module}
+use Rattle.lx_script.specs.Case.{Case}
+use Rattle.lx_files.specs.declared.sources.Besides.{Besides}
 use Rattle.lx_files.specs.declared.sources.ImageFile.{ImageFile}
 use Rattle.lx_files.specs.declared.sources.Sources.{Sources}
 use Rattle.lx_files.specs.declared.stop.InputStop.{InputStop}
@@ -15,6 +18,7 @@ use Rattle.lx_files.specs.Asked.{Asked}
 use Rattle.lx_files.specs.Turns.{Then, Gives}
 use Rattle.lx_files.specs.Inputs.{SourcesTurn}
 use Rattle.lx_input.specs.declared.input.Input.{Input}
+use Rattle.lx_input.specs.declared.linked.VerifiedTexts.{VerifiedTexts}
 use Rattle.lx_input.specs.Lines.{link_line}
 use Rattle.lx_input.specs.Checks.{Passed, VerifyTurn, PropagateTurn, EachModule}
 
@@ -60,6 +64,14 @@ BehindKernel case s answer = Then (EachModule VerifyTurn s.case.modules s.module
 
 abbrev pub CheckTurn : List ℕ → Sources → Result Input InputStop → Type 0
 CheckTurn case s answer = Then (VerifyTurn {A = Unit {0}} (origin_name s.case.kernel) s.kernel) (λ _. BehindKernel case s) answer
+
+-- the first two of these turns: the kernel is verified, and then each module
+abbrev pub TextsTurn : Case → Module → List Module → Result Passed InputStop → Type 0
+TextsTurn c kernel ms answer = Then (VerifyTurn {A = Unit {0}} (origin_name c.kernel) kernel) (λ _. EachModule VerifyTurn c.modules ms) answer
+
+-- what was read, where these of its texts are verified
+abbrev pub sources_by : VerifiedTexts → Besides → Sources
+sources_by t besides = record { case = t.case; kernel = t.kernel; interface = t.interface; modules = t.modules.items; besides = besides }
 
 -- what the files of a command come to, where the case has this name, and this is asked for besides
 abbrev pub InputTurn : List FileText → List ℕ → Asked → Result Input InputStop → Type 0

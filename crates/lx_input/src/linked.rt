@@ -1,13 +1,11 @@
 //! Checked texts, linked.
 
 ghost use Rattle.std.specs.Prelude.{◌≡◌, ◌≤◌, All, IfOk, length, map};
-ghost use Rattle.lx_ir.specs.Lawful.{IsPlain};
-ghost use Rattle.lx_annot.specs.Lawful.{IsLawfulInterface};
 ghost use Rattle.lx_propagate.specs.Slots.{annotated_of};
-ghost use Rattle.lx_files.specs.Sound.{AreSound, IsOneOf, IsSoundImage};
+ghost use Rattle.lx_files.specs.Sound.{AreSound, IsSoundImage, IsSoundModule};
 ghost use Rattle.lx_link.specs.Answers.{origin_name};
-ghost use Rattle.lx_input.specs.Checks.{passed};
-ghost use Rattle.lx_input.specs.Inputs.{BehindLink, CheckTurn, ImageCheck, LinkTurn};
+ghost use Rattle.lx_input.specs.Checks.{EachModule, VerifyTurn, passed};
+ghost use Rattle.lx_input.specs.Inputs.{BehindLink, BehindSlots, BehindVerified, CheckTurn, ImageCheck, LinkTurn, TextsTurn, sources_by};
 ghost use Rattle.lx_input.specs.Laws.{HasNoConflict, IsLinkedInput, IsReady, IsVerifiedImage};
 
 use crate::checks::{annotate_modules, verify_module, verify_modules};
@@ -15,9 +13,10 @@ use crate::input::Input;
 use crate::stop::link_stop;
 use lx_annot::interface::Interface;
 use lx_files::{Besides, ImageFile, InputStop, Sources};
+use lx_ir::module::Module;
 use lx_ir_verify::Verified;
 use lx_link::link;
-use lx_script::{Case, Origin};
+use lx_script::{Case, CaseModule, Origin};
 use lx_slot_types::Annotated;
 use lx_words::Items;
 use std::alloc::Global;
@@ -41,37 +40,40 @@ fn few_threads(case: &Case) -> usize
     case.threads.len()
 }
 
+/// What was read for a case, its kernel and modules verified.
+#[derive(Drop)]
+struct VerifiedTexts {
+    case: Case,
+    kernel: Verified,
+    interface: Interface,
+    modules: Vec<Verified>,
+}
+
 /// Links what was checked; `name` is the name of the case.
 #[tactic(auto, using(crate::proofs::Linking::link_told))]
 fn link_checked(
     alloc: Global,
     name: &[u8],
-    case: &Case,
-    kernel: &Verified,
-    interface: &Interface,
-    modules: &[Verified],
+    texts: &VerifiedTexts,
     annotated: Items<Annotated>,
     besides: Besides,
 ) -> Result<Input, InputStop>
-    requires as_many { length modules.now ≡ length case.now.modules }
-    requires kernel_plain { IsPlain kernel.now }
-    requires modules_plain { All IsPlain modules.now }
-    requires interface { IsLawfulInterface interface.now }
-    requires annotated { annotated ≡ map (annotated_of interface.now) modules.now }
-    requires agree { All (HasNoConflict interface.now) modules.now }
-    requires number { IsOneOf modules.now besides.number }
-    ensures turn { LinkTurn name.now (record { case = case.now; kernel = kernel.now; interface = interface.now; modules = modules.now; besides = besides }) result }
+    requires sound { AreSound (sources_by texts.now besides) }
+    requires annotated { annotated ≡ map (annotated_of texts.now.interface) texts.now.modules.items }
+    requires agree { All (HasNoConflict texts.now.interface) texts.now.modules.items }
+    ensures turn { LinkTurn name.now (sources_by texts.now besides) result }
     ensures linked { IfOk result IsLinkedInput }
     ensures besides { IfOk result (λ i. i.besides ≡ besides) }
 {
-    let _threads = few_threads(case);
+    let _threads = few_threads(&texts.case);
+    let modules = texts.modules.as_slice();
     match link(
         alloc,
-        kernel,
-        interface,
+        &texts.kernel,
+        &texts.interface,
         modules,
         annotated.as_slice(),
-        case,
+        &texts.case,
     ) {
         Ok(linked) => {
             let (program, script) = linked.into_parts();
@@ -82,7 +84,11 @@ fn link_checked(
                 besides,
             })
         }
-        Err(fault) => Err(link_stop(alloc, name, fault)),
+        Err(fault) => {
+            drop(annotated);
+            drop(besides);
+            Err(link_stop(alloc, name, fault))
+        }
     }
 }
 
@@ -95,13 +101,16 @@ fn verified_image(alloc: Global, image: Option<ImageFile>) -> Result<Option<Imag
 {
     match image {
         None => Ok(None),
-        Some(ImageFile { file, text }) => {
-            let verified = verify_module(alloc, file.as_slice(), text)?;
-            Ok(Some(ImageFile {
+        Some(ImageFile { file, text }) => match verify_module(alloc, file.as_slice(), text) {
+            Ok(verified) => Ok(Some(ImageFile {
                 file,
                 text: verified.into_module(),
-            }))
-        }
+            })),
+            Err(why) => {
+                drop(file);
+                Err(why)
+            }
+        },
     }
 }
 
@@ -123,18 +132,117 @@ fn verify_image(alloc: Global, input: Input) -> Result<Input, InputStop>
             image,
         },
     } = input;
-    let image = verified_image(alloc, image)?;
-    let besides = Besides {
-        number,
-        schedule,
-        image,
-    };
-    Ok(Input {
-        program,
-        script,
-        annotated,
-        besides,
-    })
+    match verified_image(alloc, image) {
+        Ok(image) => Ok(Input {
+            program,
+            script,
+            annotated,
+            besides: Besides {
+                number,
+                schedule,
+                image,
+            },
+        }),
+        Err(why) => {
+            drop(program);
+            drop(script);
+            drop(annotated);
+            drop(schedule);
+            Err(why)
+        }
+    }
+}
+
+/// Links what was checked, and verifies the image behind that.
+fn check_linked(
+    alloc: Global,
+    name: &[u8],
+    texts: &VerifiedTexts,
+    annotated: Items<Annotated>,
+    besides: Besides,
+) -> Result<Input, InputStop>
+    requires sound { AreSound (sources_by texts.now besides) }
+    requires annotated { annotated ≡ map (annotated_of texts.now.interface) texts.now.modules.items }
+    requires agree { All (HasNoConflict texts.now.interface) texts.now.modules.items }
+    ensures turn { BehindSlots name.now (sources_by texts.now besides) result }
+    ensures ready { IfOk result IsReady }
+    ensures besides { IfOk result (λ i. i.besides ≡ besides) }
+{
+    match link_checked(alloc, name, texts, annotated, besides) {
+        Ok(input) => verify_image(alloc, input),
+        Err(why) => Err(why),
+    }
+}
+
+/// Hands on slot types in each module, and goes on behind that.
+fn check_slots(
+    alloc: Global,
+    name: &[u8],
+    texts: &VerifiedTexts,
+    besides: Besides,
+) -> Result<Input, InputStop>
+    requires sound { AreSound (sources_by texts.now besides) }
+    ensures turn { BehindVerified name.now (sources_by texts.now besides) result }
+    ensures ready { IfOk result IsReady }
+    ensures besides { IfOk result (λ i. i.besides ≡ besides) }
+{
+    match annotate_modules(
+        alloc,
+        &texts.interface,
+        texts.case.modules.as_slice(),
+        texts.modules.as_slice(),
+    ) {
+        Ok(annotated) => check_linked(alloc, name, texts, annotated, besides),
+        Err(why) => {
+            drop(besides);
+            Err(why)
+        }
+    }
+}
+
+/// Verifies each module behind the kernel, which is handed on.
+fn verify_behind(
+    alloc: Global,
+    kernel: Verified,
+    names: &[CaseModule],
+    modules: Items<Module>,
+) -> Result<(Verified, Vec<Verified>), InputStop>
+    requires sound { All IsSoundModule modules }
+    requires as_many { length modules ≡ length names.now }
+    ensures turn { EachModule VerifyTurn names.now modules (passed result) }
+    ensures kernel { IfOk result (λ texts. texts.0 ≡ kernel) }
+    ensures modules { IfOk result (λ texts. texts.1.items ≡ modules) }
+{
+    match verify_modules(alloc, names, modules.into_vec()) {
+        Ok(verified) => Ok((kernel, verified)),
+        Err(why) => {
+            drop(kernel);
+            Err(why)
+        }
+    }
+}
+
+/// Verifies the kernel, and then each module.
+fn verify_texts(
+    alloc: Global,
+    case: &Case,
+    kernel: Module,
+    modules: Items<Module>,
+) -> Result<(Verified, Vec<Verified>), InputStop>
+    requires kernel { IsSoundModule kernel }
+    requires modules { All IsSoundModule modules }
+    requires as_many { length modules ≡ length case.now.modules }
+    ensures turn { TextsTurn case.now kernel modules (passed result) }
+    ensures kernel { IfOk result (λ texts. texts.0 ≡ kernel) }
+    ensures modules { IfOk result (λ texts. texts.1.items ≡ modules) }
+{
+    match verify_module(alloc, origin_name(&case.kernel), kernel) {
+        Ok(verified) => verify_behind(alloc, verified, case.modules.as_slice(), modules),
+        Err(why) => {
+            drop(modules);
+            Err(why)
+        }
+    }
 }
 
 /// Checks and links what was read; `name` is the name of the case.
@@ -151,13 +259,24 @@ pub fn check_sources(alloc: Global, name: &[u8], sources: Sources) -> Result<Inp
         modules,
         besides,
     } = sources;
-    let names = case.modules.as_slice();
-    let kernel = verify_module(alloc, origin_name(&case.kernel), kernel)?;
-    let modules = verify_modules(alloc, names, modules.into_vec())?;
-    let verified = modules.as_slice();
-    let annotated = annotate_modules(alloc, &interface, names, verified)?;
-    let input = link_checked(
-        alloc, name, &case, &kernel, &interface, verified, annotated, besides,
-    )?;
-    verify_image(alloc, input)
+    match verify_texts(alloc, &case, kernel, modules) {
+        Ok((kernel, modules)) => {
+            let texts = VerifiedTexts {
+                case,
+                kernel,
+                interface,
+                modules,
+            };
+            let input = check_slots(alloc, name, &texts, besides);
+            // One owner drops the texts once, however the check went.
+            drop(texts);
+            input
+        }
+        Err(why) => {
+            drop(case);
+            drop(interface);
+            drop(besides);
+            Err(why)
+        }
+    }
 }

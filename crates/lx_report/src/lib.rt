@@ -1,7 +1,7 @@
 //! The text of a report: what a run did, one line a fact.
 #![tactic(auto)]
 
-ghost use Rattle.std.specs.Prelude.{◌≡◌, IfOk};
+ghost use Rattle.std.specs.Prelude.{◌≡◌, ◌++◌, IfOk, OnOk};
 ghost use Rattle.lx_report.specs.Lawful.{HasLawfulModules};
 ghost use Rattle.lx_report.specs.Report.{report_text};
 ghost use Rattle.lx_report.specs.Laws.{ReportLaws};
@@ -25,6 +25,33 @@ use lx_model::program::Program;
 use lx_words::{Memory, number_texts};
 use std::alloc::Global;
 
+/// The parts of a report, one behind the other. It owns nothing, so that a want of memory has nothing to drop.
+fn put_report(out: &mut Vec<u8>, told: &Told, a: &Account) -> Result<(), Memory>
+    requires { told.now.names ≡ a.now.names }
+    ensures { OnOk result (out.new.items ≡ out.old.items ++ report_text told.now.program.now a.now) }
+{
+    put_schedule(out, a.schedule.as_slice())?;
+    put_calls(out, told, a.outcomes.as_slice())?;
+    put_notes(out, a.notes.as_slice())?;
+    put_images(out, told.program, a.images.as_slice())?;
+    put_owners(out, told, a.owners.as_slice())
+}
+
+/// The text of an account, over the tables of its program.
+fn text_of(alloc: Global, told: &Told, a: &Account) -> Result<Vec<u8>, Memory>
+    requires { told.now.names ≡ a.now.names }
+    ensures { IfOk result (λ text. text.items ≡ report_text told.now.program.now a.now) }
+{
+    let mut out = Vec::new(alloc);
+    match put_report(&mut out, told, a) {
+        Ok(()) => Ok(out),
+        Err(why) => {
+            drop(out);
+            Err(why)
+        }
+    }
+}
+
 /// The text of an account: the schedule, the calls, the notes, the images, and what each principal owns. A name
 /// that the program lacks is empty. Want of memory is the only error.
 pub fn report(alloc: Global, a: &Account, p: &Program) -> Result<Vec<u8>, Memory>
@@ -32,13 +59,9 @@ pub fn report(alloc: Global, a: &Account, p: &Program) -> Result<Vec<u8>, Memory
     ensures { IfOk result (λ text. text.items ≡ report_text p.now a.now) }
 {
     let told = Told::new(alloc, p, a)?;
-    let mut out = Vec::new(alloc);
-    put_schedule(&mut out, a.schedule.as_slice())?;
-    put_calls(&mut out, &told, a.outcomes.as_slice())?;
-    put_notes(&mut out, a.notes.as_slice())?;
-    put_images(&mut out, p, a.images.as_slice())?;
-    put_owners(&mut out, &told, a.owners.as_slice())?;
-    Ok(out)
+    let text = text_of(alloc, &told, a);
+    drop(told);
+    text
 }
 
 /// Worked reports.

@@ -115,19 +115,21 @@ fn put_given(out: &mut Vec<u8>, names: &GivenNames, m: u32, k: u32) -> Result<()
     put(out, "]")
 }
 
+/// The name of a module, and what follows it.
+fn put_of_module(out: &mut Vec<u8>, p: &Program, m: u32, ending: &str) -> Result<(), Memory>
+    ensures { OnOk result (out.new.items ≡ out.old.items ++ module_name p.now m ++ ending.now) }
+{
+    put_bytes(out, module_name(p, m as usize))?;
+    put(out, ending)
+}
+
 pub(crate) fn put_principal(out: &mut Vec<u8>, told: &Told, who: Principal) -> Result<(), Memory>
     ensures { OnOk result (out.new.items ≡ out.old.items ++ principal_text told.now.program.now told.now.names who) }
 {
     match who {
         Principal::Kernel => put(out, "kernel"),
-        Principal::Shared(m) => {
-            put_bytes(out, module_name(told.program, m as usize))?;
-            put(out, ".shared")
-        }
-        Principal::Global(m) => {
-            put_bytes(out, module_name(told.program, m as usize))?;
-            put(out, ".global")
-        }
+        Principal::Shared(m) => put_of_module(out, told.program, m, ".shared"),
+        Principal::Global(m) => put_of_module(out, told.program, m, ".global"),
         Principal::Inst(m, k) => {
             put_bytes(out, module_name(told.program, m as usize))?;
             put_given(out, &told.names, m, k)

@@ -71,26 +71,25 @@ fn put_returned(out: &mut Vec<u8>, ty: Option<Scalar>, value: Option<Word>) -> R
     }
 }
 
+/// A trap that has an address.
+fn put_trap_at(out: &mut Vec<u8>, opening: &str, at: u64) -> Result<(), Memory>
+    ensures { OnOk result (out.new.items ≡ out.old.items ++ opening.now ++ address_text at) }
+{
+    put(out, opening)?;
+    put_address(out, at)
+}
+
 fn put_trap(out: &mut Vec<u8>, trap: Trap) -> Result<(), Memory>
     ensures { OnOk result (out.new.items ≡ out.old.items ++ trap_text trap) }
 {
     match trap {
-        Trap::Unmapped { at } => {
-            put(out, "trap 1 ")?;
-            put_address(out, at)
-        }
+        Trap::Unmapped { at } => put_trap_at(out, "trap 1 ", at),
         Trap::Division => put(out, "trap 2"),
         Trap::Unreachable => put(out, "trap 3"),
         Trap::StackFull => put(out, "trap 4"),
         Trap::TooDeep => put(out, "trap 5"),
-        Trap::Signature { at } => {
-            put(out, "trap 6 ")?;
-            put_address(out, at)
-        }
-        Trap::NotLive { at } => {
-            put(out, "trap 7 ")?;
-            put_address(out, at)
-        }
+        Trap::Signature { at } => put_trap_at(out, "trap 6 ", at),
+        Trap::NotLive { at } => put_trap_at(out, "trap 7 ", at),
     }
 }
 
@@ -139,26 +138,28 @@ fn put_refused(out: &mut Vec<u8>, told: &Told, number: u64, who: Principal) -> R
     put(out, " ")
 }
 
+/// A refusal about a capability.
+fn put_about(
+    out: &mut Vec<u8>,
+    told: &Told,
+    number: u64,
+    who: Principal,
+    cap: Cap,
+) -> Result<(), Memory>
+    ensures { OnOk result (out.new.items ≡ out.old.items ++ refused told.now.program.now told.now.names number who ++ cap_text told.now.program.now.interface cap) }
+{
+    put_refused(out, told, number, who)?;
+    put_cap(out, &told.program.interface, cap)
+}
+
 fn put_refusal(out: &mut Vec<u8>, told: &Told, refusal: Refusal) -> Result<(), Memory>
     ensures { OnOk result (out.new.items ≡ out.old.items ++ refusal_text told.now.program.now told.now.names refusal) }
 {
     match refusal {
-        Refusal::Write { who, at, size } => {
-            put_refused(out, told, 1, who)?;
-            put_write(out, at, size)
-        }
-        Refusal::Call { who, at } => {
-            put_refused(out, told, 2, who)?;
-            put_call(out, at)
-        }
-        Refusal::Ref { who, ty, at } => {
-            put_refused(out, told, 3, who)?;
-            put_ref(out, &told.program.interface, ty, at)
-        }
-        Refusal::NotAnnotated { who, at } => {
-            put_refused(out, told, 4, who)?;
-            put_call(out, at)
-        }
+        Refusal::Write { who, at, size } => put_about(out, told, 1, who, Cap::Write { at, size }),
+        Refusal::Call { who, at } => put_about(out, told, 2, who, Cap::Call { at }),
+        Refusal::Ref { who, ty, at } => put_about(out, told, 3, who, Cap::Ref { ty, at }),
+        Refusal::NotAnnotated { who, at } => put_about(out, told, 4, who, Cap::Call { at }),
         Refusal::OtherAnnotation {
             who,
             at,
@@ -172,14 +173,8 @@ fn put_refusal(out: &mut Vec<u8>, told: &Told, refusal: Refusal) -> Result<(), M
             put_refused(out, told, 6, who)?;
             put_slot(out, at, slot)
         }
-        Refusal::OnStack { who, at, size } => {
-            put_refused(out, told, 7, who)?;
-            put_write(out, at, size)
-        }
-        Refusal::Outside { who, at, size } => {
-            put_refused(out, told, 8, who)?;
-            put_write(out, at, size)
-        }
+        Refusal::OnStack { who, at, size } => put_about(out, told, 7, who, Cap::Write { at, size }),
+        Refusal::Outside { who, at, size } => put_about(out, told, 8, who, Cap::Write { at, size }),
         Refusal::Alias {
             who,
             known,
@@ -188,10 +183,7 @@ fn put_refusal(out: &mut Vec<u8>, told: &Told, refusal: Refusal) -> Result<(), M
             put_refused(out, told, 9, who)?;
             put_alias(out, known, further)
         }
-        Refusal::Borrowed { who, cap } => {
-            put_refused(out, told, 10, who)?;
-            put_cap(out, &told.program.interface, cap)
-        }
+        Refusal::Borrowed { who, cap } => put_about(out, told, 10, who, cap),
     }
 }
 

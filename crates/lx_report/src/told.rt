@@ -26,18 +26,41 @@ impl<'a> Told<'a> {
     ghost use Rattle.std.specs.Prelude.{◌≡◌, IfOk};
     ghost use Rattle.lx_report.specs.Lawful.{HasLawfulModules};
 
+    /// The tables, of which those of slot types are made.
+    fn with_slots(
+        alloc: Global,
+        program: &'a Program,
+        a: &'a Account,
+        slots: ModuleSlots<'a>,
+    ) -> Result<Self, Memory>
+        requires { slots ≡ program.now }
+        ensures program { IfOk result (λ told. told.program.now ≡ program.now) }
+        ensures names { IfOk result (λ told. told.names ≡ a.now.names) }
+    {
+        match GivenNames::new(alloc, a.names.as_slice()) {
+            Ok(names) => Ok(Told {
+                alloc,
+                program,
+                interface: InterfaceNames::new(alloc, &program.interface),
+                slots,
+                names,
+            }),
+            Err(why) => {
+                drop(slots);
+                Err(why)
+            }
+        }
+    }
+
     /// Makes the tables, once for a report. Want of memory is the only error.
     pub(crate) fn new(alloc: Global, program: &'a Program, a: &'a Account) -> Result<Self, Memory>
         requires { HasLawfulModules program.now }
         ensures program { IfOk result (λ told. told.program.now ≡ program.now) }
         ensures names { IfOk result (λ told. told.names ≡ a.now.names) }
     {
-        Ok(Told {
-            alloc,
-            program,
-            interface: InterfaceNames::new(alloc, &program.interface),
-            slots: ModuleSlots::new(alloc, program, a.outcomes.as_slice())?,
-            names: GivenNames::new(alloc, a.names.as_slice())?,
-        })
+        match ModuleSlots::new(alloc, program, a.outcomes.as_slice()) {
+            Ok(slots) => Told::with_slots(alloc, program, a, slots),
+            Err(why) => Err(why),
+        }
     }
 }
