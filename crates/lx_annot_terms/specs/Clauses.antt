@@ -44,6 +44,10 @@ principal_at scope ts = do
   c ← next_at (codes ")") w.1
   Ok (w.0, c.1)
 
+-- what was read, where a bracket closes it
+abbrev pub closed_at : {A : Type 0} → A → List Tok → Read A
+closed_at x ts = next_at (codes ")") ts >>= λ c. Ok (x, c.1)
+
 -- an action in brackets
 abbrev pub enclosed_action_at : Scope → Known → List Tok → Read Action
 enclosed_action_at scope known ts = do

@@ -4,6 +4,7 @@ ghost use Rattle.std.specs.Prelude.{◌≡◌, ◌≤◌, length, IfOk};
 ghost use Rattle.lx_annot.specs.Action.{If};
 ghost use Rattle.lx_annot_expressions.specs.Reading.{Gives, pick_at, always_refused};
 ghost use Rattle.lx_annot_terms.specs.Actions.{action_at, action_of, action_within, condition_at, deed_at, deed_of};
+ghost use Rattle.lx_annot_terms.specs.Clauses.{closed_at};
 
 use crate::lists::{Known, list};
 use lx_annot::action::{Action, ActionNode, CapSpec};
@@ -70,6 +71,20 @@ fn deed_word(reader: &mut Reader<'_>, lends: bool) -> Result<Deed, ReadError>
     Ok(deed)
 }
 
+/// The list of an action, where a bracket closes it.
+fn closed_list(reader: &mut Reader<'_>, list: CapSpec) -> Result<CapSpec, ReadError>
+    ensures reads { Gives result reader.new (closed_at list reader.old) }
+    ensures shrinks { length reader.new ≤ length reader.old }
+{
+    match reader.expect(b")") {
+        Ok(()) => Ok(list),
+        Err(error) => {
+            drop(list);
+            Err(error)
+        }
+    }
+}
+
 /// An action without condition.
 #[tactic(auto, unfolding(crate::specs::Actions::deed_at))]
 fn plain_action(
@@ -84,7 +99,7 @@ fn plain_action(
     let deed = deed_word(reader, known.lends)?;
     reader.expect(b"(")?;
     let list = list(alloc, reader, scope, known)?;
-    reader.expect(b")")?;
+    let list = closed_list(reader, list)?;
     Ok(action_of(deed, list))
 }
 

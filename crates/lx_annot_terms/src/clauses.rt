@@ -3,7 +3,7 @@
 ghost use Rattle.std.specs.Prelude.{◌≡◌, ◌++◌, ◌≤◌, filter, length, IfOk, OnOk};
 ghost use Rattle.lx_annot.specs.Action.{end_of, is_lend};
 ghost use Rattle.lx_annot_expressions.specs.Reading.{Gives, Leaves, behind};
-ghost use Rattle.lx_annot_terms.specs.Clauses.{begins_clause, clause_at, clauses_at, empty_annotation, enclosed_action_at, post_clause_at, pre_clause_at, principal_at, principal_clause_at, result_of, scope_before, scope_behind, who_at, with_loans_ended, without_lends, written_at};
+ghost use Rattle.lx_annot_terms.specs.Clauses.{begins_clause, clause_at, clauses_at, closed_at, empty_annotation, enclosed_action_at, post_clause_at, pre_clause_at, principal_at, principal_clause_at, result_of, scope_before, scope_behind, who_at, with_loans_ended, without_lends, written_at};
 
 use crate::actions::action;
 use crate::lists::Known;
@@ -93,6 +93,20 @@ fn principal(alloc: Global, reader: &mut Reader<'_>, scope: &Scope<'_>) -> Resul
     Ok(who)
 }
 
+/// An action, where a bracket closes it.
+fn closed(reader: &mut Reader<'_>, action: Action) -> Result<Action, ReadError>
+    ensures reads { Gives result reader.new (closed_at action reader.old) }
+    ensures shrinks { length reader.new ≤ length reader.old }
+{
+    match reader.expect(b")") {
+        Ok(()) => Ok(action),
+        Err(error) => {
+            drop(action);
+            Err(error)
+        }
+    }
+}
+
 /// An action in brackets.
 fn enclosed_action(
     alloc: Global,
@@ -105,7 +119,7 @@ fn enclosed_action(
 {
     reader.expect(b"(")?;
     let action = action(alloc, reader, scope, known)?;
-    reader.expect(b")")?;
+    let action = closed(reader, action)?;
     Ok(action)
 }
 

@@ -83,8 +83,19 @@ impl Tables {
         ensures addresses { IfOk result (λ tables. HasAddresses program.now.globals tables.addresses.entries) }
     {
         let lookup = Lookup::new(alloc, program)?;
-        let kernel = table_of(alloc, &lookup, None, &program.kernel)?;
-        let modules = module_tables(alloc, &lookup)?;
+        let tables = Tables::found(alloc, &lookup, program);
+        drop(lookup);
+        tables
+    }
+
+    // The tables of a program whose names are looked up there. The maps are borrowed, so that they are dropped once, whatever it gives.
+    fn found(alloc: Global, lookup: &Lookup<'_>, program: &Program) -> Result<Tables, Memory>
+        requires { lookup.now ≡ program.now }
+        ensures targets { IfOk result (λ tables. HasTables program.now tables.kernel tables.modules) }
+        ensures addresses { IfOk result (λ tables. HasAddresses program.now.globals tables.addresses.entries) }
+    {
+        let kernel = table_of(alloc, lookup, None, &program.kernel)?;
+        let modules = module_tables(alloc, lookup)?;
         let addresses = addresses_of(alloc, program.globals.as_slice())?;
         Ok(Tables {
             kernel,

@@ -96,14 +96,26 @@ impl<'a> Lookup<'a> {
         ensures { IfOk result (λ lookup. lookup ≡ program.now) }
     {
         let numbers = numbers_of(alloc, program.functions.as_slice())?;
-        let kernel = defined_in(alloc, program.kernel.functions.as_slice())?;
-        let slots = slots_in(alloc, program.interface.slots.as_slice())?;
-        Ok(Lookup {
-            program,
-            numbers,
-            kernel,
-            slots,
-        })
+        let kernel = match defined_in(alloc, program.kernel.functions.as_slice()) {
+            Ok(kernel) => kernel,
+            Err(why) => {
+                drop(numbers);
+                return Err(why);
+            }
+        };
+        match slots_in(alloc, program.interface.slots.as_slice()) {
+            Ok(slots) => Ok(Lookup {
+                program,
+                numbers,
+                kernel,
+                slots,
+            }),
+            Err(why) => {
+                drop(kernel);
+                drop(numbers);
+                Err(why)
+            }
+        }
     }
 
     /// The program.

@@ -1,5 +1,5 @@
 //! The imports that the wrappers of images wrap, in tables, so that no name is looked up while a function runs.
-ghost use Rattle.std.specs.Prelude.{◌≡◌, ◌≤◌, IfOk, Some, length, map, option_copied, option_and_then, slice_get};
+ghost use Rattle.std.specs.Prelude.{◌≡◌, ◌≤◌, ◌++◌, ◌∷◌, [], IfOk, OnOk, Some, length, map, option_copied, option_and_then, slice_get};
 ghost use Rattle.lx_images.specs.Image.{wrapped_name};
 ghost use Rattle.lx_image_code.specs.Imports.{import_at, imports_in, imports_of, wrapped_by};
 
@@ -47,6 +47,35 @@ fn imports_in(alloc: Global, names: &ProgramNames<'_>, image: &Module) -> Result
     Ok(imports)
 }
 
+// The imports that the functions of an image wrap go behind those of the images before it.
+fn push_imports(
+    tables: &mut Items<Imports>,
+    alloc: Global,
+    names: &ProgramNames<'_>,
+    image: &Module,
+) -> Result<(), Memory>
+    ensures { OnOk result (tables.new ≡ tables.old ++ imports_in names.now image.now ∷ []) }
+{
+    let imports = imports_in(alloc, names, image)?;
+    tables.push(imports)?;
+    Ok(())
+}
+
+// The imports that the functions of each image wrap, by the tables of the program's names.
+fn imports_by(
+    alloc: Global,
+    names: &ProgramNames<'_>,
+    images: &[Verified],
+) -> Result<Items<Imports>, Memory>
+    ensures { IfOk result (λ tables. tables ≡ imports_of names.now images.now) }
+{
+    let mut tables = Items::new(alloc);
+    for image in images {
+        push_imports(&mut tables, alloc, names, image.module())?;
+    }
+    Ok(tables)
+}
+
 /// The imports that the functions of each image wrap.
 pub(crate) fn imports_of(
     alloc: Global,
@@ -57,12 +86,9 @@ pub(crate) fn imports_of(
     ensures { IfOk result (λ tables. tables ≡ imports_of program.now images.now) }
 {
     let names = ProgramNames::new(alloc, program);
-    let mut tables = Items::new(alloc);
-    for image in images {
-        let imports = imports_in(alloc, &names, image.module())?;
-        tables.push(imports)?;
-    }
-    Ok(tables)
+    let tables = imports_by(alloc, &names, images);
+    drop(names);
+    tables
 }
 
 /// The import that a function of an image wraps, by the tables.

@@ -22,7 +22,7 @@ use Rattle.lx_ir_calls.specs.declared.intrinsics.TextForm.{TextForm}
 use Rattle.lx_ir_statements.specs.declared.form.Statement.{Statement}
 use Rattle.lx_ir_statements.specs.declared.form.Statement.TheVariants as statements
 use Rattle.lx_ir_tokens.specs.Names.{number_of}
-use Rattle.lx_ir_tables.specs.Numbering.{Numbering, numbering, with_thing, is_new, table_of, own_numbers}
+use Rattle.lx_ir_tables.specs.Numbering.{Numbering, numbering, with_thing, is_new, table_of}
 use Rattle.lx_ir_tables.specs.Registers.{with_given, with_given_by, with_all_given, with_read, with_operands, with_read_by, with_all_read, with_parameters, registers_of}
 use Rattle.lx_ir_read.specs.declared.first.Found.{Found}
 use Rattle.lx_ir_read.specs.declared.first.FirstReading.{FirstReading}
@@ -31,10 +31,12 @@ use Rattle.lx_ir_read.specs.declared.fault.ModuleError.{ModuleError}
 use Rattle.lx_ir_read.specs.declared.fault.ModuleError.TheVariants as errors
 use Rattle.lx_ir_read.specs.declared.draft.Draft.{Draft}
 use Rattle.lx_ir_read.specs.declared.reading.Tables.{Tables}
-use Rattle.lx_ir_read.specs.First.{knowing_registers, first_reading}
-use Rattle.lx_ir_read.specs.Tables.{types_of, symbols_of, naming_types, named_types}
+use Rattle.lx_ir_read.specs.declared.reading.Types.{Types}
+use Rattle.lx_ir_read.specs.declared.reading.Reckoned.{Reckoned}
+use Rattle.lx_ir_read.specs.First.{first_reading}
+use Rattle.lx_ir_read.specs.Tables.{types_of, naming_types, named_types}
 use Rattle.lx_ir_read.specs.Again.{registers_in, local_names, with_body, kept}
-use Rattle.lx_ir_read.specs.Reading.{first_early, left_at, first_of, early_context, front_fault, tables_of, module_found, unless_faulty, module_by, module_at}
+use Rattle.lx_ir_read.specs.Reading.{first_early, left_at, first_of, early_context, front_fault, types_in, symbols_in, reckoned_of, tables_of, module_found, unless_faulty, module_by, module_at}
 use Rattle.lx_ir_read.specs.Says.{FailsIn}
 
 -- Functions.
@@ -92,24 +94,31 @@ cleared names known s registers new are is same =
 
 -- Tables.
 
-abbrev tables : List (Option ℕ) → List (Option Symbol) → List NamedType → Layouts → List Shape → Tables
-tables types symbols named layouts shapes = record { types = types; symbols = symbols; named = named; layouts = layouts; shapes = shapes }
+abbrev types_with : List (Option ℕ) → List NamedType → Types
+types_with numbers named = record { numbers = numbers; named = named }
 
-pub tables_are : (form : TextForm) (ir : IrTokens) (found : List Found) (count : ℕ) (types : List (Option ℕ)) (numbers : Numbering) (symbols : List (Option Symbol)) (named given kept : List NamedType) (layouts : Layouts) (shapes : List Shape) (own shown : List (Option ℕ)) (context : Context)
-    → count ≡ length ir.names → numbers ≡ types_of count found → types ≡ table_of numbers
-    → own ≡ own_numbers 0 count → shown ≡ own → context ≡ knowing_registers ir.names shown → symbols ≡ symbols_of context count found
-    → named ≡ named_types form ir.names ir.places ir.toks found
-    → given ≡ named → layouts ≡ fitting_layouts given → kept ≡ named → shapes ≡ named_shapes kept
-    → tables types symbols named layouts shapes ≡ tables_of form ir found
-tables_are form ir found count types numbers symbols named given kept layouts shapes own shown context is numbered table names same knows listed read first laid second shaped =
-    let t : types ≡ table_of (types_of (length ir.names) found) = table ∙ ap table_of numbered ∙ ap (λ n. table_of (types_of n found)) is in
-    let s : symbols ≡ symbols_of (knowing_registers ir.names (own_numbers 0 (length ir.names))) (length ir.names) found =
-    listed ∙ ap (λ c. symbols_of c count found) (knows ∙ ap (knowing_registers ir.names) (same ∙ names)) ∙ ap (λ n. symbols_of (knowing_registers ir.names (own_numbers 0 n)) n found) is in
-    ap (λ x. tables x symbols named layouts shapes) t
-    ∙ ap (λ x. tables (table_of (types_of (length ir.names) found)) x named layouts shapes) s
-    ∙ ap (λ x. tables (table_of (types_of (length ir.names) found)) (symbols_of (knowing_registers ir.names (own_numbers 0 (length ir.names))) (length ir.names) found) named x shapes) (laid ∙ ap fitting_layouts first)
-    ∙ ap (λ x. tables (table_of (types_of (length ir.names) found)) (symbols_of (knowing_registers ir.names (own_numbers 0 (length ir.names))) (length ir.names) found) named (fitting_layouts named) x) (shaped ∙ ap named_shapes second)
-    ∙ ap (λ x. tables (table_of (types_of (length ir.names) found)) (symbols_of (knowing_registers ir.names (own_numbers 0 (length ir.names))) (length ir.names) found) x (fitting_layouts x) (named_shapes x)) read
+pub types_are : (form : TextForm) (ir : IrTokens) (found : List Found) (count : ℕ) (types : Numbering) (numbers : List (Option ℕ)) (named : List NamedType)
+    → count ≡ length ir.names → types ≡ types_of count found → numbers ≡ table_of types → named ≡ named_types form ir.names ir.places ir.toks found
+    → types_with numbers named ≡ types_in form ir found
+types_are form ir found count types numbers named is numbered table read =
+    let t : numbers ≡ table_of (types_of (length ir.names) found) = table ∙ ap table_of (numbered ∙ ap (λ n. types_of n found) is) in
+    (λ j. types_with (t j) (read j))
+
+abbrev reckoned_with : Layouts → List Shape → Reckoned
+reckoned_with layouts shapes = record { layouts = layouts; shapes = shapes }
+
+pub reckoned_are : (named : List NamedType) (layouts : Layouts) (shapes : List Shape) → layouts ≡ fitting_layouts named → shapes ≡ named_shapes named → reckoned_with layouts shapes ≡ reckoned_of named
+reckoned_are named layouts shapes laid shaped = (λ j. reckoned_with (laid j) (shaped j))
+
+abbrev tables_with : Types → List (Option Symbol) → Reckoned → Tables
+tables_with t symbols r = record { types = t.numbers; symbols = symbols; named = t.named; layouts = r.layouts; shapes = r.shapes }
+
+pub tables_are : (form : TextForm) (ir : IrTokens) (found : List Found) (types : Types) (named : List NamedType) (symbols : List (Option Symbol)) (r : Reckoned)
+    → types ≡ types_in form ir found → named ≡ types.named → r ≡ reckoned_of named → symbols ≡ symbols_in ir found
+    → tables_with types symbols r ≡ tables_of form ir found
+tables_are form ir found types named symbols r is same known listed =
+    let k : r ≡ reckoned_of (types_in form ir found).named = known ∙ ap reckoned_of (same ∙ ap (λ (t : Types). t.named) is) in
+    (λ j. tables_with (is j) (listed j) (k j))
 
 -- The first fault, and the module.
 

@@ -10,6 +10,7 @@ use Rattle.lx_ir_tokens.specs.declared.read.IrTokens.{IrTokens}
 use Rattle.lx_ir_tokens.specs.Reading.{ReadsAs}
 use Rattle.lx_ir.specs.declared.module.Module.{Module}
 use Rattle.lx_ir.specs.declared.types.NamedType.{NamedType}
+use Rattle.lx_ir.specs.declared.module.Symbol.{Symbol}
 use Rattle.lx_ir.specs.Lawful.{is_own_name}
 use Rattle.lx_ir.specs.Fitting.{fitting_layouts}
 use Rattle.lx_ir_offsets.specs.Shapes.{named_shapes}
@@ -24,6 +25,8 @@ use Rattle.lx_ir_read.specs.declared.first.Found.{Found}
 use Rattle.lx_ir_read.specs.declared.first.FirstReading.{FirstReading}
 use Rattle.lx_ir_read.specs.declared.draft.Draft.{Draft}
 use Rattle.lx_ir_read.specs.declared.reading.Tables.{Tables}
+use Rattle.lx_ir_read.specs.declared.reading.Types.{Types}
+use Rattle.lx_ir_read.specs.declared.reading.Reckoned.{Reckoned}
 use Rattle.lx_ir_faults.specs.declared.fault.TextFault.{TextFault}
 use Rattle.lx_ir_faults.specs.declared.fault.TextFault.TheVariants as texts
 use Rattle.lx_ir_faults.specs.declared.fault.ReadFault.{ReadFault}
@@ -77,6 +80,20 @@ front_fault form ir r =
     first_of (first_early form (early_context form ir r.statements) (left_at r.fault) ir.toks) r.fault ir.stop
 
 -- The module.
+
+-- the types that statements define, and the numbers of their names
+abbrev pub types_in : TextForm → IrTokens → List Found → Types
+types_in form ir found = record {
+  numbers = table_of (types_of (length ir.names) found);
+  named = named_types form ir.names ir.places ir.toks found;
+}
+
+-- what each name behind `@` names
+abbrev pub symbols_in : IrTokens → List Found → List (Option Symbol)
+symbols_in ir found = symbols_of (unknown_context ir.names) (length ir.names) found
+
+abbrev pub reckoned_of : List NamedType → Reckoned
+reckoned_of named = record { layouts = fitting_layouts named; shapes = named_shapes named }
 
 -- what the statements of a text define, by number, and what is reckoned of its types
 abbrev pub tables_of : TextForm → IrTokens → List Found → Tables

@@ -4,7 +4,7 @@ ghost use Rattle.std.specs.Prelude.{◌≡◌, ◌+◌, ◌^◌, ◌<◌, length
 ghost use Rattle.lx_ir_read.specs.First.{first_reading};
 ghost use Rattle.lx_ir_read.specs.Tables.{types_of, named_types};
 ghost use Rattle.lx_ir_read.specs.Again.{no_draft, all_again};
-ghost use Rattle.lx_ir_read.specs.Reading.{told, tables_of, full_context, module_by_tables, module_found, unless_faulty, module_by, module_at, SaysModule, ModuleFails};
+ghost use Rattle.lx_ir_read.specs.Reading.{told, types_in, symbols_in, reckoned_of, tables_of, full_context, module_by_tables, module_found, unless_faulty, module_by, module_at, SaysModule, ModuleFails};
 ghost use Rattle.lx_ir_read.specs.Says.{AnswersText};
 ghost use Rattle.lx_ir_read.specs.Laws.{OneModule, OneFault, NotBoth, ModulesAreFound};
 
@@ -37,7 +37,54 @@ struct Tables {
     shapes: Items<Shape>,
 }
 
-/// The tables of the statements that were found.
+/// The types that statements define, and the numbers of their names.
+#[derive(Drop)]
+struct Types {
+    numbers: Items<Option<u32>>,
+    named: Items<NamedType>,
+}
+
+/// What is reckoned of types.
+#[derive(Drop)]
+struct Reckoned {
+    layouts: Items<Option<Layout>>,
+    shapes: Items<Shape>,
+}
+
+/// The types of the statements that were found.
+fn types_in(alloc: Global, form: TextForm, ir: &IrTokens, found: &[Found]) -> Result<Types, Memory>
+    ensures { IfOk result (λ t. t ≡ types_in form ir.now found.now) }
+{
+    let types = types_of(alloc, ir.names.len(), found)?;
+    let named = named_types(alloc, form, ir, &types, found)?;
+    let numbers = Items::from_slice(alloc, types.table())?;
+    Ok(Types { numbers, named })
+}
+
+/// What each name behind `@` names in the statements that were found.
+fn symbols_in(
+    alloc: Global,
+    ir: &IrTokens,
+    found: &[Found],
+) -> Result<Items<Option<Symbol>>, Memory>
+    ensures { IfOk result (λ s. s ≡ symbols_in ir.now found.now) }
+{
+    let count = ir.names.len();
+    let own = own_numbers(alloc, count)?;
+    let context = knowing_registers(&ir.names, own.as_slice());
+    let symbols = symbols_of(alloc, &context, count, found)?;
+    Ok(symbols)
+}
+
+fn reckoned_of(alloc: Global, named: &[NamedType]) -> Result<Reckoned, Memory>
+    ensures { IfOk result (λ r. r ≡ reckoned_of named.now) }
+{
+    let layouts = fitting_layouts(alloc, named)?;
+    let shapes = named_shapes(alloc, named)?;
+    Ok(Reckoned { layouts, shapes })
+}
+
+/// The tables of the statements that were found. They are made part by part: each way out drops what is there by then.
 fn tables_of(
     alloc: Global,
     form: TextForm,
@@ -46,20 +93,15 @@ fn tables_of(
 ) -> Result<Tables, Memory>
     ensures { IfOk result (λ t. t ≡ tables_of form ir.now found.now) }
 {
-    let count = ir.names.len();
-    let types = types_of(alloc, count, found)?;
-    let named = named_types(alloc, form, ir, &types, found)?;
-    let own = own_numbers(alloc, count)?;
-    let context = knowing_registers(&ir.names, own.as_slice());
-    let symbols = symbols_of(alloc, &context, count, found)?;
-    let layouts = fitting_layouts(alloc, named.as_slice())?;
-    let shapes = named_shapes(alloc, named.as_slice())?;
+    let types = types_in(alloc, form, ir, found)?;
+    let reckoned = reckoned_of(alloc, types.named.as_slice())?;
+    let symbols = symbols_in(alloc, ir, found)?;
     Ok(Tables {
-        types: Items::from_slice(alloc, types.table())?,
+        types: types.numbers,
         symbols,
-        named,
-        layouts,
-        shapes,
+        named: types.named,
+        layouts: reckoned.layouts,
+        shapes: reckoned.shapes,
     })
 }
 
@@ -101,6 +143,24 @@ fn read_all(
     }
 }
 
+/// The module that the statements say which were found, by what they define.
+fn module_by_tables(
+    alloc: Global,
+    form: TextForm,
+    ir: &IrTokens,
+    found: &[Found],
+    tables: &Tables,
+) -> Result<Module, ModuleError>
+    ensures { AnswersText result (module_by_tables form ir.now found.now tables.now) }
+{
+    let known = full_context(ir, tables, false);
+    read_all(alloc, &known, form, ir, found)?;
+    let limited = full_context(ir, tables, true);
+    let draft = read_all(alloc, &limited, form, ir, found)?;
+    let module = draft.into_module(alloc)?;
+    Ok(module)
+}
+
 /// The module that the statements say which were found.
 fn module_found(
     alloc: Global,
@@ -111,11 +171,7 @@ fn module_found(
     ensures { AnswersText result (module_found form ir.now found.now) }
 {
     let tables = tables_of(alloc, form, ir, found)?;
-    let known = full_context(ir, &tables, false);
-    read_all(alloc, &known, form, ir, found)?;
-    let limited = full_context(ir, &tables, true);
-    let draft = read_all(alloc, &limited, form, ir, found)?;
-    let module = draft.into_module(alloc)?;
+    let module = module_by_tables(alloc, form, ir, found, &tables)?;
     Ok(module)
 }
 
