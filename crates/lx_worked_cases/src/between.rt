@@ -417,6 +417,18 @@ fn a_call_between_the_events_of_a_crossing(rt: HostRuntime) -> Result<(), Fail> 
     Ok(())
 }
 
+/// A schedule of one thread that ends behind so many events.
+fn compare_end<R: Threads + Wait + Sync>(
+    rt: &R,
+    alloc: Global,
+    compared: &mut Compared,
+    case: &str,
+    events: u32,
+) -> Result<(), Fail> {
+    let schedule = format!(in alloc; "schedule 0*{events}")?;
+    compare_broken(rt, alloc, compared, (case, schedule.as_str()), events)
+}
+
 /// A schedule of one thread that ends before each event but the first of the call, inside its wrapper among them: work remains
 /// then, so it fails at its length.
 fn compare_ends<R: Threads + Wait + Sync>(
@@ -428,9 +440,7 @@ fn compare_ends<R: Threads + Wait + Sync>(
     let head = head();
     let case = format!(in alloc; "{head} {call} fuel 100\n")?;
     for events in 1..EVENTS {
-        let schedule = format!(in alloc; "schedule 0*{events}")?;
-        let texts = (case.as_str(), schedule.as_str());
-        compare_broken(rt, alloc, compared, texts, events)?;
+        compare_end(rt, alloc, compared, case.as_str(), events)?;
     }
     Ok(())
 }

@@ -44,7 +44,7 @@ impl Compared {
 }
 
 /// A status, and what was written with it.
-fn told(alloc: Global, status: u8, sink: &MemSink) -> Result<String, Fail> {
+pub fn told(alloc: Global, status: u8, sink: &MemSink) -> Result<String, Fail> {
     let text = String::from_utf8_lossy(alloc, sink.bytes.as_slice())?;
     let whole = format!(in alloc; "status {status}\n{text}")?;
     Ok(whole)
@@ -62,19 +62,28 @@ fn written<R: Threads + Wait + Sync>(
     told(alloc, status, &sink)
 }
 
+/// The status of the case `row.case` that is run at a gate, and what it writes.
+fn written_at<R: Threads + Wait + Sync, G: Gate + Sync>(
+    rt: &R,
+    alloc: Global,
+    shelf: &mut MemShelf,
+    gate: &G,
+) -> Result<String, Fail> {
+    let mut sink = sink_of(alloc)?;
+    let status = run_gated(rt, alloc, &["run", "row.case"], (shelf, &mut sink), gate)?;
+    told(alloc, status, &sink)
+}
+
 /// The status of a case that is run at a gate, and what it writes.
 pub fn run_at<R: Threads + Wait + Sync, G: Gate + Sync>(
     rt: &R,
     alloc: Global,
-    compared: &mut Compared,
+    shelf: &mut MemShelf,
     case: &str,
     gate: &G,
 ) -> Result<String, Fail> {
-    compared.shelf.put_file(alloc, "row.case", case.as_bytes())?;
-    let mut sink = sink_of(alloc)?;
-    let outside = (&mut compared.shelf, &mut sink);
-    let status = run_gated(rt, alloc, &["run", "row.case"], outside, gate)?;
-    told(alloc, status, &sink)
+    shelf.put_file(alloc, "row.case", case.as_bytes())?;
+    written_at(rt, alloc, shelf, gate)
 }
 
 /// Notes what was asked for, and what was written in its place.

@@ -7,7 +7,7 @@
 //! ends before a unit, the end of the call takes its place, and what came before it stays.
 
 use crate::compared::{Asked, Compared, compare};
-use crate::files::small_files;
+use lx_worked_texts::small_files;
 use std::alloc::Global;
 use std::sync::Wait;
 use std::test::Fail;

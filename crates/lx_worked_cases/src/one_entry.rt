@@ -6,8 +6,9 @@
 //! the store is refused in that entry, which is thread 0's last.
 
 use crate::compared::{Asked, Compared, compare, put_turn, run_at};
+use crate::table::put_files;
 use crate::threads::{schedule_in, waits};
-use lx_outside::{Gate, GatePlace};
+use lx_outside::{Gate, GatePlace, MemShelf};
 use std::alloc::Global;
 use std::sync::Wait;
 use std::sync::atomic::Ordering::SeqCst;
@@ -245,8 +246,9 @@ fn report_at<R: Threads + Wait + Sync>(
     alloc: Global,
     gate: &HeldThread,
 ) -> Result<String, Fail> {
-    let mut compared = Compared::over(alloc, files())?;
-    run_at(rt, alloc, &mut compared, case(), gate)
+    let mut shelf = MemShelf::new(alloc, Vec::new(alloc));
+    put_files(alloc, &mut shelf, files())?;
+    run_at(rt, alloc, &mut shelf, case(), gate)
 }
 
 /// Whether the store is made, or refused, in the run at a gate, by a report with an entry for each request.

@@ -1,9 +1,6 @@
 //! The program is run over memory.
 
-use crate::files::small_files;
-use crate::loans::loan_files;
 use crate::long::{LongRow, text_of};
-use crate::many::many_files;
 use crate::table::put_files;
 use lx_c_texts::{
     checksum_text, driver_text, interface_text, kernel_text, nic_after_text, nic_bent_text,
@@ -11,6 +8,7 @@ use lx_c_texts::{
 };
 use lx_cli::lxfi;
 use lx_outside::{Gate, MemShelf, MemSink, OpenGate};
+use lx_worked_texts::{loan_files, many_files, small_files};
 use std::alloc::Global;
 use std::sync::Wait;
 use std::test::Fail;

@@ -1,5 +1,6 @@
 //! Tables of cases: each is a text, cut into parts by lines that begin with `----`.
 
+use crate::compared::told;
 use crate::run::{run_words, shelf_of, sink_of};
 use lx_outside::MemShelf;
 use std::alloc::Global;
@@ -28,6 +29,18 @@ const HEAD: &str =
 /// What begins a part.
 const MARK: &str = "---- ";
 
+/// The status of a run on these words, and what it writes.
+fn written_by<R: Threads + Wait + Sync>(
+    rt: &R,
+    alloc: Global,
+    words: &[&str],
+    shelf: &mut MemShelf,
+) -> Result<String, Fail> {
+    let mut sink = sink_of(alloc)?;
+    let status = run_words(rt, alloc, words, shelf, &mut sink)?;
+    told(alloc, status, &sink)
+}
+
 /// The status of the case that was put last, and what it writes.
 fn written<R: Threads + Wait + Sync>(
     rt: &R,
@@ -35,11 +48,7 @@ fn written<R: Threads + Wait + Sync>(
     table: &mut Table<'_>,
 ) -> Result<String, Fail> {
     let words: Vec<&str> = table.words.split(' ').collect(alloc)?;
-    let mut sink = sink_of(alloc)?;
-    let status = run_words(rt, alloc, words.as_slice(), table.shelf, &mut sink)?;
-    let text = String::from_utf8_lossy(alloc, sink.bytes.as_slice())?;
-    let whole = format!(in alloc; "status {status}\n{text}")?;
-    Ok(whole)
+    written_by(rt, alloc, words.as_slice(), table.shelf)
 }
 
 fn has_line(text: &str, line: &str) -> bool {

@@ -1,24 +1,16 @@
 //! The cases are run, and what they write and their status are compared.
 
-use crate::c_files::c_files;
 use crate::examples::{EXAMPLES, examples};
-use crate::files::ONE_CASE;
-use crate::generated::generated;
-use crate::image_calls::image_calls;
-use crate::image_spared::image_spared;
-use crate::image_wrappers::image_wrappers;
-use crate::images::images;
-use crate::limits::limits;
-use crate::loan_users::{atoms, borrowed, borrowers, lent_slots, texts, threads};
-use crate::loans::{ends, nested, packets};
 use crate::long::{ALL_CALLS, LONG};
-use crate::many::many;
-use crate::over_kernels::{memory, own_kernels, principals, slots};
-use crate::plain::{faulty, plain};
-use crate::replayed::replayed;
 use crate::run::{first_long_wrong, run_words, shelf_of, sink_of};
 use crate::table::run_cases;
 use lx_outside::{MemShelf, MemSink};
+use lx_worked_texts::{
+    ONE_CASE, atomic_cases, borrowed_cases, borrower_cases, c_file_cases, end_cases, faulty_cases,
+    generated_cases, image_call_cases, image_cases, lent_slot_cases, limit_cases, many_cases,
+    memory_cases, nested_cases, own_kernel_cases, packet_cases, plain_cases, principal_cases,
+    replayed_cases, slot_cases, spared_cases, text_cases, thread_cases, wrapper_cases,
+};
 use std::alloc::Global;
 use std::sync::Wait;
 use std::test::Fail;
@@ -30,30 +22,30 @@ pub const USAGE: &str =
 /// The text of a table of cases, by its number.
 fn cases(number: u32) -> &'static str {
     match number {
-        0 => plain(),
-        1 => memory(),
-        2 => principals(),
-        3 => slots(),
-        4 => own_kernels(),
-        5 => replayed(),
-        6 => faulty(),
-        7 => c_files(),
-        8 => limits(),
-        9 => many(),
-        10 => packets(),
-        11 => ends(),
-        12 => nested(),
-        13 => borrowed(),
-        14 => borrowers(),
-        15 => threads(),
-        16 => atoms(),
-        17 => lent_slots(),
-        18 => images(),
-        19 => image_wrappers(),
-        20 => image_calls(),
-        21 => image_spared(),
-        22 => generated(),
-        _ => texts(),
+        0 => plain_cases(),
+        1 => memory_cases(),
+        2 => principal_cases(),
+        3 => slot_cases(),
+        4 => own_kernel_cases(),
+        5 => replayed_cases(),
+        6 => faulty_cases(),
+        7 => c_file_cases(),
+        8 => limit_cases(),
+        9 => many_cases(),
+        10 => packet_cases(),
+        11 => end_cases(),
+        12 => nested_cases(),
+        13 => borrowed_cases(),
+        14 => borrower_cases(),
+        15 => thread_cases(),
+        16 => atomic_cases(),
+        17 => lent_slot_cases(),
+        18 => image_cases(),
+        19 => wrapper_cases(),
+        20 => image_call_cases(),
+        21 => spared_cases(),
+        22 => generated_cases(),
+        _ => text_cases(),
     }
 }
 

@@ -1,7 +1,8 @@
 //! Threads that run beside each other. They meet at gates, a held call comes behind the other thread's events, and each
 //! report is that of its own schedule.
 
-use crate::run::{run_gated, run_words, shelf_of};
+use crate::compared::run_at;
+use crate::run::{run_words, shelf_of};
 use lx_outside::{Gate, GatePlace, MemShelf, MemSink};
 use std::alloc::Global;
 use std::sync::Wait;
@@ -127,18 +128,9 @@ fn written_at<R: Threads + Wait + Sync, G: Gate + Sync>(
     gate: &G,
 ) -> Result<String, Fail> {
     let mut shelf = shelf_of(alloc)?;
-    shelf.put_file(alloc, "row.case", case.as_bytes())?;
-    let mut sink = MemSink::new(alloc, Vec::new(alloc), 4096)?;
-    let status = run_gated(
-        rt,
-        alloc,
-        &["run", "row.case"],
-        (&mut shelf, &mut sink),
-        gate,
-    )?;
-    let text = String::from_utf8_lossy(alloc, sink.bytes.as_slice())?;
-    let whole = format!(in alloc; "status {status}\n{text}")?;
-    Ok(whole)
+    let report = run_at(rt, alloc, &mut shelf, case, gate);
+    drop(shelf);
+    report
 }
 
 /// The schedule that a report prints.

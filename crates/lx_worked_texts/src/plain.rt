@@ -1,7 +1,7 @@
 //! Modules without a kernel, and inputs with a fault.
 
 /// Modules without a kernel.
-pub fn plain() -> &'static str {
+pub fn plain_cases() -> &'static str {
     "---- returns
 ---- case
 lxfi case 1
@@ -137,7 +137,7 @@ call 0.1 m:b trap 4
 }
 
 /// Inputs with a fault.
-pub fn faulty() -> &'static str {
+pub fn faulty_cases() -> &'static str {
     "---- cut off
 ---- case
 lxfi case 1

@@ -363,7 +363,7 @@ export idle : i64 (i64 x)"#
 }
 
 /// A packet that is lent to the driver: the driver keeps its address, or hands the packet on.
-pub fn packets() -> &'static str {
+pub fn packet_cases() -> &'static str {
     r#"---- file packets.txt
 interface 2
 reftype device
@@ -465,7 +465,7 @@ call 0.3 kernel:do_probe refused 1 m[0x1000020] write 0x0+8"#
 }
 
 /// What ends a loan: fuel, traps and refusals.
-pub fn ends() -> &'static str {
+pub fn end_cases() -> &'static str {
     r#"---- enter, lend, store, return, end and finish are six events; the start, the lend, the store, `ret` and the end are five units
 ---- calls
 thread
@@ -533,7 +533,7 @@ call 0.3 m:plain_put refused 1 m[0x2] write 0x1000000+8"#
 }
 
 /// Loans of nested calls, and how many of them an end ends.
-pub fn nested() -> &'static str {
+pub fn nested_cases() -> &'static str {
     r#"---- nested calls lend the same bytes to one borrower: the inner end leaves the outer loan
 ---- calls
 thread

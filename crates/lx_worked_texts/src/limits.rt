@@ -2,7 +2,7 @@
 
 /// Modules at the limits of the machine: 256 frames and no more, a loop of a million instructions with just enough fuel,
 /// the last unit of fuel, and where the bytes of the stack of the second thread lie.
-pub fn limits() -> &'static str {
+pub fn limit_cases() -> &'static str {
     "---- as many frames as there are
 ---- case
 lxfi case 1

@@ -1,6 +1,6 @@
 //! Images whose stores may lack their guard, made and forged.
 
-pub fn image_spared() -> &'static str {
+pub fn spared_cases() -> &'static str {
     r#"---- file row.case
 lxfi case 1
 kernel none

@@ -1,7 +1,7 @@
 //! Modules over the kernel that the program brings along, and over kernels of their own.
 
 /// What modules own over the built-in kernel: heap, stack, and what transfers take.
-pub fn memory() -> &'static str {
+pub fn memory_cases() -> &'static str {
     "---- after a free
 ---- case
 lxfi case 1
@@ -96,7 +96,7 @@ call 0.2 m:main refused 8 m.shared write 0xfffffffffffffff8+16
 }
 
 /// Shared principals and instances over the built-in kernel.
-pub fn principals() -> &'static str {
+pub fn principal_cases() -> &'static str {
     "---- over two principals
 ---- case
 lxfi case 1
@@ -187,7 +187,7 @@ call 0.3 kernel:do_probe refused 9 m[0x1000038] alias 0x1000038 0x1000020
 }
 
 /// Calls by an address and through slots over the built-in kernel.
-pub fn slots() -> &'static str {
+pub fn slot_cases() -> &'static str {
     "---- a bent slot
 ---- case
 lxfi case 1
@@ -256,7 +256,7 @@ call 0.1 m:main returned 42
 }
 
 /// Kernels and interfaces of the case.
-pub fn own_kernels() -> &'static str {
+pub fn own_kernel_cases() -> &'static str {
     "---- an action under a condition
 ---- case
 lxfi case 1

@@ -1,7 +1,7 @@
 //! Loans: who may use what is lent, and what is no loan. The texts are cut into parts as those of `loans` are.
 
 /// What may be lent, and what a borrower may not hand on.
-pub fn borrowed() -> &'static str {
+pub fn borrowed_cases() -> &'static str {
     r#"---- what does not lie in memory is not lent
 ---- calls
 thread
@@ -73,7 +73,7 @@ owns m[0x1] write 0x1000000+8"#
 }
 
 /// Who may use a loan.
-pub fn borrowers() -> &'static str {
+pub fn borrower_cases() -> &'static str {
     r#"---- the shared principal may not use what is lent to an instance
 ---- calls
 thread
@@ -127,7 +127,7 @@ owns m[0x2] write 0x1000000+8"#
 }
 
 /// Loans and other threads.
-pub fn threads() -> &'static str {
+pub fn thread_cases() -> &'static str {
     r#"---- another thread that runs as the borrower uses the loan
 ---- calls
 thread
@@ -210,7 +210,7 @@ owns m[0x2] write 0x1000000+8"#
 }
 
 /// Calls and references, what stands behind a body, and loans to the kernel.
-pub fn atoms() -> &'static str {
+pub fn atomic_cases() -> &'static str {
     r#"---- a call that is lent, and behind the loan
 ---- calls
 thread
@@ -298,7 +298,7 @@ call 0.1 m:wild_none returned"#
 }
 
 /// Slots: their annotations, and what borrowers wrote there.
-pub fn lent_slots() -> &'static str {
+pub fn lent_slot_cases() -> &'static str {
     r#"---- the end of loans is of the annotation's text: a slot that lends, with a function that does not
 ---- calls
 thread
@@ -344,7 +344,7 @@ call 0.3 kernel:by refused 1 m[0x2] write 0x1000020+8"#
 }
 
 /// The word `lend` in texts of both versions.
-pub fn texts() -> &'static str {
+pub fn text_cases() -> &'static str {
     r#"---- in version 1 `lend` is a name: of a reference type, an iterator and a parameter
 ---- file names.ll
 define void @checks(ptr %p) {

@@ -1,7 +1,7 @@
 //! Cases that are generated, and their summaries.
 
 /// From no call to the most that may be asked for.
-pub fn generated() -> &'static str {
+pub fn generated_cases() -> &'static str {
     r#"---- no call
 ---- words generate 0
 ---- whole

@@ -1,6 +1,6 @@
 //! Images that are made, and forged guards that are refused: each fault is reasoned from what an image is.
 
-pub fn images() -> &'static str {
+pub fn image_cases() -> &'static str {
     r#"---- file row.case
 lxfi case 1
 kernel none

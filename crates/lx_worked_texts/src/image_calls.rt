@@ -1,6 +1,6 @@
 //! Images of block writes and of calls by an address, made and forged.
 
-pub fn image_calls() -> &'static str {
+pub fn image_call_cases() -> &'static str {
     r#"---- file row.case
 lxfi case 1
 kernel none

@@ -3,7 +3,7 @@
 /// Pairs of kmalloc and kfree, each of nine events; transfers to the kernel and back by dev_wipe, each of five; a principal
 /// for each number up to 300, each of three events, where a reference is copied to those whose numbers agree in their low
 /// eight bits; and address 0, of which no call is owned at first, and then one.
-pub fn many() -> &'static str {
+pub fn many_cases() -> &'static str {
     "---- 28 pairs of kmalloc and kfree
 ---- case
 lxfi case 1

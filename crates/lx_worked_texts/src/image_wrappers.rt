@@ -1,6 +1,6 @@
 //! Images whose names and wrappers are forged: each fault is reasoned from what an image is.
 
-pub fn image_wrappers() -> &'static str {
+pub fn wrapper_cases() -> &'static str {
     r#"---- file row.case
 lxfi case 1
 kernel none

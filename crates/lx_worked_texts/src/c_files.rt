@@ -2,7 +2,7 @@
 
 /// The C files of `examples/c`. What the calls return is what gcc's program of the same C prints, with a `main` that makes
 /// the same calls, and with `kmalloc`, `kfree` and `device_register` over `malloc` and `free` for the driver.
-pub fn c_files() -> &'static str {
+pub fn c_file_cases() -> &'static str {
     "---- a ring and a checksum
 ---- case
 lxfi case 1

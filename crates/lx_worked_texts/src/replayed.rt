@@ -1,7 +1,7 @@
 //! Cases with a schedule of their own.
 
 /// Schedules that are replayed.
-pub fn replayed() -> &'static str {
+pub fn replayed_cases() -> &'static str {
     "---- a packet that was sent
 ---- case
 lxfi case 1
