@@ -143,9 +143,10 @@ fn packet(alloc: Global) -> Result<Vec<Item>, Memory> {
 
 /// An interface with one iterator.
 fn interface(alloc: Global) -> Result<Interface, Memory> {
+    let items = Items::from_vec(packet(alloc)?);
     let iterator = CapIterator {
         name: Items::new(alloc),
-        items: Items::from_vec(packet(alloc)?),
+        items,
         line: 2,
     };
     let iterators = vec![in alloc; iterator]?;
@@ -252,6 +253,36 @@ enum Step {
     Acts(&'static [Act]),
 }
 
+/// What is acted.
+#[derive(Clone, Copy)]
+enum Deed {
+    Do(Kind, Named),
+    /// A lend behind a condition that is 0.
+    NoLend(Named),
+    End(u32),
+}
+
+fn action_of(alloc: Global, deed: Deed) -> Result<Action, lx_caps::Memory> {
+    match deed {
+        Deed::Do(kind, named) => Ok(action(kind, named)),
+        Deed::NoLend(named) => no_lend(alloc, named),
+        Deed::End(count) => Ok(end(count)),
+    }
+}
+
+/// Whether a deed from one principal to another ends so.
+fn ends_so(
+    bench: &mut Bench,
+    deed: Deed,
+    between: (Principal, Principal),
+    want: Ending,
+) -> Result<bool, lx_caps::Memory> {
+    let action = action_of(bench.alloc, deed)?;
+    let ending = ending_of(bench, &action, between);
+    drop(action);
+    Ok(ending == want)
+}
+
 /// Takes a step, and says whether it went as it has to.
 fn goes_so(bench: &mut Bench, step: Step) -> Result<bool, lx_caps::Memory> {
     match step {
@@ -260,25 +291,29 @@ fn goes_so(bench: &mut Bench, step: Step) -> Result<bool, lx_caps::Memory> {
         }
         Step::Put(at, number) => Ok(bench.space.write(at, 8, number).is_ok()),
         Step::Act(kind, named, between, want) => {
-            Ok(ending_of(bench, &action(kind, named), between) == want)
+            ends_so(bench, Deed::Do(kind, named), between, want)
         }
-        Step::NoLend(named, between, want) => {
-            let lend = no_lend(bench.alloc, named)?;
-            Ok(ending_of(bench, &lend, between) == want)
-        }
-        Step::End(count, between, want) => Ok(ending_of(bench, &end(count), between) == want),
+        Step::NoLend(named, between, want) => ends_so(bench, Deed::NoLend(named), between, want),
+        Step::End(count, between, want) => ends_so(bench, Deed::End(count), between, want),
         Step::Count(want) => Ok(bench.caps.acts().as_slice().len() == want),
         Step::Acts(want) => Ok(bench.caps.acts().as_slice() == want),
     }
 }
 
-/// Takes steps on a new bench with this argument, each of which has to go as it says.
-fn assert_steps(rt: &impl Abort, alloc: Global, bits: u64, steps: &[Step]) -> Result<(), Fail> {
-    let mut bench = new_bench(alloc, bits)?;
+/// Takes steps, each of which has to go as it says.
+fn assert_go(rt: &impl Abort, bench: &mut Bench, steps: &[Step]) -> Result<(), Fail> {
     for (number, step) in steps.iter().enumerate() {
-        assert!(rt; goes_so(&mut bench, *step)?, "step {number}");
+        assert!(rt; goes_so(bench, *step)?, "step {number}");
     }
     Ok(())
+}
+
+/// Takes steps on a new bench with this argument.
+fn assert_steps(rt: &impl Abort, alloc: Global, bits: u64, steps: &[Step]) -> Result<(), Fail> {
+    let mut bench = new_bench(alloc, bits)?;
+    let went = assert_go(rt, &mut bench, steps);
+    drop(bench);
+    went
 }
 
 /// Eight bytes go out to a module and come back, and then it has them no more.
@@ -478,14 +513,20 @@ fn what_is_looked_at_in_vain(rt: HostRuntime) -> Result<(), Fail> {
     assert_steps(&rt, rt.alloc(), 0x10ffffc, &IN_VAIN)
 }
 
-#[test]
-fn a_space_is_looked_at(rt: HostRuntime) -> Result<(), Fail> {
-    let mut space = Space::new(rt.alloc())?;
+fn assert_looked(rt: &impl Abort, space: &mut Space) -> Result<(), Fail> {
     space.write(0x20ffff8, 8, 0x0807_0605_0403_0201)?;
-    let look = SpaceLook { space: &space };
+    let look = SpaceLook { space };
     assert!(rt; look.load64(0x20ffff4) == Some(0x0403_0201_0000_0000));
     assert!(rt; look.load64(0x20ffff9).is_none());
     Ok(())
+}
+
+#[test]
+fn a_space_is_looked_at(rt: HostRuntime) -> Result<(), Fail> {
+    let mut space = Space::new(rt.alloc())?;
+    let looked = assert_looked(&rt, &mut space);
+    drop(space);
+    looked
 }
 
 /// A fault, and what it says.

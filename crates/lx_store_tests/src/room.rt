@@ -73,8 +73,16 @@ fn assert_stays<C: CapStore>(rt: &impl Abort, caps: &mut C) -> Result<(), Fail> 
 #[test]
 fn a_store_gathers_no_room(rt: HostRuntime) -> Result<(), Fail> {
     let mut caps = PlainCaps::new(rt.alloc());
-    assert_stays(&rt, &mut caps)?;
+    let went = assert_stays(&rt, &mut caps);
     drop(caps);
+    went
+}
+
+/// A store stays with the room that it has been asked for.
+fn assert_keeps_five<C: CapStore>(rt: &impl Abort, caps: &mut C) -> Result<(), Fail> {
+    caps.reserve(5)?;
+    assert_stays(rt, caps)?;
+    assert!(rt; caps.spare() == 5);
     Ok(())
 }
 
@@ -82,11 +90,9 @@ fn a_store_gathers_no_room(rt: HostRuntime) -> Result<(), Fail> {
 fn a_store_with_writers_gathers_no_room(rt: HostRuntime) -> Result<(), Fail> {
     let alloc = rt.alloc();
     let mut caps = Recorded::new(alloc, PlainCaps::new(alloc));
-    caps.reserve(5)?;
-    assert_stays(&rt, &mut caps)?;
-    assert!(rt; caps.spare() == 5);
+    let went = assert_keeps_five(&rt, &mut caps);
     drop(caps);
-    Ok(())
+    went
 }
 
 /// Notes a writer of a range, in room for as much beside what there is. Says whether there is then exactly as much as
@@ -123,14 +129,20 @@ fn are_noted_again(sets: &mut WriterSets) -> Result<bool, Memory> {
     Ok(true)
 }
 
+/// Sets stay with the room that they have been asked for.
+fn assert_keep_seven(rt: &impl Abort, sets: &mut WriterSets) -> Result<(), Fail> {
+    sets.reserve(7)?;
+    for time in 0..TIMES {
+        assert!(rt; are_noted_again(sets)?, "time {time}");
+    }
+    assert!(rt; sets.spare() == 7);
+    Ok(())
+}
+
 #[test]
 fn writer_sets_gather_no_room(rt: HostRuntime) -> Result<(), Fail> {
     let mut sets = WriterSets::new(rt.alloc());
-    sets.reserve(7)?;
-    for time in 0..TIMES {
-        assert!(rt; are_noted_again(&mut sets)?, "time {time}");
-    }
-    assert!(rt; sets.spare() == 7);
+    let went = assert_keep_seven(&rt, &mut sets);
     drop(sets);
-    Ok(())
+    went
 }

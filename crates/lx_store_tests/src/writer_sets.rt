@@ -1,8 +1,7 @@
 //! Writers of slots, as ranges are noted and zeroed.
-use crate::common::{FIRST, SECOND, SHARED, STRANGER};
-use lx_caps::{Cap, CapStore, Memory, PlainCaps, Principal, cells, mapped};
+use crate::common::{FIRST, SECOND, SHARED, STRANGER, Step, goes_so};
+use lx_caps::{Cap, Memory, PlainCaps, Principal, cells, mapped};
 use lx_writer_sets::WriterSets;
-use std::alloc::Global;
 use std::process::Abort;
 use std::test::Fail;
 
@@ -16,17 +15,16 @@ fn note(sets: &mut WriterSets, who: Principal, at: u64, size: u64) -> Result<boo
     Ok(true)
 }
 
-/// Sets in which these were noted: who, the address, and how many bytes.
-fn noted(
+/// Notes these in the sets: who, the address, and how many bytes.
+fn assert_noted(
     rt: &impl Abort,
-    alloc: Global,
+    sets: &mut WriterSets,
     notes: &[(Principal, u64, u64)],
-) -> Result<WriterSets, Fail> {
-    let mut sets = WriterSets::new(alloc);
+) -> Result<(), Fail> {
     for (number, (who, at, size)) in notes.iter().enumerate() {
-        assert!(rt; note(&mut sets, *who, *at, *size)?, "note {number}");
+        assert!(rt; note(sets, *who, *at, *size)?, "note {number}");
     }
-    Ok(sets)
+    Ok(())
 }
 
 /// Whether these are the writers of a slot, one behind the other.
@@ -58,6 +56,18 @@ fn assert_writers(rt: &impl Abort, sets: &WriterSets, slots: &[(u64, &[Principal
     }
 }
 
+/// The writers of slots, once these are noted.
+fn assert_writers_behind(
+    rt: &impl Abort,
+    sets: &mut WriterSets,
+    notes: &[(Principal, u64, u64)],
+    slots: &[(u64, &[Principal])],
+) -> Result<(), Fail> {
+    assert_noted(rt, sets, notes)?;
+    assert_writers(rt, sets, slots);
+    Ok(())
+}
+
 static NOTES: [(Principal, u64, u64); 6] = [
     (STRANGER, 0x1000000, 200),
     (SECOND, 0x1000040, 1),
@@ -84,9 +94,10 @@ static SLOTS: [(u64, &[Principal]); 12] = [
 
 #[test]
 fn writers_come_in_order(rt: HostRuntime) -> Result<(), Fail> {
-    let sets = noted(&rt, rt.alloc(), &NOTES)?;
-    assert_writers(&rt, &sets, &SLOTS);
-    Ok(())
+    let mut sets = WriterSets::new(rt.alloc());
+    let went = assert_writers_behind(&rt, &mut sets, &NOTES, &SLOTS);
+    drop(sets);
+    went
 }
 
 static NOTE_OF_EIGHT: [(Principal, u64, u64); 1] = [(SHARED, 0x2000000, 8)];
@@ -102,9 +113,10 @@ static SLOTS_NEAR: [(u64, &[Principal]); 5] = [
 
 #[test]
 fn slots_near_a_writer_are_clean(rt: HostRuntime) -> Result<(), Fail> {
-    let sets = noted(&rt, rt.alloc(), &NOTE_OF_EIGHT)?;
-    assert_writers(&rt, &sets, &SLOTS_NEAR);
-    Ok(())
+    let mut sets = WriterSets::new(rt.alloc());
+    let went = assert_writers_behind(&rt, &mut sets, &NOTE_OF_EIGHT, &SLOTS_NEAR);
+    drop(sets);
+    went
 }
 
 static NOTES_TO_ZERO: [(Principal, u64, u64); 2] = [
@@ -125,27 +137,28 @@ static SLOTS_ZEROED: [(u64, &[Principal]); 9] = [
     (0x1000089, &[FIRST]),
 ];
 
-/// A store in which the first principal owns eight bytes.
-fn owned(rt: &impl Abort, alloc: Global) -> Result<PlainCaps, Fail> {
-    let mut caps = PlainCaps::new(alloc);
-    caps.reserve(4)?;
-    assert!(rt; mapped(0x1000050, 8));
-    caps.grant(
-        FIRST,
-        Cap::Write {
-            at: 0x1000050,
-            size: 8,
-        },
-    );
-    Ok(caps)
+/// The first principal gets eight bytes.
+fn assert_owned(rt: &impl Abort, caps: &mut PlainCaps) -> Result<(), Fail> {
+    assert!(rt; goes_so(caps, Step::GrantBytes(FIRST, 0x1000050, 8))?);
+    Ok(())
+}
+
+/// The writers of slots, once bytes are zeroed of which some are owned.
+fn assert_zeroed(rt: &impl Abort, sets: &mut WriterSets, caps: &mut PlainCaps) -> Result<(), Fail> {
+    assert_noted(rt, sets, &NOTES_TO_ZERO)?;
+    assert_owned(rt, caps)?;
+    assert!(rt; mapped(0x1000010, 0x80));
+    sets.zero(0x1000010, 0x80, caps);
+    assert_writers(rt, sets, &SLOTS_ZEROED);
+    Ok(())
 }
 
 #[test]
 fn owners_stay_writers_of_zeroed_bytes(rt: HostRuntime) -> Result<(), Fail> {
-    let mut sets = noted(&rt, rt.alloc(), &NOTES_TO_ZERO)?;
-    let caps = owned(&rt, rt.alloc())?;
-    assert!(rt; mapped(0x1000010, 0x80));
-    sets.zero(0x1000010, 0x80, &caps);
-    assert_writers(&rt, &sets, &SLOTS_ZEROED);
-    Ok(())
+    let mut sets = WriterSets::new(rt.alloc());
+    let mut caps = PlainCaps::new(rt.alloc());
+    let went = assert_zeroed(&rt, &mut sets, &mut caps);
+    drop(caps);
+    drop(sets);
+    went
 }

@@ -2,6 +2,7 @@
 use crate::common::{FIRST, SHARED, Step, goes_so};
 use lx_caps::{Atom, Memory, PlainCaps, Principal, mapped};
 use lx_writer_sets::Recorded;
+use std::process::Abort;
 use std::test::Fail;
 
 /// An act on a store that records writers, or a question with its answer.
@@ -75,12 +76,18 @@ static STEPS: [WriterStep; 14] = [
     WriterStep::Store(Step::HoldsBytes(FIRST, 0x1000000, 8, true)),
 ];
 
+fn assert_recorded(rt: &impl Abort, caps: &mut Recorded<PlainCaps>) -> Result<(), Fail> {
+    for (number, step) in STEPS.iter().enumerate() {
+        assert!(rt; records_so(caps, *step)?, "step {number}");
+    }
+    Ok(())
+}
+
 #[test]
 fn writers_stay_until_bytes_are_zeroed(rt: HostRuntime) -> Result<(), Fail> {
     let alloc = rt.alloc();
     let mut caps = Recorded::new(alloc, PlainCaps::new(alloc));
-    for (number, step) in STEPS.iter().enumerate() {
-        assert!(rt; records_so(&mut caps, *step)?, "step {number}");
-    }
-    Ok(())
+    let went = assert_recorded(&rt, &mut caps);
+    drop(caps);
+    went
 }

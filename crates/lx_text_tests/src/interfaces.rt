@@ -1,5 +1,6 @@
 //! Interfaces, with the first fault or the canonical texts that each has.
 
+use crate::interface_texts::{checked, in_check, with_brackets, with_items, with_signs};
 use lx_annot::action::{ActionNode, Annotation};
 use lx_annot::canonical::canonical;
 use lx_annot::interface::Interface;
@@ -33,10 +34,54 @@ fn is_fault(fault: &InterfaceFault, kind: u8, line: u32, what: &[u8]) -> bool {
     found == kind && at == line && words.is_same(what)
 }
 
-fn fails(alloc: Global, text: &[u8], kind: u8, line: u32, what: &[u8]) -> bool {
+/// What is wanted of a text.
+#[derive(Clone, Copy)]
+enum Wanted<'a> {
+    /// The first fault: the number of its kind, its line, and its words.
+    Fault(u8, u32, &'a [u8]),
+    /// The canonical text of the first export.
+    FirstText(&'a [u8]),
+    /// That text, and how many loans the last action ends, or none.
+    FirstEnd(&'a [u8], Option<u32>),
+    /// How many exports there are.
+    Exports(usize),
+    /// The first iterator's line, and how many items it has.
+    Iterator(u32, usize),
+    /// The canonical texts of all slots and exports.
+    Texts(&'a [&'a [u8]], &'a [&'a [u8]]),
+    /// The names, numbers and lines of the built-in interface.
+    BuiltInNames,
+}
+
+/// Whether an interface is as it is wanted.
+fn is_wanted(alloc: Global, interface: &Interface, wanted: Wanted<'_>) -> bool {
+    match wanted {
+        Wanted::Fault(..) => false,
+        Wanted::FirstText(text) => has_first_text(alloc, interface, text),
+        Wanted::FirstEnd(text, end) => {
+            has_first_text(alloc, interface, text) && last_end(interface) == end
+        }
+        Wanted::Exports(count) => interface.exports.len() == count,
+        Wanted::Iterator(line, items) => has_iterator(interface, line, items),
+        Wanted::Texts(slots, exports) => {
+            are_slots(alloc, interface, slots) && are_exports(alloc, interface, exports)
+        }
+        Wanted::BuiltInNames => has_built_in_names(interface),
+    }
+}
+
+/// Whether a text is as it is wanted.
+fn is_so(alloc: Global, text: &[u8], wanted: Wanted<'_>) -> bool {
     match interface_in(alloc, text) {
-        Err(fault) => is_fault(&fault, kind, line, what),
-        Ok(_) => false,
+        Ok(interface) => {
+            let is_wanted = is_wanted(alloc, &interface, wanted);
+            drop(interface);
+            is_wanted
+        }
+        Err(fault) => match wanted {
+            Wanted::Fault(kind, line, what) => is_fault(&fault, kind, line, what),
+            _ => false,
+        },
     }
 }
 
@@ -253,7 +298,7 @@ static CLAUSES: [Row; 26] = [
 ];
 
 fn row_fails(alloc: Global, row: &Row) -> bool {
-    fails(alloc, row.0, row.1, row.2, row.3)
+    is_so(alloc, row.0, Wanted::Fault(row.1, row.2, row.3))
 }
 
 #[test]
@@ -389,47 +434,31 @@ static EXPRESSIONS: [Sample; 26] = [
     Sample("!load64(p)", b"(!load64($0))"),
 ];
 
-fn text_of(alloc: Global, parts: &[&str]) -> Result<Vec<u8>, Memory> {
-    let mut text = Vec::new(alloc);
-    for part in parts {
-        text.extend_from_slice(part.as_bytes())?;
+fn is_text(alloc: Global, interface: &Interface, annotation: &Annotation, wanted: &[u8]) -> bool {
+    match canonical(alloc, interface, annotation) {
+        Ok(text) => text.as_slice() == wanted,
+        Err(_) => false,
     }
-    Ok(text)
 }
 
-/// The canonical text of the first export.
-fn export_text(alloc: Global, text: &[u8]) -> Result<Vec<u8>, InterfaceFault> {
-    let interface = interface_in(alloc, text)?;
+/// Whether this is the canonical text of the first export.
+fn has_first_text(alloc: Global, interface: &Interface, wanted: &[u8]) -> bool {
     match interface.exports.as_slice().first() {
-        Some(export) => {
-            let said = canonical(alloc, &interface, &export.annotation)?;
-            Ok(said)
-        }
-        None => Err(InterfaceFault::Memory),
+        Some(export) => is_text(alloc, interface, &export.annotation, wanted),
+        None => false,
     }
-}
-
-/// The canonical text of a check of this address.
-fn in_check(alloc: Global, address: &[u8]) -> Result<Vec<u8>, Memory> {
-    let mut text = text_of(alloc, &["pre(check(call, "])?;
-    text.extend_from_slice(address)?;
-    text.extend_from_slice(b"))")?;
-    Ok(text)
 }
 
 /// Whether an expression is read as it says.
-fn is_sample(alloc: Global, sample: &Sample) -> Result<bool, InterfaceFault> {
-    let text = text_of(
-        alloc,
-        &[
-            "interface 1 export f : void (ptr p, i8 q) pre(check(call, ",
-            sample.0,
-            "\n))",
-        ],
-    )?;
-    let wanted = in_check(alloc, sample.1)?;
-    let found = export_text(alloc, text.as_slice())?;
-    Ok(found.as_slice() == wanted.as_slice())
+fn is_sample(alloc: Global, sample: &Sample) -> Result<bool, Memory> {
+    let text = checked(alloc, sample.0)?;
+    match in_check(alloc, sample.1) {
+        Ok(wanted) => Ok(is_so(alloc, text.as_slice(), Wanted::FirstText(wanted.as_slice()))),
+        Err(error) => {
+            drop(text);
+            Err(error)
+        }
+    }
 }
 
 #[test]
@@ -493,46 +522,39 @@ static LENDINGS: [Lending; 9] = [
 ];
 
 /// How many loans the last action of the first export ends, where it ends any.
-fn last_end(alloc: Global, text: &[u8]) -> Result<Option<u32>, InterfaceFault> {
-    let interface = interface_in(alloc, text)?;
-    let Some(export) = interface.exports.as_slice().first() else {
-        return Err(InterfaceFault::Memory);
-    };
-    let Some(action) = export.annotation.post.as_slice().last() else {
-        return Ok(None);
-    };
-    match &action.node {
-        ActionNode::End(count) => Ok(Some(*count)),
-        _ => Ok(None),
+fn last_end(interface: &Interface) -> Option<u32> {
+    let export = interface.exports.as_slice().first()?;
+    match &export.annotation.post.as_slice().last()?.node {
+        ActionNode::End(count) => Some(*count),
+        _ => None,
     }
 }
 
 /// Whether an interface is read as it says.
-fn is_lending(alloc: Global, row: &Lending) -> Result<bool, InterfaceFault> {
-    let found = export_text(alloc, row.0)?;
-    let end = last_end(alloc, row.0)?;
-    Ok(found.as_slice() == row.1 && end == row.2)
+fn is_lending(alloc: Global, row: &Lending) -> bool {
+    is_so(alloc, row.0, Wanted::FirstEnd(row.1, row.2))
 }
 
 #[test]
 fn the_end_of_all_loans_stands_behind_all_actions(rt: HostRuntime) {
     let alloc = rt.alloc();
     assert_eq!(rt;
-        LENDINGS
-            .iter()
-            .position(|row| !is_lending(alloc, row).unwrap_or(false)),
+        LENDINGS.iter().position(|row| !is_lending(alloc, row)),
         None
     );
 }
 
-/// How many slots and exports the second version gives, with and without a `lend`.
+/// How many exports the second version gives, with and without a `lend`.
 #[test]
 fn a_text_of_version_2_may_lend_nothing(rt: HostRuntime) {
     let alloc = rt.alloc();
-    assert_eq!(rt; export_count(alloc, b"interface 2"), 0);
-    assert_eq!(rt;
-        export_count(alloc, b"interface 2 export f : void () export g : i8 ()"),
-        2
+    assert!(rt; is_so(alloc, b"interface 2", Wanted::Exports(0)));
+    assert!(rt;
+        is_so(
+            alloc,
+            b"interface 2 export f : void () export g : i8 ()",
+            Wanted::Exports(2)
+        )
     );
 }
 
@@ -575,32 +597,34 @@ static EXPORT_TEXTS: [&[u8]; 11] = [
     b"",
 ];
 
-fn is_text(alloc: Global, interface: &Interface, annotation: &Annotation, wanted: &[u8]) -> bool {
-    match canonical(alloc, interface, annotation) {
-        Ok(text) => text.as_slice() == wanted,
-        Err(_) => false,
-    }
+/// Whether these are the canonical texts of the slots.
+fn are_slots(alloc: Global, interface: &Interface, texts: &[&[u8]]) -> bool {
+    let slots = interface.slots.as_slice();
+    slots.len() == texts.len()
+        && slots.iter().zip(texts).all(|(slot, text)| is_text(
+            alloc,
+            interface,
+            &slot.annotation,
+            text,
+        ))
+}
+
+/// Whether these are the canonical texts of the exports.
+fn are_exports(alloc: Global, interface: &Interface, texts: &[&[u8]]) -> bool {
+    let exports = interface.exports.as_slice();
+    exports.len() == texts.len()
+        && exports.iter().zip(texts).all(|(export, text)| is_text(
+            alloc,
+            interface,
+            &export.annotation,
+            text,
+        ))
 }
 
 #[test]
-fn a_whole_interface_says_its_annotations(rt: HostRuntime) -> Result<(), Fail> {
-    let alloc = rt.alloc();
-    let interface = interface_in(alloc, BUILT_IN)?;
-    let slots = interface.slots.as_slice();
-    let exports = interface.exports.as_slice();
-    assert_eq!(rt; slots.len(), SLOT_TEXTS.len());
-    assert_eq!(rt; exports.len(), EXPORT_TEXTS.len());
-    assert!(rt;
-        slots.iter().zip(SLOT_TEXTS.iter()).all(|(slot, text)| {
-            is_text(alloc, &interface, &slot.annotation, text)
-        })
-    );
-    assert!(rt;
-        exports.iter().zip(EXPORT_TEXTS.iter()).all(|(export, text)| {
-            is_text(alloc, &interface, &export.annotation, text)
-        })
-    );
-    Ok(())
+fn a_whole_interface_says_its_annotations(rt: HostRuntime) {
+    let wanted = Wanted::Texts(&SLOT_TEXTS, &EXPORT_TEXTS);
+    assert!(rt; is_so(rt.alloc(), BUILT_IN, wanted));
 }
 
 fn has_iterator(interface: &Interface, line: u32, items: usize) -> bool {
@@ -628,59 +652,29 @@ fn has_third_export(interface: &Interface, name: &[u8], line: u32) -> bool {
     }
 }
 
+fn has_built_in_names(interface: &Interface) -> bool {
+    has_iterator(interface, 3, 2)
+        && has_second_field(interface, b"struct.dev_ops", 7)
+        && has_third_export(interface, b"kfree", 10)
+}
+
 #[test]
-fn a_whole_interface_keeps_names_numbers_and_lines(rt: HostRuntime) -> Result<(), Fail> {
-    let interface = interface_in(rt.alloc(), BUILT_IN)?;
-    assert!(rt; has_iterator(&interface, 3, 2));
-    assert!(rt; has_second_field(&interface, b"struct.dev_ops", 7));
-    assert!(rt; has_third_export(&interface, b"kfree", 10));
-    Ok(())
+fn a_whole_interface_keeps_names_numbers_and_lines(rt: HostRuntime) {
+    assert!(rt; is_so(rt.alloc(), BUILT_IN, Wanted::BuiltInNames));
 }
 
-/// Puts a piece of text so many times.
-fn put_times(text: &mut Vec<u8>, piece: &[u8], count: usize) -> Result<(), Memory> {
-    for _ in 0..count {
-        text.extend_from_slice(piece)?;
-    }
-    Ok(())
-}
-
-/// An interface of one iterator with an item and so many more.
-fn with_items(alloc: Global, more: usize) -> Result<Vec<u8>, Memory> {
-    let mut text = text_of(alloc, &["interface 1\niterator i(p) {\ncall p"])?;
-    put_times(&mut text, b"\n; call p", more)?;
-    text.extend_from_slice(b" }")?;
-    Ok(text)
-}
-
-fn has_items(alloc: Global, text: &[u8], items: usize) -> bool {
-    match interface_in(alloc, text) {
-        Ok(interface) => has_iterator(&interface, 2, items),
-        Err(_) => false,
-    }
+/// Whether an iterator with an item and so many more is as it is wanted.
+fn items_are_so(alloc: Global, more: usize, wanted: Wanted<'_>) -> Result<bool, Memory> {
+    let text = with_items(alloc, more)?;
+    Ok(is_so(alloc, text.as_slice(), wanted))
 }
 
 #[test]
 fn an_iterator_has_sixteen_items_at_most(rt: HostRuntime) -> Result<(), Fail> {
     let alloc = rt.alloc();
-    let most = with_items(alloc, 15)?;
-    assert!(rt; has_items(alloc, most.as_slice(), 16));
-    let past = with_items(alloc, 16)?;
-    assert!(rt; fails(alloc, past.as_slice(), 2, 19, b";"));
+    assert!(rt; items_are_so(alloc, 15, Wanted::Iterator(2, 16))?);
+    assert!(rt; items_are_so(alloc, 16, Wanted::Fault(2, 19, b";"))?);
     Ok(())
-}
-
-/// An interface of one export whose action has so many signs before its address, which stands in line 3 with all that
-/// is behind it: 14 tokens up to the signs.
-fn with_signs(alloc: Global, signs: usize, end: &str) -> Result<Vec<u8>, Memory> {
-    let mut text = text_of(
-        alloc,
-        &["interface 1\nexport f : void (ptr p) pre(check(call, "],
-    )?;
-    put_times(&mut text, b"-", signs)?;
-    text.extend_from_slice(b"\n")?;
-    text.extend_from_slice(end.as_bytes())?;
-    Ok(text)
 }
 
 /// So many signs, what stands behind them, and the first fault: the number of its kind, and its words.
@@ -694,70 +688,63 @@ static SIGNS: [Signs; 4] = [
     Signs(1010, "q))", 2, b"q"),
 ];
 
-fn signs_fail(alloc: Global, row: &Signs) -> Result<bool, Memory> {
-    let text = with_signs(alloc, row.0, row.1)?;
-    Ok(fails(alloc, text.as_slice(), row.2, 3, row.3))
+/// Whether so many signs with this text behind them are as they are wanted.
+fn signs_are_so(
+    alloc: Global,
+    signs: usize,
+    end: &str,
+    wanted: Wanted<'_>,
+) -> Result<bool, Memory> {
+    let text = with_signs(alloc, signs, end)?;
+    Ok(is_so(alloc, text.as_slice(), wanted))
 }
 
-fn export_count(alloc: Global, text: &[u8]) -> usize {
-    match interface_in(alloc, text) {
-        Ok(interface) => interface.exports.len(),
-        Err(_) => 0,
-    }
+fn signs_fail(alloc: Global, row: &Signs) -> bool {
+    signs_are_so(alloc, row.0, row.1, Wanted::Fault(row.2, 3, row.3)).unwrap_or(false)
 }
 
 #[test]
 fn a_statement_has_1024_tokens_at_most(rt: HostRuntime) -> Result<(), Fail> {
     let alloc = rt.alloc();
-    let most = with_signs(alloc, 1007, "p)) export g : void ()")?;
-    assert_eq!(rt; export_count(alloc, most.as_slice()), 2);
+    assert!(rt; signs_are_so(alloc, 1007, "p)) export g : void ()", Wanted::Exports(2))?);
     Ok(())
 }
 
 #[test]
 fn a_statement_of_1025_tokens_has_a_fault(rt: HostRuntime) {
     let alloc = rt.alloc();
-    assert_eq!(rt;
-        SIGNS
-            .iter()
-            .position(|row| !signs_fail(alloc, row).unwrap_or(false)),
-        None
-    );
+    assert_eq!(rt; SIGNS.iter().position(|row| !signs_fail(alloc, row)), None);
 }
 
-/// An interface of one export whose address stands in so many brackets.
-fn with_brackets(alloc: Global, depth: usize) -> Result<Vec<u8>, Memory> {
-    let mut text = text_of(
+fn brackets_are_read(alloc: Global) -> Result<bool, Memory> {
+    let text = with_brackets(alloc, 503)?;
+    Ok(is_so(
         alloc,
-        &["interface 1\nexport f : void (ptr p) pre(check(call, "],
-    )?;
-    put_times(&mut text, b"(", depth)?;
-    text.extend_from_slice(b"p")?;
-    put_times(&mut text, b")", depth)?;
-    text.extend_from_slice(b"))")?;
-    Ok(text)
+        text.as_slice(),
+        Wanted::FirstText(b"pre(check(call, $0))"),
+    ))
 }
 
 #[test]
 fn brackets_nest_as_deeply_as_a_statement_is_long(rt: HostRuntime) -> Result<(), Fail> {
-    let alloc = rt.alloc();
-    let text = with_brackets(alloc, 503)?;
-    let said = export_text(alloc, text.as_slice())?;
-    assert!(rt; said.as_slice() == b"pre(check(call, $0))".as_slice());
+    assert!(rt; brackets_are_read(rt.alloc())?);
     Ok(())
 }
 
+/// The same interface without spaces, and with many and comments.
+static SPACED: [&[u8]; 2] = [
+    b"interface 1 export f:ptr(i64 n)post(if(return!=0)copy(write,return,n))",
+    b"interface#\n1\r\nexport\tf :\nptr ( i64 n ) # no\npost ( if ( return != 0 ) copy ( write , return , n ) )",
+];
+
+static UNSPACED: &[u8] = b"post(if ((return != 0)) copy(write, return, $0))";
+
 #[test]
-fn spaces_and_comments_say_nothing(rt: HostRuntime) -> Result<(), Fail> {
+fn spaces_and_comments_say_nothing(rt: HostRuntime) {
     let alloc = rt.alloc();
-    let one = export_text(
-        alloc,
-        b"interface 1 export f:ptr(i64 n)post(if(return!=0)copy(write,return,n))",
-    )?;
-    let other = export_text(
-        alloc,
-        b"interface#\n1\r\nexport\tf :\nptr ( i64 n ) # no\npost ( if ( return != 0 ) copy ( write , return , n ) )",
-    )?;
-    assert!(rt; one.as_slice() == other.as_slice());
-    Ok(())
+    let wanted = Wanted::FirstText(UNSPACED);
+    assert_eq!(rt;
+        SPACED.iter().position(|text| !is_so(alloc, text, wanted)),
+        None
+    );
 }

@@ -4,7 +4,7 @@ use lx_ir_tokens::{
     ConstantWord, InstructionWord, IrTokens, Keyword, Kind, Mark, ScalarWord, StatementWord, Tok,
     read_tokens,
 };
-use lx_words::{BinOp, Pred, Stop, Width};
+use lx_words::{BinOp, Memory, Pred, Stop, Width};
 use std::alloc::Global;
 use std::test::Fail;
 
@@ -148,6 +148,42 @@ static PLACES: [Row; 26] = [
     Row(Kind::Word(Keyword::Other), b"c", 1),
 ];
 
+/// What is found in a text's tokens.
+#[derive(Clone, Copy)]
+struct Found {
+    wrong: Option<usize>,
+    stop: Option<Stop>,
+    last_line: u32,
+    /// How many names there are, and the number of that in the first row.
+    names: u32,
+    first: Option<u32>,
+    tokens: usize,
+}
+
+/// The number of the name in the first row.
+fn first_name(ir: &IrTokens, rows: &[Row]) -> Option<u32> {
+    match rows.first() {
+        Some(row) => ir.names.number_of(row.1),
+        None => None,
+    }
+}
+
+/// What is found in a text's tokens beside these rows; nothing in a text of more than 1,000 bytes.
+fn tokens_found(alloc: Global, text: &[u8], rows: &[Row]) -> Result<Found, Memory> {
+    if text.len() > 1000 {
+        return Err(Memory);
+    }
+    let ir = read_tokens(alloc, text)?;
+    Ok(Found {
+        wrong: first_wrong(&ir, rows),
+        stop: ir.stop,
+        last_line: ir.last_line,
+        names: ir.names.len(),
+        first: first_name(&ir, rows),
+        tokens: ir.toks.len(),
+    })
+}
+
 #[test]
 fn every_kind_and_the_lines_passed_over(rt: HostRuntime) -> Result<(), Fail> {
     let text = b"; a comment\n\
@@ -162,72 +198,75 @@ fn every_kind_and_the_lines_passed_over(rt: HostRuntime) -> Result<(), Fail> {
         attributes\n\
         : @\"x\" c\"a\\5C\\0a\" c\"x\"\n\
         ! = attributes";
-    let ir = read_tokens(rt.alloc(), text.as_slice())?;
-    let wrong = first_wrong(&ir, EVERY_KIND.as_slice());
-    assert_eq!(rt; (wrong, ir.stop, ir.last_line), (None, None, 12));
+    let found = tokens_found(rt.alloc(), text.as_slice(), &EVERY_KIND)?;
+    assert_eq!(rt; found.wrong, None);
+    assert!(rt; found.stop.is_none());
+    assert_eq!(rt; found.last_line, 12);
     Ok(())
 }
 
 #[test]
 fn words_and_marks_in_their_places(rt: HostRuntime) -> Result<(), Fail> {
     let text = b"@g=private constant[2 x ptr]<{null}>icmp ugt(i1 true)to label align none dbg c";
-    let ir = read_tokens(rt.alloc(), text.as_slice())?;
-    assert_eq!(rt; first_wrong(&ir, PLACES.as_slice()), None);
+    let found = tokens_found(rt.alloc(), text.as_slice(), &PLACES)?;
+    assert_eq!(rt; found.wrong, None);
     Ok(())
 }
 
-/// Whether a text is one number of this value.
-fn is_one_number(alloc: Global, text: &'static [u8], value: Option<i128>) -> bool {
-    if text.len() > 1000 {
-        return false;
-    }
-    let minus = text.starts_with(b"-");
-    let row = [Row(Kind::Number { value, minus }, text, 1)];
-    match read_tokens(alloc, text) {
-        Ok(ir) => first_wrong(&ir, row.as_slice()).is_none(),
+/// A text, and the value of the one number that it is, if 128 bits have it.
+struct OneNumber(&'static [u8], Option<i128>);
+
+static ONE_NUMBER: [OneNumber; 6] = [
+    OneNumber(b"170141183460469231731687303715884105727", Some(i128::MAX)),
+    OneNumber(b"170141183460469231731687303715884105728", None),
+    OneNumber(b"-170141183460469231731687303715884105728", Some(i128::MIN)),
+    OneNumber(b"-170141183460469231731687303715884105729", None),
+    OneNumber(b"340282366920938463463374607431768211456", None),
+    OneNumber(b"-0", Some(0)),
+];
+
+fn is_one_number(alloc: Global, number: &OneNumber) -> bool {
+    let kind = Kind::Number {
+        value: number.1,
+        minus: number.0.starts_with(b"-"),
+    };
+    let row = [Row(kind, number.0, 1)];
+    match tokens_found(alloc, number.0, row.as_slice()) {
+        Ok(found) => found.wrong.is_none(),
         Err(_) => false,
     }
 }
 
 #[test]
 fn numbers_of_128_bits_and_of_more(rt: HostRuntime) {
-    let rows: [(&[u8], Option<i128>); 6] = [
-        (b"170141183460469231731687303715884105727", Some(i128::MAX)),
-        (b"170141183460469231731687303715884105728", None),
-        (b"-170141183460469231731687303715884105728", Some(i128::MIN)),
-        (b"-170141183460469231731687303715884105729", None),
-        (b"340282366920938463463374607431768211456", None),
-        (b"-0", Some(0)),
-    ];
-    for (text, value) in rows {
-        assert!(rt; is_one_number(rt.alloc(), text, value));
-    }
+    let alloc = rt.alloc();
+    assert_eq!(rt;
+        ONE_NUMBER
+            .iter()
+            .position(|number| !is_one_number(alloc, number)),
+        None
+    );
 }
 
-/// Whether these are the tokens up to a bad byte in line 4, of which there is one, a name.
-fn are_up_to_line_4(ir: &IrTokens) -> bool {
-    let row = [Row(
-        Kind::Word(Keyword::Instruction(InstructionWord::Ret)),
-        b"ret",
-        2,
-    )];
-    first_wrong(ir, row.as_slice()).is_none()
-        && ir.stop == Some(Stop { line: 4, byte: 1 })
-        && ir.last_line == 4
-        && ir.names.len() == 1
-        && ir.names.number_of(b"ret") == Some(0)
-}
+/// The one token before a bad byte in line 4.
+static UP_TO_LINE_4: [Row; 1] = [Row(
+    Kind::Word(Keyword::Instruction(InstructionWord::Ret)),
+    b"ret",
+    2,
+)];
 
 #[test]
 fn tokens_up_to_the_first_bad_byte(rt: HostRuntime) -> Result<(), Fail> {
-    let ir = read_tokens(rt.alloc(), b"\nret\n\n!0 \x01 void")?;
-    assert!(rt; are_up_to_line_4(&ir));
+    let found = tokens_found(rt.alloc(), b"\nret\n\n!0 \x01 void", &UP_TO_LINE_4)?;
+    assert_eq!(rt; found.wrong, None);
+    assert!(rt; found.stop == Some(Stop { line: 4, byte: 1 }));
+    assert!(rt; found.last_line == 4 && found.names == 1 && found.first == Some(0));
     Ok(())
 }
 
 #[test]
 fn a_text_without_tokens(rt: HostRuntime) -> Result<(), Fail> {
-    let ir = read_tokens(rt.alloc(), b" ; nothing\n\n")?;
-    assert!(rt; ir.toks.is_empty() && ir.last_line == 1);
+    let found = tokens_found(rt.alloc(), b" ; nothing\n\n", &[])?;
+    assert!(rt; found.tokens == 0 && found.last_line == 1);
     Ok(())
 }

@@ -4,6 +4,8 @@
 #[cfg(test)]
 mod fault_texts;
 #[cfg(test)]
+mod interface_texts;
+#[cfg(test)]
 mod interfaces;
 #[cfg(test)]
 mod ir_tokens;

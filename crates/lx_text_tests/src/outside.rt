@@ -3,20 +3,50 @@ use lx_outside::{
     FileShelf, Gate, GatePlace, MemShelf, MemSink, OpenGate, Shelf, ShelfFault, SinkFault, StdSink,
     put_all,
 };
+use std::alloc::Global;
 use std::fs;
+use std::process::Abort;
 use std::test::Fail;
+
+/// Whether a shelf reads these bytes of a file. Any shelf will do.
+fn reads<S: Shelf>(
+    alloc: Global,
+    shelf: &mut S,
+    name: &str,
+    wanted: &[u8],
+) -> Result<bool, ShelfFault> {
+    let bytes = shelf.read(alloc, name)?;
+    Ok(bytes.as_slice() == wanted)
+}
+
+/// Whether a shelf cannot read a file.
+fn cannot_read<S: Shelf>(alloc: Global, shelf: &mut S, name: &str) -> bool {
+    match shelf.read(alloc, name) {
+        Ok(_) => false,
+        Err(fault) => fault == ShelfFault::Failed,
+    }
+}
+
+fn put_old_and_new(alloc: Global, shelf: &mut MemShelf) -> Result<(), Fail> {
+    shelf.put_file(alloc, "a", b"old")?;
+    shelf.put_file(alloc, "a", b"new")?;
+    Ok(())
+}
+
+fn assert_new(rt: &impl Abort, alloc: Global, shelf: &mut MemShelf) -> Result<(), Fail> {
+    put_old_and_new(alloc, shelf)?;
+    assert!(rt; reads(alloc, shelf, "a", b"new")?);
+    assert!(rt; cannot_read(alloc, shelf, "a"));
+    Ok(())
+}
 
 #[test]
 fn a_shelf_gives_the_last_bytes_of_a_name(rt: HostRuntime) -> Result<(), Fail> {
     let alloc = rt.alloc();
     let mut shelf = MemShelf::new(alloc, [1].to_vec(alloc)?);
-    shelf.put_file(alloc, "a", b"old")?;
-    shelf.put_file(alloc, "a", b"new")?;
-    let bytes = shelf.read(alloc, "a")?;
-    assert_eq!(rt; bytes.as_slice(), b"new".as_slice());
-    let failed = shelf.read(alloc, "a").err();
-    assert_eq!(rt; failed, Some(ShelfFault::Failed));
-    Ok(())
+    let went = assert_new(&rt, alloc, &mut shelf);
+    drop(shelf);
+    went
 }
 
 #[test]
@@ -34,11 +64,13 @@ fn a_file_of_the_system_is_read(rt: HostRuntime) -> Result<(), Fail> {
     let alloc = rt.alloc();
     fs::write(&rt, "lx_outside_shelf.txt", "kept\n")?;
     let mut shelf = FileShelf::new(&rt, alloc);
-    let bytes = shelf.read(alloc, "lx_outside_shelf.txt")?;
-    assert_eq!(rt; bytes.as_slice(), b"kept\n".as_slice());
-    fs::remove_file(&rt, "lx_outside_shelf.txt")?;
-    let failed = shelf.read(alloc, "lx_outside_shelf.txt").err();
-    assert_eq!(rt; failed, Some(ShelfFault::Failed));
+    let kept = reads(alloc, &mut shelf, "lx_outside_shelf.txt", b"kept\n");
+    let removed = fs::remove_file(&rt, "lx_outside_shelf.txt");
+    let failed = cannot_read(alloc, &mut shelf, "lx_outside_shelf.txt");
+    drop(shelf);
+    assert!(rt; kept?);
+    removed?;
+    assert!(rt; failed);
     Ok(())
 }
 

@@ -1,9 +1,10 @@
 //! The tables of words, number texts and tokens at their edges.
 
 use lx_words::{
-    BinOp, DivFault, LexFault, Name, Pred, Schedule, TokenKind, TokenRule, Tokens, Width, Word,
-    binary, compare, put_decimal, put_hex, resize, scan, split,
+    BinOp, DivFault, LexFault, Memory, Name, Pred, Schedule, TokenKind, TokenRule, Tokens, Width,
+    Word, binary, compare, put_decimal, put_hex, resize, scan, split,
 };
+use std::alloc::Global;
 use std::test::Fail;
 
 fn word(width: Width, bits: u64) -> Word {
@@ -64,33 +65,82 @@ fn results_at_the_edges_of_each_width(rt: HostRuntime) {
     assert_eq!(rt; ROWS.iter().position(|row| !is_right(row)), None);
 }
 
+/// Comparisons of bytes that hold.
+static COMPARISONS: [(Pred, u64, u64); 3] = [
+    (Pred::Slt, 0x80, 0x7f),
+    (Pred::Ugt, 0x80, 0x7f),
+    (Pred::Sge, 0x80, 0x80),
+];
+
+/// A width and its bits, the width that they get, whether with their sign, and the bits then.
+struct Conversion(Width, u64, Width, bool, u64);
+
+static CONVERSIONS: [Conversion; 4] = [
+    Conversion(Width::W8, 0x80, Width::W64, true, 0xffff_ffff_ffff_ff80),
+    Conversion(Width::W8, 0x80, Width::W64, false, 0x80),
+    Conversion(Width::W1, 1, Width::W16, true, 0xffff),
+    Conversion(Width::W8, 0x80, Width::W1, true, 0),
+];
+
+fn compares_so(row: &(Pred, u64, u64)) -> bool {
+    compare(row.0, word(Width::W8, row.1), word(Width::W8, row.2))
+}
+
+fn converts_so(row: &Conversion) -> bool {
+    resize(word(row.0, row.1), row.2, row.3).bits == row.4
+}
+
 #[test]
 fn signs_in_comparisons_and_conversions(rt: HostRuntime) {
-    let least = word(Width::W8, 0x80);
-    let greatest = word(Width::W8, 0x7f);
-    assert!(rt; compare(Pred::Slt, least, greatest));
-    assert!(rt; compare(Pred::Ugt, least, greatest));
-    assert!(rt; compare(Pred::Sge, least, least));
-    assert_eq!(rt; resize(least, Width::W64, true).bits, 0xffff_ffff_ffff_ff80);
-    assert_eq!(rt; resize(least, Width::W64, false).bits, 0x80);
-    assert_eq!(rt; resize(word(Width::W1, 1), Width::W16, true).bits, 0xffff);
-    assert_eq!(rt; resize(least, Width::W1, true).bits, 0);
+    assert_eq!(rt; COMPARISONS.iter().position(|row| !compares_so(row)), None);
+    assert_eq!(rt; CONVERSIONS.iter().position(|row| !converts_so(row)), None);
+}
+
+static DECIMALS: [i128; 5] = [
+    0,
+    -1,
+    0xffff_ffff_ffff_ffff,
+    -0x8000_0000_0000_0000,
+    i128::MIN,
+];
+
+static HEXES: [u64; 3] = [0, 0x100_0000, u64::MAX];
+
+static NUMBERS: &[u8] = b"0 -1 18446744073709551615 -9223372036854775808 \
+    -170141183460469231731687303715884105728 0x0 0x1000000 0xffffffffffffffff ";
+
+/// Puts each number with a space behind it.
+fn put_decimals(out: &mut Vec<u8>) -> Result<(), Memory> {
+    for number in DECIMALS.iter() {
+        put_decimal(out, *number)?;
+        out.push(b' ')?;
+    }
+    Ok(())
+}
+
+fn put_hexes(out: &mut Vec<u8>) -> Result<(), Memory> {
+    for number in HEXES.iter() {
+        put_hex(out, *number)?;
+        out.push(b' ')?;
+    }
+    Ok(())
+}
+
+fn put_numbers(out: &mut Vec<u8>) -> Result<(), Memory> {
+    put_decimals(out)?;
+    put_hexes(out)?;
+    Ok(())
 }
 
 #[test]
 fn numbers_at_their_ends_as_text(rt: HostRuntime) -> Result<(), Fail> {
     let mut out = Vec::new(rt.alloc());
-    for number in [0, -1, i128::from(u64::MAX), i128::from(i64::MIN), i128::MIN] {
-        put_decimal(&mut out, number)?;
-        out.push(b' ')?;
+    let put = put_numbers(&mut out);
+    if put.is_ok() {
+        assert_eq!(rt; out.as_slice(), NUMBERS);
     }
-    for number in [0, 0x100_0000, u64::MAX] {
-        put_hex(&mut out, number)?;
-        out.push(b' ')?;
-    }
-    let text: &[u8] = b"0 -1 18446744073709551615 -9223372036854775808 \
-        -170141183460469231731687303715884105728 0x0 0x1000000 0xffffffffffffffff ";
-    assert_eq!(rt; out.as_slice(), text);
+    drop(out);
+    put?;
     Ok(())
 }
 
@@ -104,61 +154,86 @@ fn are(tokens: &Tokens, expected: &[(TokenKind, u32)]) -> bool {
             .all(|(t, e)| t.kind == e.0 && t.end == e.1)
 }
 
-#[test]
-fn each_token_ends_where_the_next_begins(rt: HostRuntime) -> Result<(), Fail> {
-    use TokenKind::*;
+static OF_IR: [(TokenKind, u32); 11] = [
+    (TokenKind::Local, 5),
+    (TokenKind::Global, 11),
+    (TokenKind::Text, 15),
+    (TokenKind::Bytes, 22),
+    (TokenKind::Word, 23),
+    (TokenKind::Text, 26),
+    (TokenKind::Number, 28),
+    (TokenKind::Mark, 29),
+    (TokenKind::Word, 34),
+    (TokenKind::Local, 36),
+    (TokenKind::Mark, 37),
+];
+
+static OF_AN_INTERFACE: [(TokenKind, u32); 10] = [
+    (TokenKind::Word, 1),
+    (TokenKind::Mark, 3),
+    (TokenKind::Number, 4),
+    (TokenKind::Mark, 5),
+    (TokenKind::Local, 7),
+    (TokenKind::Mark, 9),
+    (TokenKind::Mark, 10),
+    (TokenKind::Mark, 12),
+    (TokenKind::Word, 13),
+    (TokenKind::Mark, 15),
+];
+
+/// Whether a text is split into tokens with these kinds and ends.
+fn splits_so(alloc: Global, expected: &[(TokenKind, u32)]) -> Result<bool, LexFault> {
     let text = b"%a.1-@\"x y\"\"s\\\"c\"d\\0A\"c\"\\\"-5=word7%7:;c";
-    let expected = [
-        (Local, 5),
-        (Global, 11),
-        (Text, 15),
-        (Bytes, 22),
-        (Word, 23),
-        (Text, 26),
-        (Number, 28),
-        (Mark, 29),
-        (Word, 34),
-        (Local, 36),
-        (Mark, 37),
-    ];
-    let tokens = split(rt.alloc(), text, TokenRule::Ir)?;
-    assert!(rt; are(&tokens, &expected));
+    let tokens = split(alloc, text, TokenRule::Ir)?;
+    Ok(are(&tokens, expected))
+}
+
+/// Whether a text of an interface has tokens with these kinds and ends, and no byte that begins none.
+fn scans_so(alloc: Global, expected: &[(TokenKind, u32)]) -> Result<bool, Memory> {
     let text = b"a<<5-%b&&|!=c<=#d";
-    let expected = [
-        (Word, 1),
-        (Mark, 3),
-        (Number, 4),
-        (Mark, 5),
-        (Local, 7),
-        (Mark, 9),
-        (Mark, 10),
-        (Mark, 12),
-        (Word, 13),
-        (Mark, 15),
-    ];
-    let found = scan(rt.alloc(), text, TokenRule::Interface)?;
-    assert!(rt; are(&found.tokens, &expected));
-    assert_eq!(rt; found.stop, None);
-    Ok(())
+    let found = scan(alloc, text, TokenRule::Interface)?;
+    Ok(are(&found.tokens, expected) && found.stop.is_none())
 }
 
 #[test]
-fn the_first_byte_that_begins_no_token(rt: HostRuntime) -> Result<(), Fail> {
-    let rows: [(&[u8], TokenRule, u32, u8); 6] = [
-        (b"a\n\"\n\" \"", TokenRule::Ir, 3, b'"'),
-        (b";\x80\n\n-", TokenRule::Ir, 3, b'-'),
-        (b"%", TokenRule::Ir, 1, b'%'),
-        (b"\n@\"\"", TokenRule::Ir, 2, b'@'),
-        (b"-1\n[", TokenRule::Interface, 2, b'['),
-        (b"#\n=", TokenRule::Interface, 2, b'='),
-    ];
-    for (text, rule, line, byte) in rows {
-        match split(rt.alloc(), text, rule) {
-            Ok(_) => panic!(rt; "it is split"),
-            Err(fault) => assert_eq!(rt; fault, LexFault::Byte { line, byte }),
+fn each_token_ends_where_the_next_begins(rt: HostRuntime) -> Result<(), Fail> {
+    assert!(rt; splits_so(rt.alloc(), &OF_IR)?);
+    assert!(rt; scans_so(rt.alloc(), &OF_AN_INTERFACE)?);
+    Ok(())
+}
+
+/// A text, its rule, and the first byte that begins no token, with its line before it.
+struct Stopped(&'static [u8], TokenRule, u32, u8);
+
+static STOPPED: [Stopped; 6] = [
+    Stopped(b"a\n\"\n\" \"", TokenRule::Ir, 3, b'"'),
+    Stopped(b";\x80\n\n-", TokenRule::Ir, 3, b'-'),
+    Stopped(b"%", TokenRule::Ir, 1, b'%'),
+    Stopped(b"\n@\"\"", TokenRule::Ir, 2, b'@'),
+    Stopped(b"-1\n[", TokenRule::Interface, 2, b'['),
+    Stopped(b"#\n=", TokenRule::Interface, 2, b'='),
+];
+
+fn stops_so(alloc: Global, row: &Stopped) -> bool {
+    if row.0.len() > 1000 {
+        return false;
+    }
+    match split(alloc, row.0, row.1) {
+        Ok(_) => false,
+        Err(fault) => {
+            fault
+                == LexFault::Byte {
+                    line: row.2,
+                    byte: row.3,
+                }
         }
     }
-    Ok(())
+}
+
+#[test]
+fn the_first_byte_that_begins_no_token(rt: HostRuntime) {
+    let alloc = rt.alloc();
+    assert_eq!(rt; STOPPED.iter().position(|row| !stops_so(alloc, row)), None);
 }
 
 #[test]
@@ -169,15 +244,25 @@ fn a_byte_that_begins_no_token_is_told(rt: HostRuntime) -> Result<(), Fail> {
     Ok(())
 }
 
+/// Whether a name keeps its bytes and one that is pushed.
+fn name_is_kept(alloc: Global) -> Result<bool, Memory> {
+    let mut name = Name::from_bytes(alloc, b"kmallo")?;
+    let pushed = name.push(b'c').is_ok();
+    Ok(pushed && name.is_same(b"kmalloc") && !name.is_same(b"kmallo"))
+}
+
+/// Whether a schedule that is empty keeps the entry that is pushed.
+fn entry_is_kept(alloc: Global) -> bool {
+    let mut schedule = Schedule::new(alloc);
+    let empty = schedule.is_empty();
+    let pushed = schedule.push(3).is_ok();
+    let entries = schedule.into_vec();
+    empty && pushed && entries.as_slice() == [3].as_slice()
+}
+
 #[test]
 fn lists_keep_what_they_are_given(rt: HostRuntime) -> Result<(), Fail> {
-    let mut name = Name::from_bytes(rt.alloc(), b"kmallo")?;
-    name.push(b'c')?;
-    assert!(rt; name.is_same(b"kmalloc"));
-    assert!(rt; !name.is_same(b"kmallo"));
-    let mut schedule = Schedule::new(rt.alloc());
-    assert!(rt; schedule.is_empty());
-    schedule.push(3)?;
-    assert_eq!(rt; schedule.into_vec().as_slice(), [3].as_slice());
+    assert!(rt; name_is_kept(rt.alloc())?);
+    assert!(rt; entry_is_kept(rt.alloc()));
     Ok(())
 }

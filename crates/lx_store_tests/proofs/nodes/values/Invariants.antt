@@ -1,6 +1,0 @@
-use Rattle.std.proofs.Common.{◌≡◌, true, IfSome}
-use Rattle.lx_cap_nodes.specs.Words.{is_live}
-use Rattle.lx_store_tests.proofs.nodes.values.Given as goal
-
-abbrev pub invariant-loop : goal.invariant-loop
-invariant-loop l = IfSome l.node (λ n. is_live l.pool n ≡ true)
