@@ -2,21 +2,22 @@
 
 use crate::image_rows::rows;
 use lx_annot::interface::Interface;
-use lx_image_check::{ImageFault, Refusal, check, erase};
+use lx_image_check::{Checked, Refusal, check, erase};
 use lx_ir::print;
 use lx_ir_lawful::whole_laws;
 use lx_ir_read::{TextForm, read_module};
 use lx_ir_verify::{Verified, verify};
 use lx_propagate::PropagateFault;
-use lx_words::{Items, Name};
+use lx_words::{Items, Memory, Name};
 use std::alloc::Global;
+use std::process::Abort;
 use std::test::Fail;
 
 /// What begins a part of a table.
 const MARK: &str = "---- ";
 
 /// An interface that says nothing.
-fn bare_interface(alloc: Global) -> Interface {
+pub fn bare_interface(alloc: Global) -> Interface {
     Interface {
         reftypes: Items::new(alloc),
         iterators: Items::new(alloc),
@@ -37,34 +38,57 @@ pub fn verified(alloc: Global, text: &[u8]) -> Result<Verified, Fail> {
     Ok(verified)
 }
 
+/// What the checker says of a module, in an interface that says nothing.
+fn check_alone(alloc: Global, image: Verified) -> Result<Checked, Refusal> {
+    let interface = bare_interface(alloc);
+    let checked = check(alloc, &interface, image);
+    drop(interface);
+    checked
+}
+
 /// A fault as it is printed behind a file's name.
-fn told(alloc: Global, fault: &ImageFault) -> Result<String, Fail> {
-    let function = String::from_utf8_lossy(alloc, fault.function.as_slice())?;
-    let text = format!(in alloc;
-        "{}: image {} @{} {}",
-        fault.line,
-        fault.kind.number(),
-        function,
-        fault.place
-    )?;
-    Ok(text)
+fn told(alloc: Global, refusal: &Refusal) -> Result<String, Fail> {
+    match refusal {
+        Refusal::Fault(fault) => {
+            let text = format!(in alloc;
+                "{}: image {} @{} {}",
+                fault.line,
+                fault.kind.number(),
+                fault.function,
+                fault.place
+            )?;
+            Ok(text)
+        }
+        Refusal::Memory => Err(Fail::new("want of memory")),
+    }
 }
 
 /// What the checker says of a text.
 fn answer(alloc: Global, text: &str) -> Result<String, Fail> {
-    match check(
-        alloc,
-        &bare_interface(alloc),
-        verified(alloc, text.as_bytes())?,
-    ) {
+    let image = verified(alloc, text.as_bytes())?;
+    match check_alone(alloc, image) {
         Ok(checked) => {
             drop(checked);
             let accepted = String::from_str(alloc, "accepted")?;
             Ok(accepted)
         }
-        Err(Refusal::Fault(fault)) => told(alloc, &fault),
-        Err(Refusal::Memory) => Err(Fail::new("want of memory")),
+        Err(refusal) => {
+            let said = told(alloc, &refusal);
+            drop(refusal);
+            said
+        }
     }
+}
+
+/// Notes the first line of a part and what is said of its text, where the line does not begin so.
+fn note(wrong: &mut String, head: &str, said: &str) -> Result<(), Fail> {
+    if !head.starts_with(said) {
+        wrong.push_str(head)?;
+        wrong.push('\n')?;
+        wrong.push_str(said)?;
+        wrong.push('\n')?;
+    }
+    Ok(())
 }
 
 /// Compares what is said of the text of a part with what the part's first line wants, behind which stands why.
@@ -73,13 +97,9 @@ fn compare(alloc: Global, wrong: &mut String, part: &str) -> Result<(), Fail> {
         return Ok(());
     };
     let said = answer(alloc, text)?;
-    if !head.starts_with(said.as_str()) {
-        wrong.push_str(head)?;
-        wrong.push('\n')?;
-        wrong.push_str(said.as_str())?;
-        wrong.push('\n')?;
-    }
-    Ok(())
+    let noted = note(wrong, head, said.as_str());
+    drop(said);
+    noted
 }
 
 fn compare_all(alloc: Global, wrong: &mut String, table: &'static str) -> Result<(), Fail> {
@@ -94,28 +114,33 @@ fn compare_all(alloc: Global, wrong: &mut String, table: &'static str) -> Result
     compare(alloc, wrong, rest)
 }
 
-#[test]
-fn texts_are_accepted_or_their_first_fault_is_told(rt: HostRuntime) -> Result<(), Fail> {
-    let mut wrong = String::new(rt.alloc());
-    compare_all(rt.alloc(), &mut wrong, rows())?;
+/// Nothing is said of the texts of the table but what is wanted.
+fn assert_none_wrong(rt: &impl Abort, alloc: Global, wrong: &mut String) -> Result<(), Fail> {
+    compare_all(alloc, wrong, rows())?;
     assert_eq!(rt; wrong.as_str(), "");
     Ok(())
 }
 
+#[test]
+fn texts_are_accepted_or_their_first_fault_is_told(rt: HostRuntime) -> Result<(), Fail> {
+    let mut wrong = String::new(rt.alloc());
+    let compared = assert_none_wrong(&rt, rt.alloc(), &mut wrong);
+    drop(wrong);
+    compared
+}
+
 /// What the fault of a text says.
 fn fault_text(alloc: Global, text: &str) -> Result<String, Fail> {
-    match check(
-        alloc,
-        &bare_interface(alloc),
-        verified(alloc, text.as_bytes())?,
-    ) {
+    let image = verified(alloc, text.as_bytes())?;
+    match check_alone(alloc, image) {
         Ok(checked) => {
             drop(checked);
             Err(Fail::new("accepted"))
         }
-        Err(fault) => {
-            let text = format!(in alloc; "{fault}")?;
-            Ok(text)
+        Err(refusal) => {
+            let said = format!(in alloc; "{refusal}");
+            drop(refusal);
+            Ok(said?)
         }
     }
 }
@@ -124,22 +149,32 @@ fn fault_text(alloc: Global, text: &str) -> Result<String, Fail> {
 fn the_fault_of_an_image_says_what_is_wrong(rt: HostRuntime) -> Result<(), Fail> {
     let text =
         "@g = global i32 0\ndefine void @main() {\n0:\n  store i32 7, ptr @g\n  ret void\n}\n";
+    let said = fault_text(rt.alloc(), text)?;
     assert_eq!(rt;
-        fault_text(rt.alloc(), text)?.as_str(),
+        said.as_str(),
         "line 4: `@main`, instruction 0: a store or block write has no guard"
     );
     Ok(())
 }
 
+fn conflict(alloc: Global) -> Result<PropagateFault, Memory> {
+    let function = Name::from_bytes(alloc, b"h")?;
+    let first = Name::from_bytes(alloc, b"probe")?;
+    let second = Name::from_bytes(alloc, b"xmit")?;
+    Ok(PropagateFault::Conflict {
+        line: 4,
+        function,
+        first,
+        second,
+    })
+}
+
 #[test]
 fn two_slot_types_that_differ_are_told(rt: HostRuntime) -> Result<(), Fail> {
-    let fault = PropagateFault::Conflict {
-        line: 4,
-        function: Name::from_bytes(rt.alloc(), b"h")?,
-        first: Name::from_bytes(rt.alloc(), b"probe")?,
-        second: Name::from_bytes(rt.alloc(), b"xmit")?,
-    };
-    let text = format!(in rt.alloc(); "{fault}")?;
+    let fault = conflict(rt.alloc())?;
+    let said = format!(in rt.alloc(); "{fault}");
+    drop(fault);
+    let text = said?;
     assert_eq!(rt;
         text.as_str(),
         "line 4: `@h` gets the slot types `probe` and `xmit`, whose annotations differ"
@@ -148,19 +183,25 @@ fn two_slot_types_that_differ_are_told(rt: HostRuntime) -> Result<(), Fail> {
 }
 
 /// The text of the program of an image.
-fn program(alloc: Global, text: &str) -> Result<Vec<u8>, Fail> {
-    match check(
-        alloc,
-        &bare_interface(alloc),
-        verified(alloc, text.as_bytes())?,
-    ) {
+fn erased(alloc: Global, checked: &Checked) -> Result<Vec<u8>, Memory> {
+    let program = erase(alloc, checked)?;
+    let text = print(alloc, &program);
+    drop(program);
+    text
+}
+
+/// Whether a text is an image whose program has this text.
+fn has_program(alloc: Global, text: &str, wanted: &[u8]) -> Result<bool, Fail> {
+    let image = verified(alloc, text.as_bytes())?;
+    match check_alone(alloc, image) {
         Ok(checked) => {
-            let module = erase(alloc, &checked)?;
-            let printed = print(alloc, &module)?;
-            Ok(printed)
+            let erased = erased(alloc, &checked);
+            drop(checked);
+            let program = erased?;
+            Ok(program.as_slice() == wanted)
         }
-        Err(why) => {
-            drop(why);
+        Err(refusal) => {
+            drop(refusal);
             Err(Fail::new("refused"))
         }
     }
@@ -168,7 +209,7 @@ fn program(alloc: Global, text: &str) -> Result<Vec<u8>, Fail> {
 
 #[test]
 fn the_program_of_an_image_calls_its_imports(rt: HostRuntime) -> Result<(), Fail> {
-    let text = program(
+    let same = has_program(
         rt.alloc(),
         "declare void @f()
 @g = global ptr null
@@ -189,9 +230,7 @@ define void @lxfi.out.f() {
   ret void
 }
 ",
-    )?;
-    let same = text.as_slice()
-        == br#"@g = global ptr null
+        br#"@g = global ptr null
 declare void @f()
 define void @main(ptr %p) {
 0:
@@ -200,8 +239,8 @@ define void @main(ptr %p) {
   call void %p()
   ret void
 }
-"#
-            .as_slice();
+"#,
+    )?;
     assert!(rt; same);
     Ok(())
 }

@@ -4,8 +4,8 @@ ghost use Rattle.std.specs.Prelude.{◌≡◌, None, IfOk};
 ghost use Rattle.lx_ir.specs.Lawful.{IsPlain};
 ghost use Rattle.lx_propagate.specs.Slots.{annotated_of, conflict_of};
 
-use crate::check::verified;
-use crate::instrument_rows::{FUNCTION_LINES, ROWS, Row};
+use crate::check::{bare_interface, verified};
+use crate::instrument_rows::{FUNCTION_LINES, ROWS};
 use lx_annot::interface::Interface;
 use lx_instrument::{instrument, instrument_full};
 use lx_ir::print;
@@ -14,7 +14,7 @@ use lx_ir_read::{TextForm, read_module};
 use lx_ir_verify::{Verified, verify};
 use lx_propagate::propagate;
 use lx_slot_types::Annotated;
-use lx_words::{Items, Memory, put_decimal};
+use lx_words::{Memory, put_decimal};
 use std::alloc::Global;
 use std::test::Fail;
 
@@ -66,40 +66,44 @@ fn put_lines(out: &mut Vec<u8>, version: Version, lines: &'static str) -> Result
     Ok(())
 }
 
-/// The version of a row.
-fn text_of(alloc: Global, version: Version, lines: &'static str) -> Result<Vec<u8>, Memory> {
-    let mut text = Vec::new(alloc);
-    put_lines(&mut text, version, lines)?;
-    Ok(text)
-}
-
 fn put_function(out: &mut Vec<u8>, version: Version, number: u32) -> Result<(), Memory> {
     out.extend_from_slice(b"define i32 @f")?;
     put_decimal(out, i128::from(number))?;
     put_lines(out, version, FUNCTION_LINES)
 }
 
-/// The version of a module of many functions.
-fn text_of_many(alloc: Global, version: Version) -> Result<Vec<u8>, Memory> {
-    let mut text = Vec::new(alloc);
+fn put_functions(out: &mut Vec<u8>, version: Version) -> Result<(), Memory> {
     for number in 0..MANY {
-        put_function(&mut text, version, number)?;
+        put_function(out, version, number)?;
     }
+    Ok(())
+}
+
+/// What the texts of a module and of its images are made of.
+#[derive(Clone, Copy)]
+enum Source {
+    /// The lines of a row.
+    Lines(&'static str),
+    /// Many functions.
+    Many,
+}
+
+fn put_source(out: &mut Vec<u8>, version: Version, source: Source) -> Result<(), Memory> {
+    match source {
+        Source::Lines(lines) => put_lines(out, version, lines),
+        Source::Many => put_functions(out, version),
+    }
+}
+
+/// The text of a version.
+fn text_of(alloc: Global, version: Version, source: Source) -> Result<Vec<u8>, Memory> {
+    let mut text = Vec::new(alloc);
+    put_source(&mut text, version, source)?;
     Ok(text)
 }
 
-fn no_interface(alloc: Global) -> Interface {
-    Interface {
-        reftypes: Items::new(alloc),
-        iterators: Items::new(alloc),
-        slots: Items::new(alloc),
-        fields: Items::new(alloc),
-        exports: Items::new(alloc),
-    }
-}
-
 /// The verified module of a program's text.
-pub fn program(alloc: Global, text: &[u8]) -> Result<Verified, Fail>
+fn program(alloc: Global, text: &[u8]) -> Result<Verified, Fail>
     ensures { IfOk result IsPlain }
 {
     if text.len() > 1000000 {
@@ -112,7 +116,7 @@ pub fn program(alloc: Global, text: &[u8]) -> Result<Verified, Fail>
 }
 
 /// The image of a module, where `annotated` is what handing on slot types in it gives.
-pub fn image_by(
+fn image_by(
     alloc: Global,
     version: Version,
     i: &Interface,
@@ -129,49 +133,84 @@ pub fn image_by(
     }
 }
 
-/// The image of the module that a text says, printed.
-fn printed(alloc: Global, version: Version, i: &Interface, text: &[u8]) -> Result<Vec<u8>, Fail> {
-    let module = program(alloc, text)?;
-    let annotated = propagate(alloc, i, module.module())?;
-    let image = image_by(alloc, version, i, &module, &annotated)?;
-    let text = print(alloc, image.module())?;
-    Ok(text)
+/// The image of a module, printed; none where there is want of memory for it.
+fn printed_image(
+    alloc: Global,
+    version: Version,
+    i: &Interface,
+    m: &Verified,
+) -> Result<Option<Vec<u8>>, Fail>
+    requires { IsPlain m.now }
+{
+    let annotated = propagate(alloc, i, m.module())?;
+    let image = image_by(alloc, version, i, m, &annotated);
+    drop(annotated);
+    match image {
+        Ok(image) => {
+            let text = print(alloc, image.module());
+            drop(image);
+            Ok(Some(text?))
+        }
+        Err(Memory) => Ok(None),
+    }
 }
 
-/// The text of an image, read, verified and printed again.
-fn printed_again(alloc: Global, text: &[u8]) -> Result<Vec<u8>, Fail> {
+/// The image of the module that a text says, printed; none where there is want of memory for it.
+pub fn printed(
+    alloc: Global,
+    version: Version,
+    i: &Interface,
+    text: &[u8],
+) -> Result<Option<Vec<u8>>, Fail> {
+    let module = program(alloc, text)?;
+    let image = printed_image(alloc, version, i, &module);
+    drop(module);
+    image
+}
+
+/// Whether the image of a module is the text that is wanted.
+fn has_image(alloc: Global, version: Version, module: &[u8], wanted: &[u8]) -> Result<bool, Fail> {
+    let interface = bare_interface(alloc);
+    let image = printed(alloc, version, &interface, module);
+    drop(interface);
+    match image? {
+        Some(image) => Ok(image.as_slice() == wanted),
+        None => Ok(false),
+    }
+}
+
+/// Whether the text of an image is the same once it is read, verified and printed again.
+fn is_printed_again(alloc: Global, text: &[u8]) -> Result<bool, Fail> {
     let image = verified(alloc, text)?;
-    let text = print(alloc, image.module())?;
-    Ok(text)
+    let again = print(alloc, image.module());
+    drop(image);
+    let again = again?;
+    Ok(again.as_slice() == text)
 }
 
 /// Whether the image of a module is the text that is wanted, and that text is read as it was printed.
 fn is_wanted(alloc: Global, version: Version, module: &[u8], wanted: &[u8]) -> Result<bool, Fail> {
-    let image = printed(alloc, version, &no_interface(alloc), module)?;
-    let again = printed_again(alloc, image.as_slice())?;
-    Ok(image.as_slice() == wanted && again.as_slice() == wanted)
+    if !has_image(alloc, version, module, wanted)? {
+        return Ok(false);
+    }
+    is_printed_again(alloc, wanted)
 }
 
-fn row_is_wanted(alloc: Global, version: Version, row: &Row) -> Result<bool, Fail> {
-    let module = text_of(alloc, Version::Module, row.lines)?;
-    let wanted = text_of(alloc, version, row.lines)?;
+/// Whether the module of a source has the image that is wanted.
+fn image_is_wanted(alloc: Global, version: Version, source: Source) -> Result<bool, Fail> {
+    let module = text_of(alloc, Version::Module, source)?;
+    let wanted = text_of(alloc, version, source)?;
     is_wanted(alloc, version, module.as_slice(), wanted.as_slice())
 }
 
 /// The name of the first row that has another image than is wanted, or no name.
 fn first_wrong(alloc: Global, version: Version) -> Result<&'static str, Fail> {
     for row in &ROWS {
-        if !row_is_wanted(alloc, version, row)? {
+        if !image_is_wanted(alloc, version, Source::Lines(row.lines))? {
             return Ok(row.name);
         }
     }
     Ok("")
-}
-
-fn many_are_wanted(alloc: Global, version: Version) -> Result<bool, Fail> {
-    let module = text_of_many(alloc, Version::Module)?;
-    let wanted = text_of_many(alloc, version)?;
-    is_wanted(alloc, version, module.as_slice(), wanted.as_slice())
 }
 
 #[test]
@@ -190,9 +229,9 @@ fn spared_stores_have_none(rt: HostRuntime) -> Result<(), Fail> {
 
 #[test]
 fn many_functions_have_their_images(rt: HostRuntime) -> Result<(), Fail> {
-    let full = many_are_wanted(rt.alloc(), Version::Full)?;
+    let full = image_is_wanted(rt.alloc(), Version::Full, Source::Many)?;
     assert!(rt; full);
-    let spared = many_are_wanted(rt.alloc(), Version::Spared)?;
+    let spared = image_is_wanted(rt.alloc(), Version::Spared, Source::Many)?;
     assert!(rt; spared);
     Ok(())
 }

@@ -1,18 +1,17 @@
 //! Modules that have an image or none by the names of their functions with slot types.
 
-use crate::instrument::{Version, image_by, program};
+use crate::instrument::{Version, printed};
 use lx_annot::action::{Actions, Annotation};
 use lx_annot::expr::Ty;
 use lx_annot::interface::{Field, Interface, Slot};
-use lx_propagate::propagate;
 use lx_words::{Items, Memory, Name};
 use std::alloc::Global;
 use std::test::Fail;
 
-/// A slot type of functions without parameters, results and actions.
-fn slot(alloc: Global) -> Result<Slot, Memory> {
+/// One slot type, of functions without parameters, results and actions.
+fn slots(alloc: Global) -> Result<Items<Slot>, Memory> {
     let name = Name::from_bytes(alloc, b"op")?;
-    Ok(Slot {
+    let slot = Slot {
         name,
         params: Items::new(alloc),
         ret: Ty::Void,
@@ -22,26 +21,28 @@ fn slot(alloc: Global) -> Result<Slot, Memory> {
             post: Actions::new(alloc),
         },
         line: 1,
-    })
+    };
+    let slots = vec![in alloc; slot]?;
+    Ok(Items::from_vec(slots))
 }
 
 /// The first field of `ops`, which has the first slot type.
-fn field(alloc: Global) -> Result<Field, Memory> {
+fn fields(alloc: Global) -> Result<Items<Field>, Memory> {
     let name = Name::from_bytes(alloc, b"ops")?;
-    Ok(Field {
+    let field = Field {
         name,
         index: 0,
         slot: 0,
         line: 2,
-    })
+    };
+    let fields = vec![in alloc; field]?;
+    Ok(Items::from_vec(fields))
 }
 
 /// An interface in which the first field of `ops` has a slot type.
 fn one_slot(alloc: Global) -> Result<Interface, Memory> {
-    let mut slots = Items::new(alloc);
-    slots.push(slot(alloc)?)?;
-    let mut fields = Items::new(alloc);
-    fields.push(field(alloc)?)?;
+    let slots = slots(alloc)?;
+    let fields = fields(alloc)?;
     Ok(Interface {
         reftypes: Items::new(alloc),
         iterators: Items::new(alloc),
@@ -53,16 +54,10 @@ fn one_slot(alloc: Global) -> Result<Interface, Memory> {
 
 /// Whether the module of a text has an image; it has none where there is want of memory.
 fn has_image(alloc: Global, version: Version, text: &[u8]) -> Result<bool, Fail> {
-    let i = one_slot(alloc)?;
-    let module = program(alloc, text)?;
-    let annotated = propagate(alloc, &i, module.module())?;
-    match image_by(alloc, version, &i, &module, &annotated) {
-        Ok(image) => {
-            drop(image);
-            Ok(true)
-        }
-        Err(Memory) => Ok(false),
-    }
+    let interface = one_slot(alloc)?;
+    let image = printed(alloc, version, &interface, text);
+    drop(interface);
+    Ok(image?.is_some())
 }
 
 /// Whether the module of a text has both images, or neither.

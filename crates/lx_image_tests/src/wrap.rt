@@ -70,62 +70,30 @@ fn module_of(alloc: Global, imports: &[(&'static [u8], Option<Scalar>)]) -> Resu
     })
 }
 
-/// The module with the wrapper of its first function, printed.
-fn printed(
+/// Which wrappers a module gets.
+#[derive(Clone, Copy)]
+enum Wrapped {
+    /// That of its first function, which has so many actions before and behind its body.
+    First(u32, u32, Side),
+    /// All, where `f` is exported twice.
+    All,
+}
+
+/// The wrapper of the first function, which has so many actions before and behind its body.
+fn first_wrapper(
     alloc: Global,
-    m: &mut Module,
-    annotation: &Annotation,
+    m: &Module,
+    pre: u32,
+    post: u32,
     side: Side,
-) -> Result<Vec<u8>, Memory> {
+) -> Result<Function, Memory> {
     if m.functions.len() < 1 {
         return Err(Memory);
     }
-    let made = wrapper(alloc, m, 0, annotation, side)?;
-    m.functions.push(made)?;
-    print(alloc, m)
-}
-
-#[test]
-fn a_wrapper_returns_what_the_call_gave(rt: HostRuntime) -> Result<(), Fail> {
-    let alloc = rt.alloc();
-    let mut m = module_of(alloc, &[(b"f", Some(Scalar::Int(Width::W32)))])?;
-    let text = printed(alloc, &mut m, &annotation(alloc, 1, 2)?, Side::Out)?;
-    let same = text.as_slice()
-        == br#"declare i32 @f(ptr, i32)
-define i32 @lxfi.out.f(ptr %0, i32 %1) {
-0:
-  call void @lxfi.enter(ptr @f)
-  call void @lxfi.pre(ptr @f, i32 0)
-  %r = call i32 @f(ptr %0, i32 %1)
-  call void @lxfi.post(ptr @f, i32 0)
-  call void @lxfi.post(ptr @f, i32 1)
-  call void @lxfi.leave(ptr @f)
-  ret i32 %r
-}
-"#
-            .as_slice();
-    assert!(rt; same);
-    Ok(())
-}
-
-#[test]
-fn a_wrapper_may_return_nothing(rt: HostRuntime) -> Result<(), Fail> {
-    let alloc = rt.alloc();
-    let mut m = module_of(alloc, &[(b"f", None)])?;
-    let text = printed(alloc, &mut m, &annotation(alloc, 0, 0)?, Side::In)?;
-    let same = text.as_slice()
-        == br#"declare void @f(ptr, i32)
-define void @lxfi.in.f(ptr %0, i32 %1) {
-0:
-  call void @lxfi.enter(ptr @f)
-  call void @f(ptr %0, i32 %1)
-  call void @lxfi.leave(ptr @f)
-  ret void
-}
-"#
-            .as_slice();
-    assert!(rt; same);
-    Ok(())
+    let annotation = annotation(alloc, pre, post)?;
+    let made = wrapper(alloc, m, 0, &annotation, side);
+    drop(annotation);
+    made
 }
 
 /// An interface that exports `f` twice, first with an action before the body.
@@ -158,24 +126,97 @@ fn all_wrappers(alloc: Global, i: &Interface, m: &Module) -> Result<Vec<Function
     wrappers(alloc, i, m, &Annotated::new(alloc))
 }
 
-/// The module with all its wrappers, printed.
-fn printed_all(alloc: Global, i: &Interface, mut m: Module) -> Result<Vec<u8>, Memory> {
-    for made in all_wrappers(alloc, i, &m)? {
+/// The wrappers of a module where `f` is exported twice.
+fn every_wrapper(alloc: Global, m: &Module) -> Result<Vec<Function>, Memory> {
+    let interface = exports_twice(alloc)?;
+    let made = all_wrappers(alloc, &interface, m);
+    drop(interface);
+    made
+}
+
+fn wrappers_of(alloc: Global, m: &Module, wrapped: Wrapped) -> Result<Vec<Function>, Memory> {
+    match wrapped {
+        Wrapped::First(pre, post, side) => {
+            let made = first_wrapper(alloc, m, pre, post, side)?;
+            let list = vec![in alloc; made]?;
+            Ok(list)
+        }
+        Wrapped::All => every_wrapper(alloc, m),
+    }
+}
+
+/// The module with its wrappers behind its functions, printed.
+fn printed(alloc: Global, m: &mut Module, wrapped: Wrapped) -> Result<Vec<u8>, Memory> {
+    for made in wrappers_of(alloc, m, wrapped)? {
         m.functions.push(made)?;
     }
-    print(alloc, &m)
+    print(alloc, m)
+}
+
+/// Whether a module of these imports is printed so with its wrappers.
+fn is_printed(
+    alloc: Global,
+    imports: &[(&'static [u8], Option<Scalar>)],
+    wrapped: Wrapped,
+    wanted: &[u8],
+) -> Result<bool, Memory> {
+    let mut m = module_of(alloc, imports)?;
+    let printed = printed(alloc, &mut m, wrapped);
+    drop(m);
+    let text = printed?;
+    Ok(text.as_slice() == wanted)
+}
+
+#[test]
+fn a_wrapper_returns_what_the_call_gave(rt: HostRuntime) -> Result<(), Fail> {
+    let same = is_printed(
+        rt.alloc(),
+        &[(b"f", Some(Scalar::Int(Width::W32)))],
+        Wrapped::First(1, 2, Side::Out),
+        br#"declare i32 @f(ptr, i32)
+define i32 @lxfi.out.f(ptr %0, i32 %1) {
+0:
+  call void @lxfi.enter(ptr @f)
+  call void @lxfi.pre(ptr @f, i32 0)
+  %r = call i32 @f(ptr %0, i32 %1)
+  call void @lxfi.post(ptr @f, i32 0)
+  call void @lxfi.post(ptr @f, i32 1)
+  call void @lxfi.leave(ptr @f)
+  ret i32 %r
+}
+"#,
+    )?;
+    assert!(rt; same);
+    Ok(())
+}
+
+#[test]
+fn a_wrapper_may_return_nothing(rt: HostRuntime) -> Result<(), Fail> {
+    let same = is_printed(
+        rt.alloc(),
+        &[(b"f", None)],
+        Wrapped::First(0, 0, Side::In),
+        br#"declare void @f(ptr, i32)
+define void @lxfi.in.f(ptr %0, i32 %1) {
+0:
+  call void @lxfi.enter(ptr @f)
+  call void @f(ptr %0, i32 %1)
+  call void @lxfi.leave(ptr @f)
+  ret void
+}
+"#,
+    )?;
+    assert!(rt; same);
+    Ok(())
 }
 
 #[test]
 fn imports_have_wrappers_by_their_first_exports(rt: HostRuntime) -> Result<(), Fail> {
-    let alloc = rt.alloc();
-    let m = module_of(
-        alloc,
+    let same = is_printed(
+        rt.alloc(),
         &[(b"lxfi_princ_alias", None), (b"g", None), (b"f", None)],
-    )?;
-    let text = printed_all(alloc, &exports_twice(alloc)?, m)?;
-    let same = text.as_slice()
-        == br#"declare void @lxfi_princ_alias(ptr, i32)
+        Wrapped::All,
+        br#"declare void @lxfi_princ_alias(ptr, i32)
 declare void @g(ptr, i32)
 declare void @f(ptr, i32)
 define void @lxfi.out.g(ptr %0, i32 %1) {
@@ -193,8 +234,8 @@ define void @lxfi.out.f(ptr %0, i32 %1) {
   call void @lxfi.leave(ptr @f)
   ret void
 }
-"#
-            .as_slice();
+"#,
+    )?;
     assert!(rt; same);
     Ok(())
 }

@@ -1,8 +1,8 @@
 //! The checksum of the Internet protocols: `examples/c/checksum.ll`, and its module as it is printed.
 
 /// Its module: no word or line that is passed over, each block with its label, each constant pointer by its offset.
-pub static PRINTED: &[u8] =
-    br#"@packet = constant [21 x i8] c"E\00\00<\1CF@\00@\06\00\00\AC\10\0Ac\AC\10\0A\0C\00"
+pub fn checksum_printed() -> &'static str {
+    r#"@packet = constant [21 x i8] c"E\00\00<\1CF@\00@\06\00\00\AC\10\0Ac\AC\10\0A\0C\00"
 define i16 @checksum(ptr %0, i32 %1) {
 2:
   %3 = alloca ptr
@@ -99,4 +99,5 @@ define i32 @checksum_of_packet() {
   %2 = zext i16 %1 to i32
   ret i32 %2
 }
-"#;
+"#
+}

@@ -1,7 +1,8 @@
 //! A driver with a table of operations: `examples/c/driver.ll`, and its module as it is printed.
 
 /// Its module: no word or line that is passed over, each block with its label, each constant pointer by its offset.
-pub static PRINTED: &[u8] = br#"%struct.device_ops = type { ptr, ptr, ptr }
+pub fn driver_printed() -> &'static str {
+    r#"%struct.device_ops = type { ptr, ptr, ptr }
 %struct.device = type { ptr, i32, i64, [8 x i8] }
 @ops = constant %struct.device_ops { ptr @driver_open, ptr @driver_write, ptr @driver_close }
 declare ptr @kmalloc(i64)
@@ -127,4 +128,5 @@ define void @driver_close(ptr %0) {
 15:
   ret void
 }
-"#;
+"#
+}

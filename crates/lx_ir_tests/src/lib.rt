@@ -8,11 +8,11 @@ mod reprint;
 pub use reprint::reprinted;
 
 #[cfg(test)]
+mod alone;
+#[cfg(test)]
 mod c_files;
 #[cfg(test)]
 mod checksum;
-#[cfg(test)]
-mod common;
 #[cfg(test)]
 mod constants;
 #[cfg(test)]
@@ -20,11 +20,15 @@ mod driver;
 #[cfg(test)]
 mod instructions;
 #[cfg(test)]
+mod known;
+#[cfg(test)]
 mod modules;
 #[cfg(test)]
 mod operands;
 #[cfg(test)]
 mod ring;
+#[cfg(test)]
+mod short_texts;
 #[cfg(test)]
 mod statements;
 #[cfg(test)]

@@ -1,7 +1,8 @@
 //! A ring buffer of bytes: `examples/c/ring.ll`, and its module as it is printed.
 
 /// Its module: no word or line that is passed over, each block with its label, each constant pointer by its offset.
-pub static PRINTED: &[u8] = br#"%struct.ring = type { [16 x i8], i32, i32 }
+pub fn ring_printed() -> &'static str {
+    r#"%struct.ring = type { [16 x i8], i32, i32 }
 @ring = global %struct.ring zeroinitializer
 define i32 @ring_put(i8 %0) {
 1:
@@ -106,4 +107,5 @@ define i32 @ring_sum(i32 %0) {
   %22 = load i32, ptr %3
   ret i32 %22
 }
-"#;
+"#
+}

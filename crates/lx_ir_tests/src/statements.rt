@@ -1,54 +1,27 @@
 //! Statements from text, as the printer writes them, and their faults.
 
-use lx_ir::module::{Block, Function, GlobalVar, Module, Parameter};
+use crate::alone::{
+    body_is_printed, function_is_printed, function_with, global_is_printed, type_is_printed,
+};
+use crate::known::meaning;
+use crate::short_texts::{Outcome, Rule, answer_of, is_refused, outcome_of};
+use lx_ir::module::{Block, Function, GlobalVar, Parameter};
 use lx_ir::types::{NamedType, Scalar};
-use lx_ir::{NamedTypes, print};
 use lx_ir_statements::{Defined, Statement, TextForm, statement};
-use lx_ir_terms::{Context, Fault, FaultKind, ReadError, Reader};
-use lx_ir_tokens::{IrTokens, read_tokens};
-use lx_words::{Items, Memory, Name, Names};
+use lx_ir_terms::{Context, FaultKind, ReadError, Reader};
+use lx_ir_tokens::{IrTokens, NameTable};
+use lx_words::{Items, Memory, Name, Token};
 use std::alloc::Global;
-use std::test::Fail;
+use std::process::Abort;
 
-/// What the texts of these tests mean: each name is the register of its number, and nothing else is known yet.
-fn meaning<'a>(tokens: &'a IrTokens, registers: &'a [Option<u32>]) -> Context<'a> {
-    Context {
-        types: &[],
-        symbols: &[],
-        registers,
-        named: &[],
-        layouts: &[],
-        limits: None,
-        names: &tokens.names,
-        complete: false,
-    }
-}
-
-/// The registers of the names, each with the number of its name.
-fn registers(alloc: Global, tokens: &IrTokens) -> Result<Items<Option<u32>>, Memory> {
-    let mut registers = Items::new(alloc);
-    for number in 0..tokens.names.len() {
-        registers.push(Some(number))?;
-    }
-    Ok(registers)
-}
-
-/// All names of a text.
-fn names(alloc: Global, tokens: &IrTokens) -> Result<Names, Memory> {
-    let mut names = Items::new(alloc);
-    for number in 0..tokens.names.len() {
-        let name = Items::from_bytes(alloc, tokens.names.name(number))?;
-        names.push(name)?;
-    }
-    Ok(names)
-}
-
-/// A name by its number; none for one that the table lacks.
-fn name_of(alloc: Global, tokens: &IrTokens, number: u32) -> Result<Name, Memory> {
-    if number < tokens.names.len() {
-        return Ok(Items::from_bytes(alloc, tokens.names.name(number))?);
-    }
-    Ok(Items::new(alloc))
+/// What is asked of the statements of a text.
+#[derive(Clone, Copy)]
+pub enum Asked<'a> {
+    /// Whether the last one is printed so, as a module that has it alone. Before a function stand the names of its
+    /// parameters, and it is printed without them, so that its registers are the names of the text.
+    Last(&'a [u8]),
+    /// Whether the first one is a function of two blocks of one instruction, in these lines.
+    Lines(u32, u32),
 }
 
 /// The parameters of these types without names.
@@ -61,456 +34,523 @@ fn nameless(alloc: Global, types: &[Scalar]) -> Result<Items<Parameter>, Memory>
     Ok(params)
 }
 
-/// A module without anything.
-fn empty(alloc: Global) -> Module {
-    Module {
-        types: NamedTypes::empty(alloc),
-        globals: Items::new(alloc),
-        functions: Items::new(alloc),
-    }
-}
-
-/// The module with one function of this result, these parameters and these blocks.
-fn with_function(
+fn import_is_printed(
     alloc: Global,
     name: Name,
-    params: Items<Parameter>,
-    locals: Names,
     ret: Option<Scalar>,
-    blocks: Option<Items<Block>>,
-) -> Result<Module, Memory> {
-    let mut module = empty(alloc);
-    module.functions.push(Function {
-        name,
-        params,
-        locals,
-        ret,
-        blocks,
-        line: 1,
-    })?;
-    Ok(module)
-}
-
-/// The names of parameters, each with a space behind it.
-fn names_text(alloc: Global, params: &[Parameter]) -> Result<Vec<u8>, Memory> {
-    let mut text = Vec::new(alloc);
-    for param in params {
-        text.extend_from_slice(param.name.as_slice())?;
-        text.push(b' ')?;
-    }
-    Ok(text)
-}
-
-/// The text of a statement, as a module that has it alone. Before a function stand the names of its parameters, and it is
-/// printed without them, so that its registers are the names of the text.
-fn printed(alloc: Global, tokens: &IrTokens, statement: Statement) -> Result<Vec<u8>, Memory> {
-    match statement {
-        Statement::Type { name, ty } => {
-            let name = name_of(alloc, tokens, name)?;
-            let mut module = empty(alloc);
-            let mut entries = Items::new(alloc);
-            entries.push(NamedType { name, ty })?;
-            module.types = NamedTypes::new(alloc, entries)?;
-            print(alloc, &module)
+    types: Items<Scalar>,
+    wanted: &[u8],
+) -> Result<bool, Memory> {
+    let params = nameless(alloc, types.as_slice());
+    drop(types);
+    match params {
+        Ok(params) => {
+            let function = function_with(alloc, name, params, ret, None);
+            function_is_printed(alloc, function, wanted)
         }
+        Err(error) => {
+            drop(name);
+            Err(error)
+        }
+    }
+}
+
+/// What stands in a text behind the names of parameters, each with a space behind it, if they stand there.
+fn behind_names<'a>(params: &[Parameter], text: &'a [u8]) -> Option<&'a [u8]> {
+    let mut rest = text;
+    for param in params {
+        let named = rest.strip_prefix(param.name.as_slice())?;
+        rest = named.strip_prefix(b" ")?;
+    }
+    Some(rest)
+}
+
+/// Whether a function is printed so, behind the names of these parameters.
+fn defined_is_printed(
+    alloc: Global,
+    names: &NameTable,
+    function: Function,
+    params: Items<Parameter>,
+    wanted: &[u8],
+) -> Result<bool, Memory> {
+    let rest = behind_names(params.as_slice(), wanted);
+    drop(params);
+    match rest {
+        Some(rest) => body_is_printed(alloc, names, function, rest),
+        None => {
+            drop(function);
+            Ok(false)
+        }
+    }
+}
+
+/// Whether a statement with this name is printed so.
+fn named_is_printed(
+    alloc: Global,
+    names: &NameTable,
+    name: Name,
+    statement: Statement,
+    wanted: &[u8],
+) -> Result<bool, Memory> {
+    match statement {
+        Statement::Type { ty, .. } => type_is_printed(alloc, NamedType { name, ty }, wanted),
         Statement::Global {
-            name,
             constant,
             ty,
             init,
+            ..
         } => {
-            let name = name_of(alloc, tokens, name)?;
-            let mut module = empty(alloc);
-            module.globals.push(GlobalVar {
+            let global = GlobalVar {
                 name,
                 constant,
                 ty,
                 init,
                 line: 1,
-            })?;
-            print(alloc, &module)
+            };
+            global_is_printed(alloc, global, wanted)
         }
-        Statement::Import { name, ret, params } => {
-            let name = name_of(alloc, tokens, name)?;
-            let params = nameless(alloc, params.as_slice())?;
-            let module = with_function(alloc, name, params, Items::new(alloc), ret, None)?;
-            print(alloc, &module)
+        Statement::Import { ret, params, .. } => {
+            import_is_printed(alloc, name, ret, params, wanted)
         }
         Statement::Function {
-            name,
             ret,
             params,
             blocks,
+            ..
         } => {
-            let name = name_of(alloc, tokens, name)?;
-            let locals = names(alloc, tokens)?;
-            let mut text = names_text(alloc, params.as_slice())?;
-            let module = with_function(alloc, name, Items::new(alloc), locals, ret, Some(blocks))?;
-            let rest = print(alloc, &module)?;
-            text.extend_from_slice(rest.as_slice())?;
-            Ok(text)
+            let function = function_with(alloc, name, Items::new(alloc), ret, Some(blocks));
+            defined_is_printed(alloc, names, function, params, wanted)
         }
     }
 }
 
-/// The printed text of the last statement of a text, or the first fault.
-fn last_printed(alloc: Global, text: &[u8]) -> Result<Result<Vec<u8>, Fault>, Memory> {
-    if text.len() > 1000 {
-        return Err(Memory);
+/// The name of a statement; no bytes for a number that the table lacks.
+fn name_of<'a>(names: &'a NameTable, statement: &Statement) -> &'a [u8] {
+    let number = match statement {
+        Statement::Type { name, .. }
+        | Statement::Global { name, .. }
+        | Statement::Import { name, .. }
+        | Statement::Function { name, .. } => *name,
+    };
+    if number < names.len() {
+        names.name(number)
+    } else {
+        &[]
     }
-    let tokens = read_tokens(alloc, text)?;
-    let registers = registers(alloc, &tokens)?;
-    let context = meaning(&tokens, registers.as_slice());
-    let mut reader = Reader::new(tokens.toks.as_slice());
-    let mut defined = Defined::new(alloc);
-    let mut last = Vec::new(alloc);
+}
+
+fn statement_is_printed(
+    alloc: Global,
+    names: &NameTable,
+    statement: Statement,
+    wanted: &[u8],
+) -> Result<bool, Memory> {
+    let name = Items::from_bytes(alloc, name_of(names, &statement));
+    match name {
+        Ok(name) => named_is_printed(alloc, names, name, statement, wanted),
+        Err(_) => {
+            drop(statement);
+            Err(Memory)
+        }
+    }
+}
+
+/// Whether a block has one instruction, in this line.
+fn has_line(block: &Block, line: u32) -> bool {
+    match block.instrs.as_slice() {
+        [instr] => instr.line == line,
+        _ => false,
+    }
+}
+
+/// Whether a statement is a function of two blocks of one instruction, in these lines.
+fn has_lines(statement: &Statement, one: u32, other: u32) -> bool {
+    match statement {
+        Statement::Function { blocks, .. } => match blocks.as_slice() {
+            [first, second] => has_line(first, one) && has_line(second, other),
+            _ => false,
+        },
+        _ => false,
+    }
+}
+
+/// The statements that have been read, and what they define.
+#[derive(Drop)]
+struct Read {
+    defined: Defined,
+    statements: Vec<Statement>,
+}
+
+/// Reads a statement more.
+fn read_next(
+    alloc: Global,
+    reader: &mut Reader<'_>,
+    context: &Context<'_>,
+    places: &[Token],
+    read: &mut Read,
+) -> Result<(), ReadError> {
+    let form = TextForm::Program;
+    let next = statement(alloc, reader, context, form, places, &read.defined)?;
+    let defined = read.defined.define(context, &next);
+    read.statements.push(next)?;
+    defined?;
+    Ok(())
+}
+
+/// Reads all statements.
+fn read_all(
+    alloc: Global,
+    tokens: &IrTokens,
+    registers: &[Option<u32>],
+    reader: &mut Reader<'_>,
+    read: &mut Read,
+) -> Result<(), ReadError> {
+    let context = meaning(tokens, registers, &[], false);
     for _ in 0..reader.left() {
         if reader.left() == 0 {
             break;
         }
-        let places = tokens.places.as_slice();
-        match statement(
-            alloc,
-            &mut reader,
-            &context,
-            TextForm::Program,
-            places,
-            &defined,
-        ) {
-            Ok(next) => {
-                defined.define(&context, &next)?;
-                last = printed(alloc, &tokens, next)?;
-            }
-            Err(ReadError::Fault(fault)) => return Ok(Err(fault)),
-            Err(ReadError::Memory) => return Err(Memory),
-        }
-    }
-    Ok(Ok(last))
-}
-
-/// A text, and what is printed for its last statement.
-#[derive(Drop)]
-struct Said(&'static [u8], &'static [u8]);
-
-static SAID: [Said; 14] = [
-    Said(
-        b"%t = type <{ i8, [2 x ptr] }>",
-        b"%t = type <{ i8, [2 x ptr] }>\n",
-    ),
-    Said(b"%u = type {} %\"t x\" = type {}", b"%\"t x\" = type {}\n"),
-    Said(
-        b"@g = private unnamed_addr constant [2 x i8] c\"a\\00\", align 1",
-        b"@g = constant [2 x i8] c\"a\\00\"\n",
-    ),
-    Said(b"@g = dso_local global i32 7", b"@g = global i32 7\n"),
-    Said(
-        b"declare noundef dso_local ptr @f(i32 noundef %a, ptr align 8 captures(none), i1 %a) #3 nounwind section \"s\"",
-        b"declare ptr @f(i32, ptr, i1)\n",
-    ),
-    Said(
-        b"declare void @llvm.memset.p0.i32(ptr) declare void @llvm.memset.p0.i32() align 4",
-        b"declare void @llvm.memset.p0.i32()\n",
-    ),
-    Said(
-        b"%f = type {} define void @f() { unreachable }",
-        b"define void @f() {\n0:\n  unreachable\n}\n",
-    ),
-    Said(
-        b"define i32 @f(i32 noundef %a, i32, i32 %07, ptr) #0 nounwind { ret i32 %a }",
-        b"a 0 07 2 define i32 @f() {\n3:\n  ret i32 %a\n}\n",
-    ),
-    Said(b"define void @f() { }", b"define void @f() {\n0:\n}\n"),
-    Said(
-        b"define void @f() { a: 7: ret void }",
-        b"define void @f() {\na:\n7:\n  ret void\n}\n",
-    ),
-    Said(
-        b"define void @f(i1 %a) { br label %a a: br i1 %a, label %f, label %a f: unreachable }",
-        b"a define void @f() {\n0:\n  br label %a\na:\n  br i1 %a, label %f, label %a\nf:\n  unreachable\n}\n",
-    ),
-    Said(
-        b"define void @f() { %r = freeze i8 1 ret: ret void, !a !1 ret2: }",
-        b"define void @f() {\n0:\n  %r = freeze i8 1\nret:\n  ret void\nret2:\n}\n",
-    ),
-    Said(
-        b"define void @f() { call void %f() nounwind add: call void %f() }",
-        b"define void @f() {\n0:\n  call void %f()\nadd:\n  call void %f()\n}\n",
-    ),
-    Said(
-        b"define void @f() { ret void } define internal hidden zeroext i8 @g() comdat { %f = freeze i8 1 ret i8 %f }",
-        b"define i8 @g() {\n0:\n  %f = freeze i8 1\n  ret i8 %f\n}\n",
-    ),
-];
-
-#[test]
-fn statements_read_as_they_are_printed(rt: HostRuntime) -> Result<(), Fail> {
-    let alloc = rt.alloc();
-    for said in SAID.iter() {
-        let Ok(text) = last_printed(alloc, said.0)? else {
-            return Err(Fail::new("a text has a fault"));
-        };
-        assert!(rt; text.as_slice() == said.1);
+        read_next(alloc, reader, &context, tokens.places.as_slice(), read)?;
     }
     Ok(())
 }
 
-/// A text in two pieces, and its fault, which is at the first token of the second piece, or at the end where that has none.
-#[derive(Drop)]
-struct Faulty(&'static [u8], &'static [u8], FaultKind);
+fn answer(
+    alloc: Global,
+    names: &NameTable,
+    statements: &mut Vec<Statement>,
+    asked: Asked<'_>,
+) -> Result<bool, Memory> {
+    match asked {
+        Asked::Last(wanted) => match statements.pop() {
+            Some(last) => statement_is_printed(alloc, names, last, wanted),
+            None => Ok(false),
+        },
+        Asked::Lines(one, other) => match statements.as_slice().first() {
+            Some(first) => Ok(has_lines(first, one, other)),
+            None => Ok(false),
+        },
+    }
+}
 
-static FAULTY: [Faulty; 74] = [
-    Faulty(b"", b"foo", FaultKind::OutOfProfile),
-    Faulty(b"", b"global", FaultKind::Statement),
-    Faulty(b"", b"7", FaultKind::Statement),
-    Faulty(b"%t = type ", b"opaque", FaultKind::OutOfProfile),
-    Faulty(b"%t = type ", b"i32", FaultKind::Statement),
-    Faulty(b"%t = type ", b"[2 x i8]", FaultKind::Statement),
-    Faulty(b"%t = type ", b"%u", FaultKind::Statement),
-    Faulty(b"%t = type <", b"i8, i8>", FaultKind::Statement),
-    Faulty(b"%t = type { ", b"void }", FaultKind::Statement),
-    Faulty(b"%t = type { i8", b"", FaultKind::Statement),
-    Faulty(b"%t = ", b"foo {}", FaultKind::Statement),
-    Faulty(b"%t ", b"type {}", FaultKind::Statement),
-    Faulty(b"%t = type {} ", b"%t foo", FaultKind::Twice),
-    Faulty(b"@g = ", b"i32 global", FaultKind::OutOfProfile),
-    Faulty(b"@g = ", b"noundef global i32 0", FaultKind::OutOfProfile),
-    Faulty(b"@g = ", b"external global i32", FaultKind::OutOfProfile),
-    Faulty(b"@g = private ", b"7", FaultKind::Statement),
-    Faulty(b"@g = global ", b"dso_local i32 0", FaultKind::Statement),
-    Faulty(b"@g = global ", b"void 0", FaultKind::Statement),
-    Faulty(b"@g = global i32 ", b"foo", FaultKind::OutOfProfile),
+/// Reads the statements of a text, and says whether what is asked of them is so.
+pub fn statements_are(
+    alloc: Global,
+    tokens: &IrTokens,
+    registers: &[Option<u32>],
+    reader: &mut Reader<'_>,
+    asked: Asked<'_>,
+) -> Result<bool, ReadError> {
+    let mut read = Read {
+        defined: Defined::new(alloc),
+        statements: Vec::new(alloc),
+    };
+    match read_all(alloc, tokens, registers, reader, &mut read) {
+        Ok(()) => {
+            let answer = answer(alloc, &tokens.names, &mut read.statements, asked);
+            drop(read);
+            Ok(answer?)
+        }
+        Err(error) => {
+            drop(read);
+            Err(error)
+        }
+    }
+}
+
+/// A text, and what is printed for its last statement.
+struct Said(&'static str, &'static str);
+
+static SAID: [Said; 14] = [
+    Said(
+        "%t = type <{ i8, [2 x ptr] }>",
+        "%t = type <{ i8, [2 x ptr] }>\n",
+    ),
+    Said("%u = type {} %\"t x\" = type {}", "%\"t x\" = type {}\n"),
+    Said(
+        "@g = private unnamed_addr constant [2 x i8] c\"a\\00\", align 1",
+        "@g = constant [2 x i8] c\"a\\00\"\n",
+    ),
+    Said("@g = dso_local global i32 7", "@g = global i32 7\n"),
+    Said(
+        "declare noundef dso_local ptr @f(i32 noundef %a, ptr align 8 captures(none), i1 %a) #3 nounwind section \"s\"",
+        "declare ptr @f(i32, ptr, i1)\n",
+    ),
+    Said(
+        "declare void @llvm.memset.p0.i32(ptr) declare void @llvm.memset.p0.i32() align 4",
+        "declare void @llvm.memset.p0.i32()\n",
+    ),
+    Said(
+        "%f = type {} define void @f() { unreachable }",
+        "define void @f() {\n0:\n  unreachable\n}\n",
+    ),
+    Said(
+        "define i32 @f(i32 noundef %a, i32, i32 %07, ptr) #0 nounwind { ret i32 %a }",
+        "a 0 07 2 define i32 @f() {\n3:\n  ret i32 %a\n}\n",
+    ),
+    Said("define void @f() { }", "define void @f() {\n0:\n}\n"),
+    Said(
+        "define void @f() { a: 7: ret void }",
+        "define void @f() {\na:\n7:\n  ret void\n}\n",
+    ),
+    Said(
+        "define void @f(i1 %a) { br label %a a: br i1 %a, label %f, label %a f: unreachable }",
+        "a define void @f() {\n0:\n  br label %a\na:\n  br i1 %a, label %f, label %a\nf:\n  unreachable\n}\n",
+    ),
+    Said(
+        "define void @f() { %r = freeze i8 1 ret: ret void, !a !1 ret2: }",
+        "define void @f() {\n0:\n  %r = freeze i8 1\nret:\n  ret void\nret2:\n}\n",
+    ),
+    Said(
+        "define void @f() { call void %f() nounwind add: call void %f() }",
+        "define void @f() {\n0:\n  call void %f()\nadd:\n  call void %f()\n}\n",
+    ),
+    Said(
+        "define void @f() { ret void } define internal hidden zeroext i8 @g() comdat { %f = freeze i8 1 ret i8 %f }",
+        "define i8 @g() {\n0:\n  %f = freeze i8 1\n  ret i8 %f\n}\n",
+    ),
+];
+
+fn assert_said(rt: &impl Abort, alloc: Global, rows: &[Said]) {
+    for (number, row) in rows.iter().enumerate() {
+        let rule = Rule::Statements(Asked::Last(row.1.as_bytes()));
+        assert!(rt;
+            answer_of(alloc, row.0.as_bytes(), rule) == Some(true),
+            "row {number}"
+        );
+    }
+}
+
+#[test]
+fn statements_read_as_they_are_printed(rt: HostRuntime) {
+    assert_said(&rt, rt.alloc(), &SAID);
+}
+
+/// A text in two pieces, and its fault, which is at the first token of the second piece, or at the end where that has none.
+struct Faulty(&'static str, &'static str, FaultKind);
+
+static DECLARED: [Faulty; 41] = [
+    Faulty("", "foo", FaultKind::OutOfProfile),
+    Faulty("", "global", FaultKind::Statement),
+    Faulty("", "7", FaultKind::Statement),
+    Faulty("%t = type ", "opaque", FaultKind::OutOfProfile),
+    Faulty("%t = type ", "i32", FaultKind::Statement),
+    Faulty("%t = type ", "[2 x i8]", FaultKind::Statement),
+    Faulty("%t = type ", "%u", FaultKind::Statement),
+    Faulty("%t = type <", "i8, i8>", FaultKind::Statement),
+    Faulty("%t = type { ", "void }", FaultKind::Statement),
+    Faulty("%t = type { i8", "", FaultKind::Statement),
+    Faulty("%t = ", "foo {}", FaultKind::Statement),
+    Faulty("%t ", "type {}", FaultKind::Statement),
+    Faulty("%t = type {} ", "%t foo", FaultKind::Twice),
+    Faulty("@g = ", "i32 global", FaultKind::OutOfProfile),
+    Faulty("@g = ", "noundef global i32 0", FaultKind::OutOfProfile),
+    Faulty("@g = ", "external global i32", FaultKind::OutOfProfile),
+    Faulty("@g = private ", "7", FaultKind::Statement),
+    Faulty("@g = global ", "dso_local i32 0", FaultKind::Statement),
+    Faulty("@g = global ", "void 0", FaultKind::Statement),
+    Faulty("@g = global i32 ", "foo", FaultKind::OutOfProfile),
     Faulty(
-        b"@g = global i32 0, ",
-        b"section \"s\"",
+        "@g = global i32 0, ",
+        "section \"s\"",
         FaultKind::OutOfProfile,
     ),
-    Faulty(b"@g = global i32 0, ", b"!dbg !1", FaultKind::Statement),
+    Faulty("@g = global i32 0, ", "!dbg !1", FaultKind::Statement),
     Faulty(
-        b"@g = global i32 0, align 4",
-        b", align 4",
+        "@g = global i32 0, align 4",
+        ", align 4",
         FaultKind::Statement,
     ),
-    Faulty(b"@g = global i32 0 ", b"@g = foo", FaultKind::Twice),
-    Faulty(b"declare ", b"foo void @f()", FaultKind::OutOfProfile),
-    Faulty(b"declare i32 ", b"foo()", FaultKind::Statement),
-    Faulty(b"declare i32 ", b"%f()", FaultKind::Statement),
-    Faulty(b"declare void @f(", b"void)", FaultKind::OutOfProfile),
-    Faulty(b"declare void @f(", b"...)", FaultKind::OutOfProfile),
-    Faulty(b"declare void @f(", b"noundef i32)", FaultKind::Statement),
-    Faulty(b"declare void @f(", b"{ i8 } %a)", FaultKind::OutOfProfile),
-    Faulty(b"declare void @f(i32 ", b"foo)", FaultKind::OutOfProfile),
+    Faulty("@g = global i32 0 ", "@g = foo", FaultKind::Twice),
+    Faulty("declare ", "foo void @f()", FaultKind::OutOfProfile),
+    Faulty("declare i32 ", "foo()", FaultKind::Statement),
+    Faulty("declare i32 ", "%f()", FaultKind::Statement),
+    Faulty("declare void @f(", "void)", FaultKind::OutOfProfile),
+    Faulty("declare void @f(", "...)", FaultKind::OutOfProfile),
+    Faulty("declare void @f(", "noundef i32)", FaultKind::Statement),
+    Faulty("declare void @f(", "{ i8 } %a)", FaultKind::OutOfProfile),
+    Faulty("declare void @f(i32 ", "foo)", FaultKind::OutOfProfile),
+    Faulty("declare void @f(i32 %a ", "noundef)", FaultKind::Statement),
+    Faulty("declare void @f(i32,", ")", FaultKind::Statement),
+    Faulty("declare void @f() ", "foo", FaultKind::OutOfProfile),
+    Faulty("declare void @f() ", "global", FaultKind::OutOfProfile),
     Faulty(
-        b"declare void @f(i32 %a ",
-        b"noundef)",
-        FaultKind::Statement,
-    ),
-    Faulty(b"declare void @f(i32,", b")", FaultKind::Statement),
-    Faulty(b"declare void @f() ", b"foo", FaultKind::OutOfProfile),
-    Faulty(b"declare void @f() ", b"global", FaultKind::OutOfProfile),
-    Faulty(
-        b"declare void @f() ",
-        b"foo: ret void",
+        "declare void @f() ",
+        "foo: ret void",
         FaultKind::OutOfProfile,
     ),
-    Faulty(b"declare void @f() #", b"-1", FaultKind::Statement),
+    Faulty("declare void @f() #", "-1", FaultKind::Statement),
     Faulty(
-        b"declare void @f() declare void ",
-        b"@f(foo",
+        "declare void @f() declare void ",
+        "@f(foo",
         FaultKind::Twice,
     ),
     Faulty(
-        b"define void @llvm.memset.p0.i32() {} declare i8 @llvm.memset.p0.i32() ",
-        b"foo",
+        "define void @llvm.memset.p0.i32() {} declare i8 @llvm.memset.p0.i32() ",
+        "foo",
         FaultKind::OutOfProfile,
     ),
     Faulty(
-        b"declare void @f(i32 %a, i32 %a) ",
-        b"foo",
+        "declare void @f(i32 %a, i32 %a) ",
+        "foo",
+        FaultKind::OutOfProfile,
+    ),
+];
+
+static DEFINED: [Faulty; 33] = [
+    Faulty(
+        "define ccc dso_local noundef ",
+        "float @f()",
+        FaultKind::OutOfProfile,
+    ),
+    Faulty("define void @f", "{", FaultKind::Statement),
+    Faulty("define void @f(i32 %a, i32 ", "%a, foo", FaultKind::Twice),
+    Faulty(
+        "define void @f(i32 %1, ",
+        "i32 noundef) {",
+        FaultKind::Twice,
+    ),
+    Faulty(
+        "define void @f(i32 %a, i32 noundef, i32 ",
+        "%0)",
+        FaultKind::Twice,
+    ),
+    Faulty("define void @f(i32 %1, i32", "", FaultKind::Statement),
+    Faulty("define void @f(i32 ", "foo)", FaultKind::OutOfProfile),
+    Faulty("define void @f() ", "7", FaultKind::Statement),
+    Faulty("define void @f() ", "!dbg !1 {", FaultKind::Statement),
+    Faulty(
+        "define void @f() ",
+        "personality ptr @f {",
         FaultKind::OutOfProfile,
     ),
     Faulty(
-        b"define ccc dso_local noundef ",
-        b"float @f()",
-        FaultKind::OutOfProfile,
+        "define void @f() { ret void } define void ",
+        "@f(i32 %a, i32 %a)",
+        FaultKind::Twice,
     ),
-    Faulty(b"define void @f", b"{", FaultKind::Statement),
-    Faulty(b"define void @f(i32 %a, i32 ", b"%a, foo", FaultKind::Twice),
+    Faulty("@f = global i32 0 define i32 ", "@f()", FaultKind::Twice),
+    Faulty("define void @f() {", "", FaultKind::Statement),
+    Faulty("define void @f() { foo", "", FaultKind::Statement),
+    Faulty("define void @f() { 5", "", FaultKind::Statement),
+    Faulty("define void @f() { ", "-5", FaultKind::Statement),
+    Faulty("define void @f() { ", "5 ret void", FaultKind::Statement),
+    Faulty("define void @f() { ", "foo bar", FaultKind::OutOfProfile),
     Faulty(
-        b"define void @f(i32 %1, ",
-        b"i32 noundef) {",
+        "define void @f() { ret void ",
+        "foo bar",
+        FaultKind::Statement,
+    ),
+    Faulty("define void @f() { ret void foo", "", FaultKind::Statement),
+    Faulty(
+        "define void @f() { ret void ",
+        "add i32",
+        FaultKind::Statement,
+    ),
+    Faulty(
+        "define void @f() { ret void ",
+        "%r = add",
+        FaultKind::Statement,
+    ),
+    Faulty(
+        "define void @f() { a: ret void ",
+        "%x: ret void }",
+        FaultKind::Statement,
+    ),
+    Faulty(
+        "define void @f() { a: ret void ",
+        "a: foo",
         FaultKind::Twice,
     ),
     Faulty(
-        b"define void @f(i32 %a, i32 noundef, i32 ",
-        b"%0)",
+        "define void @f() { a: ret void ",
+        "a foo",
+        FaultKind::Statement,
+    ),
+    Faulty(
+        "define void @f(i32 %0) { ret void ",
+        "1: ret void }",
         FaultKind::Twice,
     ),
-    Faulty(b"define void @f(i32 %1, i32", b"", FaultKind::Statement),
-    Faulty(b"define void @f(i32 ", b"foo)", FaultKind::OutOfProfile),
-    Faulty(b"define void @f() ", b"7", FaultKind::Statement),
-    Faulty(b"define void @f() ", b"!dbg !1 {", FaultKind::Statement),
+    Faulty("define void @f(i32 %r) { ", "%r foo", FaultKind::Twice),
     Faulty(
-        b"define void @f() ",
-        b"personality ptr @f {",
-        FaultKind::OutOfProfile,
-    ),
-    Faulty(
-        b"define void @f() { ret void } define void ",
-        b"@f(i32 %a, i32 %a)",
-        FaultKind::Twice,
-    ),
-    Faulty(b"@f = global i32 0 define i32 ", b"@f()", FaultKind::Twice),
-    Faulty(b"define void @f() {", b"", FaultKind::Statement),
-    Faulty(b"define void @f() { foo", b"", FaultKind::Statement),
-    Faulty(b"define void @f() { 5", b"", FaultKind::Statement),
-    Faulty(b"define void @f() { ", b"-5", FaultKind::Statement),
-    Faulty(b"define void @f() { ", b"5 ret void", FaultKind::Statement),
-    Faulty(b"define void @f() { ", b"foo bar", FaultKind::OutOfProfile),
-    Faulty(
-        b"define void @f() { ret void ",
-        b"foo bar",
-        FaultKind::Statement,
-    ),
-    Faulty(
-        b"define void @f() { ret void foo",
-        b"",
-        FaultKind::Statement,
-    ),
-    Faulty(
-        b"define void @f() { ret void ",
-        b"add i32",
-        FaultKind::Statement,
-    ),
-    Faulty(
-        b"define void @f() { ret void ",
-        b"%r = add",
-        FaultKind::Statement,
-    ),
-    Faulty(
-        b"define void @f() { a: ret void ",
-        b"%x: ret void }",
-        FaultKind::Statement,
-    ),
-    Faulty(
-        b"define void @f() { a: ret void ",
-        b"a: foo",
+        "define void @f() { %r = freeze i8 1 ",
+        "%r = foo",
         FaultKind::Twice,
     ),
     Faulty(
-        b"define void @f() { a: ret void ",
-        b"a foo",
+        "define void @f() { call void %f() foo",
+        "",
         FaultKind::Statement,
     ),
     Faulty(
-        b"define void @f(i32 %0) { ret void ",
-        b"1: ret void }",
-        FaultKind::Twice,
-    ),
-    Faulty(b"define void @f(i32 %r) { ", b"%r foo", FaultKind::Twice),
-    Faulty(
-        b"define void @f() { %r = freeze i8 1 ",
-        b"%r = foo",
-        FaultKind::Twice,
-    ),
-    Faulty(
-        b"define void @f() { call void %f() foo",
-        b"",
-        FaultKind::Statement,
-    ),
-    Faulty(
-        b"define void @f() { call void %f() ",
-        b"foo bar",
+        "define void @f() { call void %f() ",
+        "foo bar",
         FaultKind::OutOfProfile,
     ),
     Faulty(
-        b"define void @f() { ret void, !",
-        b"dbg !1",
+        "define void @f() { ret void, !",
+        "dbg !1",
         FaultKind::OutOfProfile,
     ),
     Faulty(
-        b"define void @f() { unreachable } ",
-        b"}",
+        "define void @f() { unreachable } ",
+        "}",
         FaultKind::Statement,
     ),
     Faulty(
-        b"define void @f(i32) { ",
-        b"%0 = freeze i8 1 }",
+        "define void @f(i32) { ",
+        "%0 = freeze i8 1 }",
         FaultKind::Twice,
     ),
 ];
 
 /// How many tokens a text has.
-fn count(alloc: Global, text: &[u8]) -> Result<usize, Memory> {
-    if text.len() > 1000 {
-        return Err(Memory);
-    }
-    let tokens = read_tokens(alloc, text)?;
-    Ok(tokens.toks.len())
-}
-
-/// The first fault of a text, and how many tokens its second piece has.
-fn fault_of(alloc: Global, front: &[u8], back: &[u8]) -> Result<Option<(Fault, usize)>, Memory> {
-    let mut text = Vec::from_slice(alloc, front)?;
-    text.extend_from_slice(back)?;
-    let before = count(alloc, front)?;
-    let all = count(alloc, text.as_slice())?;
-    match last_printed(alloc, text.as_slice())? {
-        Ok(_) => Ok(None),
-        Err(fault) => Ok(Some((fault, all.saturating_sub(before)))),
+fn count(alloc: Global, text: &[u8]) -> usize {
+    match outcome_of(alloc, text, Rule::Nothing) {
+        Outcome::Read(_, left) => left,
+        _ => 0,
     }
 }
 
-#[test]
-fn faults_are_met_at_their_tokens(rt: HostRuntime) -> Result<(), Fail> {
-    let alloc = rt.alloc();
-    for faulty in FAULTY.iter() {
-        let Some((fault, left)) = fault_of(alloc, faulty.0, faulty.1)? else {
-            return Err(Fail::new("a text has no fault"));
-        };
-        assert!(rt; fault.kind == faulty.2);
-        assert!(rt; fault.left == left);
-    }
-    Ok(())
+/// Whether a text has a fault of this kind, at the first token behind a front.
+fn is_behind(alloc: Global, text: &[u8], front: &[u8], kind: FaultKind) -> bool {
+    let left = count(alloc, text).saturating_sub(count(alloc, front));
+    let rule = Rule::Statements(Asked::Last(&[]));
+    is_refused(alloc, text, rule, kind, left)
 }
 
-/// The lines of the instructions of a text's first statement, which is a function.
-fn lines_of(alloc: Global, text: &[u8]) -> Result<Vec<u32>, Memory> {
-    let mut lines = Vec::new(alloc);
-    if text.len() > 1000 {
-        return Err(Memory);
+fn is_faulty(alloc: Global, row: &Faulty) -> bool {
+    let front = row.0.as_bytes();
+    let mut text = Vec::new(alloc);
+    let one = text.extend_from_slice(front);
+    let other = text.extend_from_slice(row.1.as_bytes());
+    let whole = one.is_ok() && other.is_ok();
+    let is_faulty = whole && is_behind(alloc, text.as_slice(), front, row.2);
+    drop(text);
+    is_faulty
+}
+
+fn assert_faulty(rt: &impl Abort, alloc: Global, rows: &[Faulty]) {
+    for (number, row) in rows.iter().enumerate() {
+        assert!(rt; is_faulty(alloc, row), "row {number}");
     }
-    let tokens = read_tokens(alloc, text)?;
-    let context = meaning(&tokens, &[]);
-    let mut reader = Reader::new(tokens.toks.as_slice());
-    let defined = Defined::new(alloc);
-    let places = tokens.places.as_slice();
-    let read = statement(
-        alloc,
-        &mut reader,
-        &context,
-        TextForm::Program,
-        places,
-        &defined,
-    );
-    if let Ok(Statement::Function { blocks, .. }) = &read {
-        for block in blocks.as_slice() {
-            for instr in block.instrs.as_slice() {
-                lines.push(instr.line)?;
-            }
-        }
-    }
-    Ok(lines)
 }
 
 #[test]
-fn the_line_of_an_instruction_is_that_of_its_first_token(rt: HostRuntime) -> Result<(), Fail> {
-    let alloc = rt.alloc();
-    let lines = lines_of(
-        alloc,
-        b"; a comment\ndefine void @f() {\n\n  %r = add i32 1,\n  2\n!0 = !{}\nb: unreachable\n}\n@g = global i8 0",
-    )?;
-    assert!(rt; lines.len() == 2);
-    assert!(rt; lines[0] == 4);
-    assert!(rt; lines[1] == 7);
-    Ok(())
+fn faults_of_types_globals_and_imports_are_met_at_their_tokens(rt: HostRuntime) {
+    assert_faulty(&rt, rt.alloc(), &DECLARED);
+}
+
+#[test]
+fn faults_of_functions_are_met_at_their_tokens(rt: HostRuntime) {
+    assert_faulty(&rt, rt.alloc(), &DEFINED);
+}
+
+#[test]
+fn the_line_of_an_instruction_is_that_of_its_first_token(rt: HostRuntime) {
+    let text = b"; a comment\ndefine void @f() {\n\n  %r = add i32 1,\n  2\n\
+        !0 = !{}\nb: unreachable\n}\n@g = global i8 0";
+    let rule = Rule::Statements(Asked::Lines(4, 7));
+    assert!(rt; answer_of(rt.alloc(), text.as_slice(), rule) == Some(true));
 }

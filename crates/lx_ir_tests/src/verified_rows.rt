@@ -8,15 +8,31 @@ pub struct Row {
 }
 
 /// What is found in a module.
+#[derive(Clone, Copy)]
 pub enum Wanted {
     /// No fault, in so many functions.
     Nothing(usize),
+    /// No fault, and two parameters of these names in the first function.
+    Parameters(&'static str, &'static str),
     /// The number of the first fault, its line, and what names it.
     Fault(u8, u32, &'static str),
+    /// What the first fault says.
+    Says(&'static str),
 }
 
-/// Modules that have none of the faults below, though they are near to one.
-pub static WITHOUT_A_FAULT: [Row; 2] = [
+/// Modules without a fault, and with each of the faults.
+pub static ROWS: [Row; 15] = [
+    Row {
+        name: "parameters of imports lose their names",
+        text: "declare void @f(ptr %p, i8)",
+        wanted: Wanted::Parameters("", ""),
+    },
+    Row {
+        name: "parameters of functions keep their names",
+        text: "define void @f(ptr %p, i8 %b) {\nret void\n}\n",
+        wanted: Wanted::Parameters("p", "b"),
+    },
+    // None of the faults below, though they are near to one.
     Row {
         name: "a parameter is assigned",
         text: "define i32 @f(i32 %x) {
@@ -39,10 +55,7 @@ e:
 ",
         wanted: Wanted::Nothing(1),
     },
-];
-
-/// Operands, arguments, results and initialisers of another type.
-pub static TYPES: [Row; 4] = [
+    // Operands, arguments, results and initialisers of another type.
     Row {
         name: "an operand is of another type",
         text: "define i32 @f(i1 %p) {
@@ -80,10 +93,7 @@ pub static TYPES: [Row; 4] = [
 ",
         wanted: Wanted::Fault(1, 5, "@g"),
     },
-];
-
-/// Labels that the function lacks.
-pub static LABELS: [Row; 1] = [
+    // Labels that the function lacks.
     // The instruction before it has an operand of another type, which is looked for later.
     Row {
         name: "a label comes before a type",
@@ -94,10 +104,7 @@ pub static LABELS: [Row; 1] = [
 ",
         wanted: Wanted::Fault(2, 3, "l"),
     },
-];
-
-/// Registers that are read on some walk that did not assign them.
-pub static REGISTERS: [Row; 3] = [
+    // Registers that are read on some walk that did not assign them.
     Row {
         name: "nothing assigns a register",
         text: "define i32 @f() {
@@ -134,21 +141,17 @@ e:
 ",
         wanted: Wanted::Fault(3, 7, "%a"),
     },
-];
-
-/// Phis where none can stand.
-pub static PHIS: [Row; 1] = [Row {
-    name: "a phi stands in the first block",
-    text: "define i32 @f(i1 %p) {
+    // Phis where none can stand.
+    Row {
+        name: "a phi stands in the first block",
+        text: "define i32 @f(i1 %p) {
   %a = phi i32 [ 0, %0 ]
   br label %0
 }
 ",
-    wanted: Wanted::Fault(4, 2, "%a"),
-}];
-
-/// Blocks without a terminator.
-pub static ENDS: [Row; 2] = [
+        wanted: Wanted::Fault(4, 2, "%a"),
+    },
+    // Blocks without a terminator.
     Row {
         name: "a block ends without a terminator",
         text: "define i32 @f(i1 %p) {
@@ -165,5 +168,36 @@ pub static ENDS: [Row; 2] = [
 }
 ",
         wanted: Wanted::Fault(5, 1, "0"),
+    },
+];
+
+/// Modules with a fault, and what it says.
+pub static SAYINGS: [Row; 5] = [
+    Row {
+        name: "another type is said",
+        text: "@g = global i32 null",
+        wanted: Wanted::Says("line 1: the types of `@g` do not match"),
+    },
+    Row {
+        name: "a label that is not there is said",
+        text: "define void @f() {\n  br label %b\n}",
+        wanted: Wanted::Says("line 2: the function has no block `b`"),
+    },
+    Row {
+        name: "a register that is not assigned is said",
+        text: "define i32 @f() {\n  ret i32 %x\n}",
+        wanted: Wanted::Says("line 2: `%x` may be read before it is assigned"),
+    },
+    Row {
+        name: "a phi out of place is said",
+        text: "define void @f() {\n  %r = phi i32 [ 1, %0 ]\n  ret void\n}",
+        wanted: Wanted::Says(
+            "line 2: the phi `%r` is out of place, or its labels are not its block's predecessors",
+        ),
+    },
+    Row {
+        name: "a block without a terminator is said",
+        text: "define void @f() {\n  %r = add i32 1, 2\n}",
+        wanted: Wanted::Says("line 2: the block `0` ends without a terminator"),
     },
 ];
