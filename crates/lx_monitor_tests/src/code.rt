@@ -1,6 +1,6 @@
 //! Numbers of a width: rows that were reckoned by hand. What names name in a small program.
-ghost use Rattle.std.specs.Prelude.{◌≡◌, ◌∷◌, [], None, IfOk};
-ghost use Rattle.lx_monitor_tests.specs.Programs.{function_with, import_with, naming, naming_kernel, naming_module};
+ghost use Rattle.std.specs.Prelude.{◌≡◌, ◌∷◌, [], IfOk};
+ghost use Rattle.lx_monitor_tests.specs.Programs.{import_with, naming, naming_kernel, naming_module};
 
 use crate::common::{function_with, interface_with, module_with, modules_with, owned, slot_with};
 use lx_annot::interface::Slot;
@@ -25,48 +25,49 @@ fn numbers_are_cut_to_their_width(rt: HostRuntime) {
     }
 }
 
-/// A function that a text defines.
-fn defined(alloc: Global, name: &[u8]) -> Result<Function, Memory>
-    ensures { IfOk result (λ f. f ≡ function_with name.now None) }
+/// A function without parameters that a text imports.
+fn import_with(alloc: Global, name: Name) -> Function
+    ensures { result ≡ import_with name }
 {
-    let name = Name::from_bytes(alloc, name)?;
-    Ok(function_with(alloc, name, None))
-}
-
-/// A function that a text imports.
-fn import(alloc: Global, name: &[u8]) -> Result<Function, Memory>
-    ensures { IfOk result (λ f. f ≡ import_with name.now) }
-{
-    let name = Name::from_bytes(alloc, name)?;
-    Ok(Function {
+    Function {
         name,
         params: Items::new(alloc),
         locals: Items::new(alloc),
         ret: None,
         blocks: None,
         line: 1,
-    })
+    }
 }
 
 fn kernel_functions(alloc: Global) -> Result<Vec<Function>, Memory>
     ensures { IfOk result (λ fs. fs.items ≡ naming_kernel) }
 {
-    let work = defined(alloc, b"k.work")?;
-    let native = import(alloc, b"k.alloc")?;
-    let slot = import(alloc, b"k.slot.s")?;
-    let nothing = import(alloc, b"k.other")?;
-    let functions = vec![in alloc; work, native, slot, nothing]?;
+    let work = Name::from_bytes(alloc, b"k.work")?;
+    let native = Name::from_bytes(alloc, b"k.alloc")?;
+    let slot = Name::from_bytes(alloc, b"k.slot.s")?;
+    let nothing = Name::from_bytes(alloc, b"k.other")?;
+    let functions = vec![in alloc;
+        function_with(alloc, work, None),
+        import_with(alloc, native),
+        import_with(alloc, slot),
+        import_with(alloc, nothing),
+    ]?;
     Ok(functions)
 }
 
 fn module_functions(alloc: Global) -> Result<Vec<Function>, Memory>
     ensures { IfOk result (λ fs. fs.items ≡ naming_module) }
 {
-    let nothing = import(alloc, b"k.other")?;
-    let native = import(alloc, b"lxfi_princ_alias")?;
-    let work = import(alloc, b"k.work")?;
-    let own = defined(alloc, b"own")?;
-    let functions = vec![in alloc; nothing, native, work, own]?;
+    let nothing = Name::from_bytes(alloc, b"k.other")?;
+    let native = Name::from_bytes(alloc, b"lxfi_princ_alias")?;
+    let work = Name::from_bytes(alloc, b"k.work")?;
+    let own = Name::from_bytes(alloc, b"own")?;
+    let functions = vec![in alloc;
+        import_with(alloc, nothing),
+        import_with(alloc, native),
+        import_with(alloc, work),
+        function_with(alloc, own, None),
+    ]?;
     Ok(functions)
 }
 
@@ -96,11 +97,11 @@ fn slots(alloc: Global) -> Result<Items<Slot>, Memory>
 fn naming(alloc: Global) -> Result<Program, Memory>
     ensures { IfOk result (λ p. p ≡ naming) }
 {
-    let slots = slots(alloc)?;
-    let functions = numbers(alloc)?;
-    let kernel = kernel_functions(alloc)?;
     let own = module_functions(alloc)?;
     let modules = modules_with(alloc, Items::new(alloc), own)?;
+    let functions = numbers(alloc)?;
+    let slots = slots(alloc)?;
+    let kernel = kernel_functions(alloc)?;
     Ok(Program {
         kernel: module_with(alloc, kernel),
         modules,
@@ -140,8 +141,10 @@ fn module_names(code: &Code) -> bool {
 #[test]
 fn names_name_each_kind_of_thing(rt: HostRuntime) -> Result<(), Memory> {
     let code = code(rt.alloc())?;
-    let named = (kernel_names(&code), module_names(&code));
+    let in_kernel = kernel_names(&code);
+    let in_module = module_names(&code);
     drop(code);
-    assert_eq!(rt; named, (true, true));
+    assert!(rt; in_kernel);
+    assert!(rt; in_module);
     Ok(())
 }

@@ -166,7 +166,15 @@ pub fn part_of<C: CapStore + Drop>(
     requires known { Knows (arc_value program) [] }
     ensures { IfOk result (λ part. StandsForState C.stands (arc_value program) part (opening_state (arc_value program))) }
 {
-    let space = Space::new(alloc)?;
-    let part = SharedPart::open(alloc, program, space, caps, Vec::new(alloc), 30)?;
-    Ok(part)
+    match Space::new(alloc) {
+        Ok(space) => {
+            let part = SharedPart::open(alloc, program, space, caps, Vec::new(alloc), 30)?;
+            Ok(part)
+        }
+        Err(error) => {
+            drop(program);
+            drop(caps);
+            Err(error.into())
+        }
+    }
 }

@@ -95,28 +95,29 @@ fn end_of_call() -> Request {
 /// Two seats ask once each, one takes in the other, and the part comes back as both have asked it. A third number there is not.
 #[test]
 fn two_seats_ask(rt: HostRuntime) -> Result<(), Fail> {
-    let request = end_of_call();
     let (lock, mut first) = CapLock::open(rt.alloc(), Counter { served: 0 }, 2)?;
     let Ok(mut second) = lock.split(&rt, &mut first) else {
         panic!(rt; "no seat")
     };
     assert!(rt; matches!(lock.split(&rt, &mut first), Err(SplitFault::NoSeat)));
-    lock.ask(&rt, &mut first, 0, &request)?;
-    lock.ask(&rt, &mut second, 1, &request)?;
+    let request = end_of_call();
+    let by_first = lock.ask(&rt, &mut first, 0, &request).is_ok();
+    let by_second = lock.ask(&rt, &mut second, 1, &request).is_ok();
+    drop(request);
     lock.join(&mut first, second);
     let part = lock.close(first);
+    assert!(rt; by_first && by_second);
     assert!(rt; part.served == 2);
     Ok(())
 }
 
 /// A seat asks alone, twice.
-fn ask_alone<R: Wait>(rt: &R, alloc: Global) -> Result<Counter, Memory>
+fn ask_alone<R: Wait>(rt: &R, alloc: Global, request: &Request) -> Result<Counter, Memory>
     ensures { IfOk result (λ counter. counter.served ≡ 2) }
 {
     let (lock, mut seat) = CapLock::open(alloc, Counter { served: 0 }, 1)?;
-    let request = end_of_call();
-    let _first = lock.ask(rt, &mut seat, 0, &request)?;
-    let _second = lock.ask(rt, &mut seat, 0, &request)?;
+    let _first = lock.ask(rt, &mut seat, 0, request)?;
+    let _second = lock.ask(rt, &mut seat, 0, request)?;
     let counter = lock.close(seat);
     Ok(counter)
 }
@@ -124,7 +125,10 @@ fn ask_alone<R: Wait>(rt: &R, alloc: Global) -> Result<Counter, Memory>
 /// What a seat that asks alone has asked is the whole history: the part has served just that.
 #[test]
 fn one_seat_asks_alone(rt: HostRuntime) -> Result<(), Fail> {
-    let counter = ask_alone(&rt, rt.alloc())?;
+    let request = end_of_call();
+    let asked = ask_alone(&rt, rt.alloc(), &request);
+    drop(request);
+    let counter = asked?;
     assert!(rt; counter.served == 2);
     Ok(())
 }
@@ -157,5 +161,6 @@ fn threads_ask_beside_each_other(rt: HostRuntime) -> Result<(), Fail> {
     assert!(rt; counter.served == 4096);
     assert!(rt; callers.len() == 16);
     assert!(rt; callers.iter().all(|caller| caller.left == 0));
+    drop(callers);
     Ok(())
 }

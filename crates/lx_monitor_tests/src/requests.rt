@@ -33,22 +33,20 @@ enum Asked {
     Slot(u64),
 }
 
-/// What is answered, in values that compare.
-#[derive(Clone, Copy, Debug, PartialEq, Eq)]
-enum Seen {
+/// What is answered.
+#[derive(Clone, Copy)]
+enum Answer {
     Done,
+    /// A word with these bits.
     Value(u64),
+    /// The function with this number is entered.
     Entered(u32),
-    Write(Principal, u64, u64),
-    Call(Principal, u64),
-    Writer(Principal, u64, u64),
-    Unmapped(u64),
-    NotLive(u64),
-    Other,
+    Refused(Refusal),
+    Trapped(Trap),
 }
 
 /// A request: the thread, for whom it asks, what it asks, and what is answered.
-type Row = (u32, Principal, Asked, Seen);
+type Row = (u32, Principal, Asked, Answer);
 
 /// A module writes its own bytes of the stack alone, and the kernel's write past the end of memory is trapped.
 static BYTES: [Row; 5] = [
@@ -56,32 +54,36 @@ static BYTES: [Row; 5] = [
         0,
         SHARED,
         Asked::Store(0x3000000, 7),
-        Seen::Write(SHARED, 0x3000000, 8),
+        Answer::Refused(Refusal::Write {
+            who: SHARED,
+            at: 0x3000000,
+            size: 8,
+        }),
     ),
-    (0, SHARED, Asked::Alloca(0x3000000, 8), Seen::Done),
-    (0, SHARED, Asked::Store(0x3000000, 7), Seen::Done),
-    (0, SHARED, Asked::Load(0x3000000), Seen::Value(7)),
+    (0, SHARED, Asked::Alloca(0x3000000, 8), Answer::Done),
+    (0, SHARED, Asked::Store(0x3000000, 7), Answer::Done),
+    (0, SHARED, Asked::Load(0x3000000), Answer::Value(7)),
     (
         0,
         KERNEL,
         Asked::Store(0x10ffffc, 7),
-        Seen::Unmapped(0x1100000),
+        Answer::Trapped(Trap::Unmapped { at: 0x1100000 }),
     ),
 ];
 
 /// Blocks of 16, 8 and 0 bytes; the first of them is taken back, once.
 static BLOCKS: [Row; 6] = [
-    (0, KERNEL, Asked::Native(0, 16), Seen::Value(0x2000000)),
-    (0, KERNEL, Asked::Native(0, 8), Seen::Value(0x2000010)),
-    (0, KERNEL, Asked::Native(1, 0x2000000), Seen::Done),
+    (0, KERNEL, Asked::Native(0, 16), Answer::Value(0x2000000)),
+    (0, KERNEL, Asked::Native(0, 8), Answer::Value(0x2000010)),
+    (0, KERNEL, Asked::Native(1, 0x2000000), Answer::Done),
     (
         0,
         KERNEL,
         Asked::Native(1, 0x2000000),
-        Seen::NotLive(0x2000000),
+        Answer::Trapped(Trap::NotLive { at: 0x2000000 }),
     ),
-    (0, KERNEL, Asked::Native(0, 16), Seen::Value(0x2000000)),
-    (0, KERNEL, Asked::Native(0, 0), Seen::Value(0)),
+    (0, KERNEL, Asked::Native(0, 16), Answer::Value(0x2000000)),
+    (0, KERNEL, Asked::Native(0, 0), Answer::Value(0)),
 ];
 
 /// A module calls no address whose call it does not hold. A slot is called where nobody wrote in it, and not where a module
@@ -91,17 +93,24 @@ static CALLS: [Row; 6] = [
         0,
         SHARED,
         Asked::Address(0x10000),
-        Seen::Call(SHARED, 0x10000),
+        Answer::Refused(Refusal::Call {
+            who: SHARED,
+            at: 0x10000,
+        }),
     ),
-    (0, KERNEL, Asked::Store(0x3000000, 0x10000), Seen::Done),
-    (0, KERNEL, Asked::Slot(0x3000000), Seen::Entered(0)),
-    (0, SHARED, Asked::Alloca(0x3000000, 8), Seen::Done),
-    (0, SHARED, Asked::Store(0x3000000, 0x10000), Seen::Done),
+    (0, KERNEL, Asked::Store(0x3000000, 0x10000), Answer::Done),
+    (0, KERNEL, Asked::Slot(0x3000000), Answer::Entered(0)),
+    (0, SHARED, Asked::Alloca(0x3000000, 8), Answer::Done),
+    (0, SHARED, Asked::Store(0x3000000, 0x10000), Answer::Done),
     (
         0,
         KERNEL,
         Asked::Slot(0x3000000),
-        Seen::Writer(SHARED, 0x10000, 0x3000000),
+        Answer::Refused(Refusal::Writer {
+            who: SHARED,
+            at: 0x10000,
+            slot: 0x3000000,
+        }),
     ),
 ];
 
@@ -144,37 +153,32 @@ fn what_of(alloc: Global, asked: Asked) -> Result<What, Memory> {
     Ok(what)
 }
 
-fn refusal_seen(refusal: Refusal) -> Seen {
-    match refusal {
-        Refusal::Write { who, at, size } => Seen::Write(who, at, size),
-        Refusal::Call { who, at } => Seen::Call(who, at),
-        Refusal::Writer { who, at, slot } => Seen::Writer(who, at, slot),
-        _ => Seen::Other,
-    }
-}
-
-fn trap_seen(trap: Trap) -> Seen {
-    match trap {
-        Trap::Unmapped { at } => Seen::Unmapped(at),
-        Trap::NotLive { at } => Seen::NotLive(at),
-        _ => Seen::Other,
-    }
-}
-
-fn outcome_seen(outcome: Outcome) -> Seen {
+fn is_ended(outcome: Outcome, answer: Answer) -> bool {
     match outcome {
-        Outcome::Refused(refusal) => refusal_seen(refusal),
-        Outcome::Trapped(trap) => trap_seen(trap),
-        _ => Seen::Other,
+        Outcome::Refused(refusal) => match answer {
+            Answer::Refused(wanted) => refusal == wanted,
+            _ => false,
+        },
+        Outcome::Trapped(trap) => match answer {
+            Answer::Trapped(wanted) => trap == wanted,
+            _ => false,
+        },
+        _ => false,
     }
 }
 
-fn reply_seen(reply: Reply) -> Seen {
+fn is_answer(reply: Reply, answer: Answer) -> bool {
     match reply {
-        Reply::Done => Seen::Done,
-        Reply::Value(word) => Seen::Value(word.bits),
-        Reply::Entered { function, .. } => Seen::Entered(function),
-        Reply::Ended(outcome) => outcome_seen(outcome),
+        Reply::Done => matches!(answer, Answer::Done),
+        Reply::Value(word) => match answer {
+            Answer::Value(bits) => word.bits == bits,
+            _ => false,
+        },
+        Reply::Entered { function, .. } => match answer {
+            Answer::Entered(number) => function == number,
+            _ => false,
+        },
+        Reply::Ended(outcome) => is_ended(outcome, answer),
     }
 }
 
@@ -209,17 +213,13 @@ fn part(alloc: Global, program: Program) -> Result<SharedPart<PlainCaps>, Fail>
     Ok(part)
 }
 
-/// Serves a request.
-fn serve(
-    alloc: Global,
-    part: &mut SharedPart<PlainCaps>,
-    thread: u32,
-    who: Principal,
-    asked: Asked,
-) -> Result<Seen, Fail> {
-    let what = what_of(alloc, asked)?;
-    let reply = part.serve(thread, &Request { who, what })?;
-    Ok(reply_seen(reply))
+/// Serves the request of a row, and says whether it is answered so.
+fn serves_so(alloc: Global, part: &mut SharedPart<PlainCaps>, row: &Row) -> Result<bool, Fail> {
+    let what = what_of(alloc, row.2)?;
+    let request = Request { who: row.1, what };
+    let reply = part.serve(row.0, &request);
+    drop(request);
+    Ok(is_answer(reply?, row.3))
 }
 
 /// Serves each row, one after the other.
@@ -229,9 +229,8 @@ fn serve_each(
     part: &mut SharedPart<PlainCaps>,
     rows: &[Row],
 ) -> Result<(), Fail> {
-    for (thread, who, asked, answer) in rows {
-        let seen = serve(alloc, part, *thread, *who, *asked)?;
-        assert_eq!(rt; seen, *answer);
+    for (number, row) in rows.iter().enumerate() {
+        assert!(rt; serves_so(alloc, part, row)?, "row {number}");
     }
     Ok(())
 }

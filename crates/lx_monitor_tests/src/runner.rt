@@ -93,8 +93,10 @@ fn code_of(alloc: Global) -> Result<Code, Memory> {
 
 /// A runner of thread 1 before one call of function 0, with this fuel.
 fn runner_of(alloc: Global, fuel: u32) -> Result<Runner, Memory> {
-    let calls = vec![in alloc; call_with(alloc, fuel)]?;
-    Runner::open(alloc, 1, &Items::from_vec(calls))
+    let calls = Items::from_vec(vec![in alloc; call_with(alloc, fuel)]?);
+    let runner = Runner::open(alloc, 1, &calls);
+    drop(calls);
+    runner
 }
 
 /// Enters the function of the call, and goes on to what ends it.

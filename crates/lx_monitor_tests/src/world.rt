@@ -45,10 +45,18 @@ fn shared<C: CapStore + Drop>(
     ensures { IfOk result (λ part. StandsForState C.stands (arc_value program) part (opening_state (arc_value program))) }
 {
     let mut caps = Recorded::new(alloc, caps);
-    caps.reserve(1)?;
-    caps.grant(Principal::Shared(0), Cap::Call { at: 0x10000 });
-    let part = part_of(alloc, program, caps)?;
-    Ok(part)
+    match caps.reserve(1) {
+        Ok(()) => {
+            caps.grant(Principal::Shared(0), Cap::Call { at: 0x10000 });
+            let part = part_of(alloc, program, caps)?;
+            Ok(part)
+        }
+        Err(error) => {
+            drop(caps);
+            drop(program);
+            Err(error.into())
+        }
+    }
 }
 
 /// A thread with two calls, and one with one.
@@ -86,17 +94,17 @@ fn owned_twice(alloc: Global) -> Result<(Arc<Program>, Arc<Program>), Memory>
     }
 }
 
-/// The small world before its first event.
-pub fn world<C: CapStore + Drop>(alloc: Global, caps: C) -> Result<World<C>, Fail>
-    requires { C.stands caps [] }
+/// The small world of a script, before its first event.
+fn world_of<C: CapStore + Drop>(alloc: Global, script: &[Calls], caps: C) -> Result<World<C>, Fail>
+    requires two { length script.now ≡ 2 }
+    requires new { C.stands caps [] }
     ensures { IfOk result (λ world. (w : ImageWorld) × StandsForWorld C.stands silent_code world w) }
 {
-    let script = script(alloc)?;
     let (first, second) = owned_twice(alloc)?;
     let code = code(alloc, first)?;
     match shared(alloc, second, caps) {
         Ok(shared) => {
-            let world = World::open(alloc, code, script.as_slice(), shared)?;
+            let world = World::open(alloc, code, script, shared)?;
             Ok(world)
         }
         Err(fault) => {
@@ -104,6 +112,17 @@ pub fn world<C: CapStore + Drop>(alloc: Global, caps: C) -> Result<World<C>, Fai
             Err(fault)
         }
     }
+}
+
+/// The small world before its first event.
+pub fn world<C: CapStore + Drop>(alloc: Global, caps: C) -> Result<World<C>, Fail>
+    requires { C.stands caps [] }
+    ensures { IfOk result (λ world. (w : ImageWorld) × StandsForWorld C.stands silent_code world w) }
+{
+    let script = script(alloc)?;
+    let world = world_of(alloc, script.as_slice(), caps);
+    drop(script);
+    world
 }
 
 /// One event.
@@ -135,28 +154,27 @@ fn run<C: CapStore + Drop>(rt: &impl Abort, world: &mut World<C>) -> Result<(), 
     Ok(())
 }
 
-/// The call of the function, by a thread, came to its end without an instruction.
-fn is_trapped(call: &CallOutcome, thread: u32) -> bool {
-    call.thread == thread && matches!(call.outcome, Outcome::Trapped(Trap::Unreachable))
+static SCHEDULE: [u32; 6] = [1, 0, 0, 1, 0, 0];
+
+/// How a call of a thread ended: without an instruction.
+fn trapped(thread: u32) -> CallOutcome {
+    CallOutcome {
+        thread,
+        function: 0,
+        outcome: Outcome::Trapped(Trap::Unreachable),
+    }
 }
 
-fn is_call(owned: &Owned) -> bool {
-    matches!(
-        *owned,
-        Owned {
-            who: Principal::Shared(0),
-            cap: Cap::Call { at: 0x10000 }
-        }
-    )
-}
+static OWNERS: [Owned; 1] = [Owned {
+    who: Principal::Shared(0),
+    cap: Cap::Call { at: 0x10000 },
+}];
 
-fn check_account(rt: &impl Abort, account: &Account) {
-    assert_eq!(rt; account.schedule.as_slice(), &[1, 0, 0, 1, 0, 0][..]);
-    let outcomes = account.outcomes.as_slice();
-    assert_eq!(rt; outcomes.len(), 3);
-    assert!(rt; is_trapped(&outcomes[0], 0) && is_trapped(&outcomes[2], 1));
-    assert_eq!(rt; account.owners.len(), 1);
-    assert!(rt; account.owners.as_slice().iter().all(|owned| is_call(owned)));
+fn assert_account(rt: &impl Abort, account: &Account) {
+    assert!(rt; account.schedule.as_slice() == SCHEDULE.as_slice());
+    let outcomes = [trapped(0), trapped(0), trapped(1)];
+    assert!(rt; account.outcomes.as_slice() == outcomes.as_slice());
+    assert!(rt; account.owners.as_slice() == OWNERS.as_slice());
 }
 
 #[tactic(auto, using(crate::proofs::Programs::silent_images))]
@@ -174,7 +192,8 @@ fn report<C: CapStore + Drop>(
     };
     let images = Items::from_vec(vec![in alloc; none]?);
     let account = world.account(alloc, images)?;
-    check_account(rt, &account);
+    assert_account(rt, &account);
+    drop(account);
     Ok(())
 }
 

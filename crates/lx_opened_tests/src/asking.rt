@@ -1,11 +1,11 @@
 //! For whom a runner asks: what it does is what its image says, and what no mark covers there it asks for as the kernel.
+ghost use Rattle.lx_input.specs.Laws.{IsReady};
+
 use crate::codes::{Coded, code_of_text};
-use crate::inputs::input_of;
-use crate::texts::{
-    calls_given, calls_given_image, exchanged, hidden_case, hidden_kernel, one_case, stores_seven,
-    stores_seven_image,
-};
+use crate::rows::{Row, Wanted, assert_rows};
+use crate::texts::{calls_given, stores_seven};
 use lx_caps::Principal;
+use lx_input::Input;
 use lx_interp::{Code, Runner};
 use lx_model::request::{Reply, Way, What};
 use lx_words::{Memory, Word};
@@ -59,24 +59,21 @@ fn place_of(what: &What) -> Option<u64> {
     }
 }
 
-/// For whom the runner asks for a store or a call by a register, and where that goes to.
-fn asked(runner: &Runner) -> Option<(Principal, u64)> {
+/// Whether the runner asks for this principal for a store or a call by a register that goes here.
+fn asks(runner: &Runner, who: Principal, at: u64) -> bool {
     match runner.request() {
-        Some(request) => match place_of(&request.what) {
-            Some(at) => Some((request.who, at)),
-            None => None,
-        },
-        None => None,
+        Some(request) => request.who == who && place_of(&request.what) == Some(at),
+        None => false,
     }
 }
 
 /// The same of a runner that begins with the first call of the first thread.
-fn asked_by_first(alloc: Global, coded: &Coded) -> Result<Option<(Principal, u64)>, Fail> {
+fn first_asks(alloc: Global, coded: &Coded, who: Principal, at: u64) -> Result<bool, Fail> {
     match coded.script.as_slice().first() {
         Some(calls) => {
             let mut runner = Runner::open(alloc, 0, calls)?;
             let went = go_on(&coded.code, &mut runner);
-            let found = asked(&runner);
+            let found = asks(&runner, who, at);
             drop(runner);
             went?;
             Ok(found)
@@ -85,17 +82,18 @@ fn asked_by_first(alloc: Global, coded: &Coded) -> Result<Option<(Principal, u64
     }
 }
 
-/// The same of a module's one call over an image, in a case of this kernel.
-fn asked_over(
+/// The same of an input's first call over the image that a text says.
+pub fn is_asked(
     alloc: Global,
-    case: &str,
-    module: &str,
-    image: &str,
-) -> Result<Option<(Principal, u64)>, Fail> {
-    let files = [("k.ll", hidden_kernel()), ("m.ll", module)];
-    let input = input_of(alloc, case, &files)?;
-    let coded = code_of_text(alloc, input, image)?;
-    let found = asked_by_first(alloc, &coded);
+    input: Input,
+    text: &str,
+    who: Principal,
+    at: u64,
+) -> Result<bool, Fail>
+    requires { IsReady input }
+{
+    let coded = code_of_text(alloc, input, text)?;
+    let found = first_asks(alloc, &coded, who, at);
     drop(coded);
     found
 }
@@ -105,50 +103,58 @@ const GUARD: &str = "  call void @lxfi.guard(ptr @g, i64 4)\n";
 
 const GLOBAL: u64 = 0x1000000;
 
+/// For whom the store is asked for, and where it goes to.
+const STORES_AS_MODULE: Wanted = Wanted::Asked(Principal::Shared(0), GLOBAL);
+
+const STORES_AS_KERNEL: Wanted = Wanted::Asked(Principal::Kernel, GLOBAL);
+
 /// Lines in place of the guard, and for whom the store is asked for: for the module where a guard that names all its bytes stands
 /// directly before it, and else for the kernel.
-static GUARDS: [(&str, Principal); 8] = [
-    (
+static GUARDS: [Row; 8] = [
+    Row(
+        GUARD,
         "call void @lxfi.guard(ptr @g, i64 4)\n",
-        Principal::Shared(0),
+        STORES_AS_MODULE,
     ),
     // bytes behind the store's are named too
-    (
+    Row(
+        GUARD,
         "call void @lxfi.guard(ptr @g, i64 8)\n",
-        Principal::Shared(0),
+        STORES_AS_MODULE,
     ),
     // no guard
-    ("", Principal::Kernel),
+    Row(GUARD, "", STORES_AS_KERNEL),
     // the last byte is not named
-    ("call void @lxfi.guard(ptr @g, i64 3)\n", Principal::Kernel),
+    Row(
+        GUARD,
+        "call void @lxfi.guard(ptr @g, i64 3)\n",
+        STORES_AS_KERNEL,
+    ),
     // other bytes are named
-    (
+    Row(
+        GUARD,
         "call void @lxfi.guard(ptr null, i64 4)\n",
-        Principal::Kernel,
+        STORES_AS_KERNEL,
     ),
     // an instruction stands between
-    (
+    Row(
+        GUARD,
         "call void @lxfi.guard(ptr @g, i64 4)\n%x = load i32, ptr @g\n",
-        Principal::Kernel,
+        STORES_AS_KERNEL,
     ),
     // the first store has no guard, the second one has
-    (
+    Row(
+        GUARD,
         "store i32 6, ptr @g\ncall void @lxfi.guard(ptr @g, i64 4)\n",
-        Principal::Kernel,
+        STORES_AS_KERNEL,
     ),
     // a check is no guard
-    ("call void @lxfi.check(ptr @g)\n", Principal::Kernel),
+    Row(GUARD, "call void @lxfi.check(ptr @g)\n", STORES_AS_KERNEL),
 ];
 
 #[test]
 fn what_no_guard_covers_is_stored_as_the_kernel(rt: HostRuntime) -> Result<(), Fail> {
-    let alloc = rt.alloc();
-    for (lines, who) in GUARDS.as_slice() {
-        let image = exchanged(alloc, stores_seven_image(), GUARD, lines)?;
-        let asked = asked_over(alloc, one_case(), stores_seven(), image.as_str())?;
-        assert_eq!(rt; asked, Some((*who, GLOBAL)), "{lines}");
-    }
-    Ok(())
+    assert_rows(&rt, rt.alloc(), stores_seven(), &GUARDS)
 }
 
 /// The check of an image, and where the call behind it goes to: the case gives the module this address.
@@ -156,30 +162,34 @@ const CHECK: &str = "  call void @lxfi.check(ptr %f)\n";
 
 const FUNCTION: u64 = 0x10060;
 
+/// For whom the call is asked for, and where it goes to.
+const CALLS_AS_MODULE: Wanted = Wanted::Asked(Principal::Shared(0), FUNCTION);
+
+const CALLS_AS_KERNEL: Wanted = Wanted::Asked(Principal::Kernel, FUNCTION);
+
 /// Lines in place of the check, and for whom the call is asked for: for the module where a check of its target stands directly before
 /// it, and else for the kernel.
-static CHECKS: [(&str, Principal); 5] = [
-    ("call void @lxfi.check(ptr %f)\n", Principal::Shared(0)),
+static CHECKS: [Row; 5] = [
+    Row(CHECK, "call void @lxfi.check(ptr %f)\n", CALLS_AS_MODULE),
     // no check
-    ("", Principal::Kernel),
+    Row(CHECK, "", CALLS_AS_KERNEL),
     // another target is checked
-    ("call void @lxfi.check(ptr null)\n", Principal::Kernel),
+    Row(CHECK, "call void @lxfi.check(ptr null)\n", CALLS_AS_KERNEL),
     // an instruction stands between
-    (
+    Row(
+        CHECK,
         "call void @lxfi.check(ptr %f)\n%x = load i64, ptr %f\n",
-        Principal::Kernel,
+        CALLS_AS_KERNEL,
     ),
     // a guard is no check
-    ("call void @lxfi.guard(ptr %f, i64 8)\n", Principal::Kernel),
+    Row(
+        CHECK,
+        "call void @lxfi.guard(ptr %f, i64 8)\n",
+        CALLS_AS_KERNEL,
+    ),
 ];
 
 #[test]
 fn what_is_not_checked_is_called_as_the_kernel(rt: HostRuntime) -> Result<(), Fail> {
-    let alloc = rt.alloc();
-    for (lines, who) in CHECKS.as_slice() {
-        let image = exchanged(alloc, calls_given_image(), CHECK, lines)?;
-        let asked = asked_over(alloc, hidden_case(), calls_given(), image.as_str())?;
-        assert_eq!(rt; asked, Some((*who, FUNCTION)), "{lines}");
-    }
-    Ok(())
+    assert_rows(&rt, rt.alloc(), calls_given(), &CHECKS)
 }

@@ -158,18 +158,28 @@ fn code_of_input(alloc: Global, input: Input, image: Verified) -> Result<Coded, 
     } = input;
     drop(besides);
     match reckoned(alloc, &program, annotated.as_slice()) {
-        Ok(Reckoning { counts, actions }) => {
-            let (code, program) = owned_code(alloc, program, image, actions)?;
-            Ok(Coded {
-                code,
-                program,
-                script,
-                annotated,
-                counts,
-            })
-        }
+        Ok(Reckoning { counts, actions }) => match owned_code(alloc, program, image, actions) {
+            Ok(parts) => {
+                let (code, program) = parts;
+                Ok(Coded {
+                    code,
+                    program,
+                    script,
+                    annotated,
+                    counts,
+                })
+            }
+            Err(why) => {
+                drop(script);
+                drop(annotated);
+                drop(counts);
+                Err(why)
+            }
+        },
         Err(why) => {
             drop(program);
+            drop(script);
+            drop(annotated);
             drop(image);
             Err(why)
         }

@@ -1,6 +1,6 @@
 //! Images of modules: made of their texts, or by hand.
-ghost use Rattle.std.specs.Prelude.{◌≡◌, None, IfOk, All, length};
-ghost use Rattle.lx_accepted.specs.Accepted.{IsAcceptedBy};
+ghost use Rattle.std.specs.Prelude.{◌≡◌, [], None, IfOk, OnOk, All, length};
+ghost use Rattle.lx_accepted.specs.Accepted.{AreAccepted, IsAcceptedBy};
 ghost use Rattle.lx_ir.specs.Lawful.{IsPlain};
 ghost use Rattle.lx_ir.specs.Verified.{IsVerified};
 ghost use Rattle.lx_propagate.specs.Slots.{annotated_of, conflict_of};
@@ -11,6 +11,7 @@ use lx_instrument::{instrument, instrument_full};
 use lx_ir_lawful::whole_laws;
 use lx_ir_read::{TextForm, read_module};
 use lx_ir_verify::{Verified, verify};
+use lx_model::program::Program;
 use lx_propagate::propagate;
 use lx_slot_types::Annotated;
 use lx_words::Memory;
@@ -71,12 +72,23 @@ fn image_of_module(
     }
 }
 
+/// The image that is made of a module, with the guards of spared stores or without them.
+fn made_of(alloc: Global, i: &Interface, m: &Verified, full: bool) -> Result<Verified, Fail>
+    requires { IsPlain m.now }
+{
+    let annotated = propagate(alloc, i, m.module())?;
+    let image = image_of_module(alloc, i, m, &annotated, full);
+    drop(annotated);
+    let image = image?;
+    Ok(image)
+}
+
 /// The image that is made of a module's text.
 fn made(alloc: Global, i: &Interface, text: &str, full: bool) -> Result<Verified, Fail> {
     let module = module_of_text(alloc, text.as_bytes())?;
-    let annotated = propagate(alloc, i, module.module())?;
-    let image = image_of_module(alloc, i, &module, &annotated, full)?;
-    Ok(image)
+    let image = made_of(alloc, i, &module, full);
+    drop(module);
+    image
 }
 
 fn verified(alloc: Global, i: &Interface, image: Image<'_>) -> Result<Verified, Fail> {
@@ -111,19 +123,58 @@ fn checked(alloc: Global, i: &Interface, image: Verified) -> Result<Checked, Fai
     }
 }
 
-/// Images that the checker takes, one for each module.
-#[tactic(auto, using(crate::proofs::Accepting::none_accepted, crate::proofs::Accepting::one_more))]
+/// Adds an image that the checker takes.
+fn push_checked(
+    alloc: Global,
+    images: &mut Vec<Checked>,
+    i: &Interface,
+    image: Image<'_>,
+) -> Result<(), Fail>
+    requires { All (IsAcceptedBy i.now) images.old.items }
+    ensures { OnOk result (All (IsAcceptedBy i.now) images.new.items) }
+{
+    let image = verified(alloc, i, image)?;
+    images.push(checked(alloc, i, image)?)?;
+    Ok(())
+}
+
+/// Adds images that the checker takes, one for each module of a program.
+#[tactic(auto, using(crate::proofs::Accepting::none_accepted))]
+fn push_images(
+    alloc: Global,
+    images: &mut Vec<Checked>,
+    program: &Program,
+    origins: &[Image<'_>],
+) -> Result<(), Fail>
+    requires empty { images.old.items ≡ [] }
+    ensures count { OnOk result (length images.new.items ≡ length program.now.modules) }
+    ensures accepted { OnOk result (AreAccepted program.now images.new.items) }
+{
+    for image in origins {
+        push_checked(alloc, images, &program.interface, *image)?;
+    }
+    if images.len() == program.modules.len() {
+        Ok(())
+    } else {
+        Err(Fail::new("not an image for each module"))
+    }
+}
+
+/// Images that the checker takes, one for each module of a program.
 pub fn checked_images(
     alloc: Global,
-    i: &Interface,
-    images: &[Image<'_>],
+    program: &Program,
+    origins: &[Image<'_>],
 ) -> Result<Vec<Checked>, Fail>
-    ensures { IfOk result (λ list. All (IsAcceptedBy i.now) list.items) }
+    ensures count { IfOk result (λ images. length images.items ≡ length program.now.modules) }
+    ensures accepted { IfOk result (λ images. AreAccepted program.now images.items) }
 {
-    let mut list = Vec::new(alloc);
-    for image in images {
-        let image = verified(alloc, i, *image)?;
-        list.push(checked(alloc, i, image)?)?;
+    let mut images = Vec::new(alloc);
+    match push_images(alloc, &mut images, program, origins) {
+        Ok(()) => Ok(images),
+        Err(why) => {
+            drop(images);
+            Err(why)
+        }
     }
-    Ok(list)
 }

@@ -19,6 +19,8 @@ mod inputs;
 #[cfg(test)]
 mod opened;
 #[cfg(test)]
+mod rows;
+#[cfg(test)]
 mod runs;
 #[cfg(test)]
 mod spared;

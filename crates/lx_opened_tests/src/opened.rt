@@ -47,14 +47,22 @@ fn open_checked<C: CapStore + Drop>(
     drop(besides);
     match image_counts(alloc, &program, annotated.as_slice()) {
         Ok(counts) => {
-            let (script, annotated) = (script.as_slice(), annotated.as_slice());
-            match open_world(alloc, program, images, script, annotated, caps) {
+            let (calls, marked) = (script.as_slice(), annotated.as_slice());
+            let world = open_world(alloc, program, images, calls, marked, caps);
+            drop(script);
+            drop(annotated);
+            match world {
                 Ok(world) => Ok(Opened { world, counts }),
-                Err(why) => Err(why),
+                Err(why) => {
+                    drop(counts);
+                    Err(why)
+                }
             }
         }
         Err(_) => {
             drop(program);
+            drop(script);
+            drop(annotated);
             drop(images);
             drop(caps);
             Err(OpenFault::Memory)
@@ -71,16 +79,8 @@ pub fn open_over(
     requires { IsReady input }
     ensures { IfOk result (λ opened. IfOk opened (λ o. IsOpened ⟦<PlainCaps as CapStore>⟧.stands o.world o.counts)) }
 {
-    match checked_images(alloc, &input.program.interface, images) {
-        Ok(images) => {
-            if images.len() == input.program.modules.len() {
-                Ok(open_checked(alloc, input, images, PlainCaps::new(alloc)))
-            } else {
-                drop(images);
-                drop(input);
-                Err(Fail::new("not an image for each module"))
-            }
-        }
+    match checked_images(alloc, &input.program, images) {
+        Ok(images) => Ok(open_checked(alloc, input, images, PlainCaps::new(alloc))),
         Err(why) => {
             drop(input);
             Err(why)
@@ -88,15 +88,18 @@ pub fn open_over(
     }
 }
 
-/// What is reported of a world.
-pub fn report_of<C: CapStore + Drop>(
+/// Whether a world that has no work left is reported so.
+pub fn is_reported<C: CapStore + Drop>(
     alloc: Global,
     world: &World<C>,
     counts: Items<ImageCount>,
-) -> Result<Vec<u8>, Memory>
+    wanted: &str,
+) -> Result<bool, Memory>
     requires { IsOpened C.stands world.now counts }
 {
     let account = world.account(alloc, counts)?;
-    let text = report(alloc, &account, world.program())?;
-    Ok(text)
+    let text = report(alloc, &account, world.program());
+    drop(account);
+    let text = text?;
+    Ok(world.done() && text.as_slice() == wanted.as_bytes())
 }

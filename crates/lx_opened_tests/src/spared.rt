@@ -1,12 +1,9 @@
 //! Whichever of the guards of spared stores an image has, its runs are the same.
-ghost use Rattle.std.specs.Prelude.{IfOk};
-ghost use Rattle.lx_input.specs.Laws.{IsReady};
-
 use crate::images::Image;
 use crate::inputs::input_of;
-use crate::runs::report_over;
-use lx_input::Input;
+use crate::runs::{Told, is_told_over};
 use std::alloc::Global;
+use std::process::Abort;
 use std::test::Fail;
 
 /// A kernel that notes numbers and lends its global.
@@ -24,42 +21,34 @@ ret ptr @pool
 }
 
 /// The whole global is lent.
-fn lends_all() -> &'static str {
-    "interface 1
+const LENDS_ALL: &str = "interface 1
 export tell : void (i64 n)
 export lend : ptr () post(copy(write, return, 8))
-"
-}
+";
 
 /// Half of the global is lent.
-fn lends_half() -> &'static str {
-    "interface 1
+const LENDS_HALF: &str = "interface 1
 export tell : void (i64 n)
 export lend : ptr () post(copy(write, return, 4))
-"
-}
+";
 
 /// A call with all the fuel that it needs.
-fn fuelled() -> &'static str {
-    "lxfi case 1
+const FUELLED: &str = "lxfi case 1
 kernel file k.ll
 interface file k.txt
 module m m.ll
 thread
 call m:main 7 fuel 16
-"
-}
+";
 
 /// The same with one unit less.
-fn short_of_fuel() -> &'static str {
-    "lxfi case 1
+const SHORT_OF_FUEL: &str = "lxfi case 1
 kernel file k.ll
 interface file k.txt
 module m m.ll
 thread
 call m:main 7 fuel 15
-"
-}
+";
 
 /// A module that stores three times to its stack, and once to what was lent. A line behind `-` stands in the module alone, one behind
 /// `+` in each of its images, and one behind `A`, `B` or `C` in those that have this guard.
@@ -118,11 +107,14 @@ fn has_mark(version: Version, mark: char) -> bool {
     }
 }
 
+/// The marks of lines.
+static MARKS: [char; 5] = ['-', '+', 'A', 'B', 'C'];
+
 /// The line as it stands in a version, where it does.
 fn line_in(version: Version, line: &'static str) -> Option<&'static str> {
-    for mark in ['-', '+', 'A', 'B', 'C'] {
-        if let Some(rest) = line.strip_prefix(mark) {
-            return if has_mark(version, mark) {
+    for mark in MARKS.iter() {
+        if let Some(rest) = line.strip_prefix(*mark) {
+            return if has_mark(version, *mark) {
                 Some(rest)
             } else {
                 None
@@ -143,14 +135,19 @@ fn text_of(alloc: Global, version: Version) -> Result<String, Fail> {
     Ok(text)
 }
 
-/// A run of the module: its case and interface, how many events it has, and what is reported of it.
+/// A run of the module: its case and interface, and what is told of it.
 #[derive(Clone, Copy)]
 struct Run {
     case: &'static str,
     interface: &'static str,
-    events: usize,
-    report: &'static str,
+    told: Told,
 }
+
+const SEVENTEEN_EVENTS: &[u32] = &[0, 0, 0, 0, 0, 0, 0, 0, 0, 0, 0, 0, 0, 0, 0, 0, 0];
+
+const SIXTEEN_EVENTS: &[u32] = &[0, 0, 0, 0, 0, 0, 0, 0, 0, 0, 0, 0, 0, 0, 0, 0];
+
+const EIGHT_EVENTS: &[u32] = &[0, 0, 0, 0, 0, 0, 0, 0];
 
 /// With all its fuel, the call returns. Its units are the start, two allocas, the store, the call of `lend` with its return and the action
 /// behind it, two stores, a load, the call of `tell` with what it calls and its return, a store, a load and the return: sixteen, and the
@@ -158,10 +155,11 @@ struct Run {
 /// the full image of the module.
 fn returns() -> Run {
     Run {
-        case: fuelled(),
-        interface: lends_all(),
-        events: 17,
-        report: "schedule 0*17
+        case: FUELLED,
+        interface: LENDS_ALL,
+        told: Told {
+            schedule: SEVENTEEN_EVENTS,
+            report: "schedule 0*17
 call 0.0 m:main returned 9
 note 0 7
 image m guards 4 checks 0 wrappers 2
@@ -170,16 +168,18 @@ owns m.shared call 0x10060
 owns m.shared call 0x10070
 owns m.shared call 0x10080
 ",
+        },
     }
 }
 
 /// With one unit less, it stops before its return.
 fn stops() -> Run {
     Run {
-        case: short_of_fuel(),
-        interface: lends_all(),
-        events: 16,
-        report: "schedule 0*16
+        case: SHORT_OF_FUEL,
+        interface: LENDS_ALL,
+        told: Told {
+            schedule: SIXTEEN_EVENTS,
+            report: "schedule 0*16
 call 0.0 m:main budget
 note 0 7
 image m guards 4 checks 0 wrappers 2
@@ -188,16 +188,18 @@ owns m.shared call 0x10060
 owns m.shared call 0x10070
 owns m.shared call 0x10080
 ",
+        },
     }
 }
 
 /// Where half is lent, the store to all is refused: the start, two allocas, the store to the stack, three of `lend`, and this one.
 fn is_refused() -> Run {
     Run {
-        case: fuelled(),
-        interface: lends_half(),
-        events: 8,
-        report: "schedule 0*8
+        case: FUELLED,
+        interface: LENDS_HALF,
+        told: Told {
+            schedule: EIGHT_EVENTS,
+            report: "schedule 0*8
 call 0.0 m:main refused 1 m.shared write 0x1000000+8
 image m guards 4 checks 0 wrappers 2
 owns m.shared write 0x1000000+4
@@ -205,67 +207,103 @@ owns m.shared call 0x10060
 owns m.shared call 0x10070
 owns m.shared call 0x10080
 ",
+        },
     }
 }
 
-/// What a run's case comes to, by the texts of its interface and its module.
-fn input_by<'a>(
-    alloc: Global,
-    case: &str,
-    interface: &'a str,
-    module: &'a str,
-) -> Result<Input, Fail>
-    ensures { IfOk result IsReady }
-{
-    let files = [("k.ll", kernel()), ("k.txt", interface), ("m.ll", module)];
-    input_of(alloc, case, &files)
+/// Whether a run of the module over an image is told as it is to be.
+fn runs_so(alloc: Global, module: &str, image: Image<'_>, run: Run) -> Result<bool, Fail> {
+    let files = [
+        ("k.ll", kernel()),
+        ("k.txt", run.interface),
+        ("m.ll", module),
+    ];
+    let input = input_of(alloc, run.case, &files)?;
+    is_told_over(alloc, input, &[image], run.told)
 }
 
-/// Whether a run of the module over an image is reported as it is to be.
-fn is_reported(alloc: Global, module: &str, image: Image<'_>, run: Run) -> Result<bool, Fail> {
-    let input = input_by(alloc, run.case, run.interface, module)?;
-    let text = report_over(alloc, input, &[image], run.events)?;
-    Ok(text.as_slice() == run.report.as_bytes())
+/// An image for the module.
+#[derive(Clone, Copy)]
+enum Choice {
+    /// That of the lines, with the guards of these marks.
+    Marked(&'static str),
+    /// What is made of the module, with all guards.
+    Full,
+    /// The same without those of spared stores.
+    Spared,
+}
+
+/// Whether a run of the module over such an image is told as it is to be.
+fn is_so(alloc: Global, module: &str, choice: Choice, run: Run) -> Result<bool, Fail> {
+    match choice {
+        Choice::Marked(guards) => {
+            let image = text_of(alloc, Version::Image(guards))?;
+            let is_so = runs_so(alloc, module, Image::Text(image.as_str()), run);
+            drop(image);
+            is_so
+        }
+        Choice::Full => runs_so(alloc, module, Image::Full(module), run),
+        Choice::Spared => runs_so(alloc, module, Image::Spared(module), run),
+    }
+}
+
+/// A run of the module is told as it is to be over each image.
+fn assert_run(
+    rt: &impl Abort,
+    alloc: Global,
+    module: &str,
+    choices: &[Choice],
+    run: Run,
+) -> Result<(), Fail> {
+    for (number, choice) in choices.iter().enumerate() {
+        assert!(rt;
+            is_so(alloc, module, *choice, run)?,
+            "image {number}: {}",
+            run.told.report
+        );
+    }
+    Ok(())
+}
+
+fn assert_runs(
+    rt: &impl Abort,
+    alloc: Global,
+    module: &str,
+    choices: &[Choice],
+) -> Result<(), Fail> {
+    assert_run(rt, alloc, module, choices, returns())?;
+    assert_run(rt, alloc, module, choices, stops())?;
+    assert_run(rt, alloc, module, choices, is_refused())
+}
+
+/// Each run of the module is told as it is to be over each image.
+fn assert_choices(rt: &impl Abort, alloc: Global, choices: &[Choice]) -> Result<(), Fail> {
+    let module = text_of(alloc, Version::Module)?;
+    let went = assert_runs(rt, alloc, module.as_str(), choices);
+    drop(module);
+    went
 }
 
 /// Which of the guards of spared stores an image may have.
-static CHOICES: [&str; 8] = ["", "A", "B", "C", "AB", "AC", "BC", "ABC"];
-
-/// The first choice of guards with which a run of the module is not reported as it is to be.
-fn first_wrong(alloc: Global, run: Run) -> Result<Option<&'static str>, Fail> {
-    let module = text_of(alloc, Version::Module)?;
-    for guards in CHOICES.as_slice() {
-        let image = text_of(alloc, Version::Image(*guards))?;
-        if !is_reported(alloc, module.as_str(), Image::Text(image.as_str()), run)? {
-            return Ok(Some(*guards));
-        }
-    }
-    Ok(None)
-}
-
-/// Whether a run is reported as it is to be over the images that are made of the module, with all guards and without those of spared
-/// stores.
-fn are_reported(alloc: Global, run: Run) -> Result<bool, Fail> {
-    let module = text_of(alloc, Version::Module)?;
-    let module = module.as_str();
-    let full = is_reported(alloc, module, Image::Full(module), run)?;
-    let spared = is_reported(alloc, module, Image::Spared(module), run)?;
-    Ok(full && spared)
-}
+static MARKED: [Choice; 8] = [
+    Choice::Marked(""),
+    Choice::Marked("A"),
+    Choice::Marked("B"),
+    Choice::Marked("C"),
+    Choice::Marked("AB"),
+    Choice::Marked("AC"),
+    Choice::Marked("BC"),
+    Choice::Marked("ABC"),
+];
 
 #[test]
 fn with_any_guards_the_run_is_the_same(rt: HostRuntime) -> Result<(), Fail> {
-    for run in [returns(), stops(), is_refused()] {
-        let wrong = first_wrong(rt.alloc(), run)?;
-        assert_eq!(rt; wrong, None, "{}", run.report);
-    }
-    Ok(())
+    assert_choices(&rt, rt.alloc(), &MARKED)
 }
+
+static MADE: [Choice; 2] = [Choice::Full, Choice::Spared];
 
 #[test]
 fn over_the_images_that_are_made_the_run_is_the_same(rt: HostRuntime) -> Result<(), Fail> {
-    for run in [returns(), stops(), is_refused()] {
-        assert!(rt; are_reported(rt.alloc(), run)?, "{}", run.report);
-    }
-    Ok(())
+    assert_choices(&rt, rt.alloc(), &MADE)
 }

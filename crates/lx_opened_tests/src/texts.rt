@@ -3,15 +3,13 @@ use std::alloc::Global;
 use std::test::Fail;
 
 /// A case of one module over no kernel, which calls its function once.
-pub fn one_case() -> &'static str {
-    "lxfi case 1
+const ONE_CASE: &str = "lxfi case 1
 kernel none
 interface none
 module m m.ll
 thread
 call m:main fuel 100
-"
-}
+";
 
 /// The same module called once by each of two threads.
 pub fn two_threads() -> &'static str {
@@ -41,15 +39,13 @@ call n:main fuel 100
 
 /// A case over a kernel with a function that the module does not import, but is given the address of. Six natives stand from 0x10000, 16
 /// bytes each; behind them it is the first function.
-pub fn hidden_case() -> &'static str {
-    "lxfi case 1
+const HIDDEN_CASE: &str = "lxfi case 1
 kernel file k.ll
 interface none
 module m m.ll
 thread
 call m:main 0x10060 fuel 100
-"
-}
+";
 
 /// This kernel.
 pub fn hidden_kernel() -> &'static str {
@@ -59,40 +55,45 @@ ret i64 5
 "
 }
 
+/// A case of one module, with the texts of the module and of its image.
+#[derive(Clone, Copy)]
+pub struct Sample {
+    pub case: &'static str,
+    pub module: &'static str,
+    pub image: &'static str,
+}
+
 /// A module that calls what it is given.
-pub fn calls_given() -> &'static str {
-    "define i64 @main(ptr %f) {
+pub fn calls_given() -> Sample {
+    Sample {
+        case: HIDDEN_CASE,
+        module: "define i64 @main(ptr %f) {
 %r = call i64 %f()
 ret i64 %r
 }
-"
-}
-
-/// Its image.
-pub fn calls_given_image() -> &'static str {
-    "define i64 @main(ptr %f) {
+",
+        image: "define i64 @main(ptr %f) {
 0:
   call void @lxfi.check(ptr %f)
   %r = call i64 %f()
   ret i64 %r
 }
-"
+",
+    }
 }
 
 /// A module that stores a number to its global and reads it again.
-pub fn stores_seven() -> &'static str {
-    "@g = global i32 0
+pub fn stores_seven() -> Sample {
+    Sample {
+        case: ONE_CASE,
+        module: "@g = global i32 0
 define i32 @main() {
 store i32 7, ptr @g
 %v = load i32, ptr @g
 ret i32 %v
 }
-"
-}
-
-/// Its image.
-pub fn stores_seven_image() -> &'static str {
-    "@g = global i32 0
+",
+        image: "@g = global i32 0
 define i32 @main() {
 0:
   call void @lxfi.guard(ptr @g, i64 4)
@@ -100,48 +101,47 @@ define i32 @main() {
   %v = load i32, ptr @g
   ret i32 %v
 }
-"
+",
+    }
 }
 
 /// A module whose store is one byte longer than its global.
-pub fn stores_past() -> &'static str {
-    "@g = global [7 x i8] zeroinitializer
+pub fn stores_past() -> Sample {
+    Sample {
+        case: ONE_CASE,
+        module: "@g = global [7 x i8] zeroinitializer
 define void @main() {
 store i64 7, ptr @g
 ret void
 }
-"
-}
-
-/// Its image.
-pub fn stores_past_image() -> &'static str {
-    "@g = global [7 x i8] zeroinitializer
+",
+        image: "@g = global [7 x i8] zeroinitializer
 define void @main() {
 0:
   call void @lxfi.guard(ptr @g, i64 8)
   store i64 7, ptr @g
   ret void
 }
-"
+",
+    }
 }
 
 /// A module with a type of its own, which no instruction names.
-pub fn has_type() -> &'static str {
-    "%pair = type { i32, i32 }
+pub fn has_type() -> Sample {
+    Sample {
+        case: ONE_CASE,
+        module: "%pair = type { i32, i32 }
 define i32 @main() {
 ret i32 0
 }
-"
-}
-
-/// Its image.
-pub fn has_type_image() -> &'static str {
-    "%pair = type { i32, i32 }
+",
+        image: "%pair = type { i32, i32 }
 define i32 @main() {
 0:
   ret i32 0
 }
-"
+",
+    }
 }
 
 /// A text with one part exchanged, where that stands in it first.

@@ -30,7 +30,7 @@ returns g c =
     let left = subst (λ (q : Option Counter). Leaves (λ part. empty) (λ part s. length s.journal ≡ part.served) q counter history) from closed.is_left in
     let served : length (state_after empty (opening_state empty) history).journal ≡ counter.served = left.1 (opening_state empty) refl in
     let more : length (state_after empty (opening_state empty) history).journal ≡ 0 + length history = longer empty (opening_state empty) history in
-    let one : length w.mine ≡ length v.mine + 1 = ap length first.answer.mine ∙ length-append v.mine (entry v.number 0 c.end_of_call-request.result c.in_ok-_first._first ∷ []) in
-    let two : length u.mine ≡ length w.mine + 1 = ap length second.answer.mine ∙ length-append w.mine (entry w.number 0 c.end_of_call-request.result c.in_ok-_second._second ∷ []) in
+    let one : length w.mine ≡ length v.mine + 1 = ap length first.answer.mine ∙ length-append v.mine (entry v.number 0 c.args.request.now c.in_ok-_first._first ∷ []) in
+    let two : length u.mine ≡ length w.mine + 1 = ap length second.answer.mine ∙ length-append w.mine (entry w.number 0 c.args.request.now c.in_ok-_second._second ∷ []) in
     let zero : length v.mine ≡ 0 = ap length none in
     omega (arith, served, more, many, one, two, zero)

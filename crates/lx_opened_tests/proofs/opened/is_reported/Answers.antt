@@ -1,5 +1,5 @@
 use Rattle.lx_opened_tests.proofs.Worlds.{counted, lawful}
-use Rattle.lx_opened_tests.proofs.opened.report_of.Goals as goal
+use Rattle.lx_opened_tests.proofs.opened.is_reported.Goals as goal
 
 pub account-requires-clause-stands : goal.account-requires-clause-stands
 account-requires-clause-stands g c = (c.requires.code, c.requires.meaning, c.requires.stands_for)
@@ -7,5 +7,5 @@ account-requires-clause-stands g c = (c.requires.code, c.requires.meaning, c.req
 pub account-requires-clause-images : goal.account-requires-clause-images
 account-requires-clause-images g c = counted g.C.CapStore.stands c.args.world.now c.args.counts c.requires
 
-pub report-requires : goal.report-requires
-report-requires g c = lawful g.C.CapStore.stands c.args.world.now c.args.counts c.program.result.now c.requires c.program.ensures
+pub report-text-requires : goal.report-text-requires
+report-text-requires g c = lawful g.C.CapStore.stands c.args.world.now c.args.counts c.program.result.now c.requires c.program.ensures

@@ -1,6 +1,6 @@
 use Rattle.std.specs.Prelude.{All}
 use Rattle.lx_accepted.specs.Accepted.{IsAcceptedBy}
-use Rattle.lx_opened_tests.proofs.images.checked_images.Given as goal
+use Rattle.lx_opened_tests.proofs.images.push_images.Given as goal
 
 abbrev pub invariant-loop-image : goal.invariant-loop-image
-invariant-loop-image l = All (IsAcceptedBy l.i) l.list.items
+invariant-loop-image l = All (IsAcceptedBy l.program.interface) l.images.items
