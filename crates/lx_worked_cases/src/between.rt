@@ -8,11 +8,8 @@
 //! the end; the second six: its entry, that of `take`, the action before that, two `ret`, and the end. Where the module does
 //! not hold the bytes, the store and the action are refused, each of them in the third event, which is then the call's last.
 
-use crate::compared::{Asked, Compared, compare, put_turn};
-use std::alloc::Global;
-use std::sync::Wait;
+use crate::pieces::{Piece, put, put_broken, put_turn};
 use std::test::Fail;
-use std::thread::Threads;
 
 /// The events of a call of thread 0 that is not refused.
 const EVENTS: u32 = 9;
@@ -164,7 +161,8 @@ static SCENES: [Scene; 4] = [
     },
 ];
 
-fn files() -> &'static str {
+/// The kernel, the interface and the module of all scenes.
+pub fn scene_files() -> &'static str {
     "---- file kernel.ll
 @buf = global i64 3
 declare i64 @k.slot.work(ptr, ptr)
@@ -241,13 +239,6 @@ owns m.shared call 0x100c0
 "
 }
 
-fn case_of(alloc: Global, scene: &Scene) -> Result<String, Fail> {
-    let head = head();
-    let (crossing, stranger) = (scene.crossing.0, scene.stranger.0);
-    let case = format!(in alloc; "{head} {crossing} fuel 100\nthread\ncall {stranger} fuel 100\n")?;
-    Ok(case)
-}
-
 /// The turns in which thread 1's call stands behind so many events of thread 0.
 fn turns_of(span: Span, before: u32) -> Turns {
     Turns {
@@ -257,12 +248,41 @@ fn turns_of(span: Span, before: u32) -> Turns {
     }
 }
 
-fn schedule_of(alloc: Global, turns: Turns) -> Result<String, Fail> {
-    let mut schedule = String::from_str(alloc, "schedule")?;
-    put_turn(&mut schedule, 0, turns.before)?;
-    put_turn(&mut schedule, 1, turns.strangers)?;
-    put_turn(&mut schedule, 0, turns.behind)?;
-    Ok(schedule)
+fn put_schedule(text: &mut String, turns: Turns) -> Result<(), Fail> {
+    text.push_str("schedule")?;
+    put_turn(text, 0, turns.before)?;
+    put_turn(text, 1, turns.strangers)?;
+    put_turn(text, 0, turns.behind)
+}
+
+fn put_case(text: &mut String, scene: &Scene) -> Result<(), Fail> {
+    put(
+        text,
+        &[
+            Piece::Text("---- case\n"),
+            Piece::Text(head()),
+            Piece::Text(" "),
+            Piece::Text(scene.crossing.0),
+            Piece::Text(" fuel 100\nthread\ncall "),
+            Piece::Text(scene.stranger.0),
+            Piece::Text(" fuel 100\n"),
+        ],
+    )
+}
+
+/// Puts that the case of a scene is replayed under these turns.
+fn put_replay(text: &mut String, scene: &Scene, turns: Turns) -> Result<(), Fail> {
+    put(
+        text,
+        &[
+            Piece::Text("---- "),
+            Piece::Text(scene.crossing.1),
+            Piece::Text(" and "),
+            Piece::Text(scene.stranger.1),
+            Piece::Text("\n---- schedule\n"),
+        ],
+    )?;
+    put_schedule(text, turns)
 }
 
 /// 0 where both calls return.
@@ -272,85 +292,61 @@ fn status_of(span: Span) -> u32 {
     u32::from(!returned)
 }
 
-/// The report of a case under this schedule.
-fn wanted_of(alloc: Global, scene: &Scene, span: Span, schedule: &str) -> Result<String, Fail> {
-    let status = status_of(span);
-    let (crossing, stranger) = (scene.crossing.1, scene.stranger.1);
-    let (reply, strangers) = (span.crossing.0, span.stranger.0);
-    let told = format!(in alloc;
-        "status {status}\n{schedule}\ncall 0.0 {crossing} {reply}\ncall 1.0 {stranger} {strangers}\n"
-    )?;
-    let own = if span.owns {
+/// The module's own bytes, where it owns them in the end.
+fn own(span: Span) -> &'static str {
+    if span.owns {
         "owns m.shared write 0x1000020+8\n"
     } else {
         ""
-    };
-    let (image, calls) = (image(), calls());
-    let wanted = format!(in alloc; "{told}{image}{own}{calls}")?;
-    Ok(wanted)
+    }
 }
 
-/// The case under the schedule with so many events before thread 1's call.
-fn compare_whole<R: Threads + Wait + Sync>(
-    rt: &R,
-    alloc: Global,
-    compared: &mut Compared,
-    scene: &Scene,
-    at: (Span, u32),
-) -> Result<(), Fail> {
-    let (span, before) = at;
-    let case = case_of(alloc, scene)?;
-    let schedule = schedule_of(alloc, turns_of(span, before))?;
-    let wanted = wanted_of(alloc, scene, span, schedule.as_str())?;
-    let asked = Asked {
-        case: case.as_str(),
-        schedule: schedule.as_str(),
-        wanted: wanted.as_str(),
-    };
-    compare(rt, alloc, compared, asked)
+/// Puts the replies and what is owned in the end.
+fn put_replies(text: &mut String, scene: &Scene, span: Span) -> Result<(), Fail> {
+    put(
+        text,
+        &[
+            Piece::Text("\ncall 0.0 "),
+            Piece::Text(scene.crossing.1),
+            Piece::Text(" "),
+            Piece::Text(span.crossing.0),
+            Piece::Text("\ncall 1.0 "),
+            Piece::Text(scene.stranger.1),
+            Piece::Text(" "),
+            Piece::Text(span.stranger.0),
+            Piece::Text("\n"),
+            Piece::Text(image()),
+            Piece::Text(own(span)),
+            Piece::Text(calls()),
+        ],
+    )
 }
 
-/// A replay that fails at this entry.
-fn compare_broken<R: Threads + Wait + Sync>(
-    rt: &R,
-    alloc: Global,
-    compared: &mut Compared,
-    texts: (&str, &str),
-    entry: u32,
-) -> Result<(), Fail> {
-    let wanted = format!(in alloc; "status 7\nlxfi: schedule not whole at entry {entry}\n")?;
-    let asked = Asked {
-        case: texts.0,
-        schedule: texts.1,
-        wanted: wanted.as_str(),
-    };
-    compare(rt, alloc, compared, asked)
+/// Puts the schedule with so many events before thread 1's call, and its report.
+fn put_whole(text: &mut String, scene: &Scene, span: Span, before: u32) -> Result<(), Fail> {
+    let turns = turns_of(span, before);
+    put_replay(text, scene, turns)?;
+    put(
+        text,
+        &[
+            Piece::Text("---- whole\nstatus "),
+            Piece::Number(status_of(span)),
+            Piece::Text("\n"),
+        ],
+    )?;
+    put_schedule(text, turns)?;
+    put_replies(text, scene, span)
 }
 
-/// The case under turns that fail at this entry.
-fn compare_cut<R: Threads + Wait + Sync>(
-    rt: &R,
-    alloc: Global,
-    compared: &mut Compared,
-    scene: &Scene,
-    cut: (Turns, u32),
-) -> Result<(), Fail> {
-    let (turns, entry) = cut;
-    let case = case_of(alloc, scene)?;
-    let schedule = schedule_of(alloc, turns)?;
-    let texts = (case.as_str(), schedule.as_str());
-    compare_broken(rt, alloc, compared, texts, entry)
+/// Puts turns that fail at this entry.
+fn put_cut(text: &mut String, scene: &Scene, turns: Turns, entry: u32) -> Result<(), Fail> {
+    put_replay(text, scene, turns)?;
+    put_broken(text, entry)
 }
 
-/// A schedule that ends behind thread 1's call while thread 0 has work, and one that asks thread 1 once more there: both fail
-/// at the entry behind that call.
-fn compare_cuts<R: Threads + Wait + Sync>(
-    rt: &R,
-    alloc: Global,
-    compared: &mut Compared,
-    scene: &Scene,
-    span: Span,
-) -> Result<(), Fail> {
+/// Puts a schedule that ends behind thread 1's call while thread 0 has work, and one that asks thread 1 once more there: both
+/// fail at the entry behind that call.
+fn put_cuts(text: &mut String, scene: &Scene, span: Span) -> Result<(), Fail> {
     let whole = turns_of(span, span.before.0);
     let entry = whole.before.saturating_add(whole.strangers);
     let ended = Turns {
@@ -358,99 +354,76 @@ fn compare_cuts<R: Threads + Wait + Sync>(
         strangers: whole.strangers,
         behind: 0,
     };
-    compare_cut(rt, alloc, compared, scene, (ended, entry))?;
+    put_cut(text, scene, ended, entry)?;
     let asked = Turns {
         before: whole.before,
         strangers: whole.strangers.saturating_add(1),
         behind: whole.behind,
     };
-    compare_cut(rt, alloc, compared, scene, (asked, entry))
+    put_cut(text, scene, asked, entry)
 }
 
-/// The schedules with thread 1's call at each place of one span.
-fn compare_span<R: Threads + Wait + Sync>(
-    rt: &R,
-    alloc: Global,
-    compared: &mut Compared,
-    scene: &Scene,
-    span: Span,
-) -> Result<(), Fail> {
+/// Puts the schedules with thread 1's call at each place of one span.
+fn put_span(text: &mut String, scene: &Scene, span: Span) -> Result<(), Fail> {
     let (first, end) = span.before;
     for before in first..end {
-        compare_whole(rt, alloc, compared, scene, (span, before))?;
+        put_whole(text, scene, span, before)?;
     }
     Ok(())
 }
 
-fn compare_scene<R: Threads + Wait + Sync>(
-    rt: &R,
-    alloc: Global,
-    compared: &mut Compared,
-    scene: &Scene,
-) -> Result<(), Fail> {
+fn put_scene(text: &mut String, scene: &Scene) -> Result<(), Fail> {
+    put_case(text, scene)?;
     for span in scene.spans {
-        compare_span(rt, alloc, compared, scene, *span)?;
-        compare_cuts(rt, alloc, compared, scene, *span)?;
+        put_span(text, scene, *span)?;
+        put_cuts(text, scene, *span)?;
     }
     Ok(())
 }
 
-fn compare_scenes<R: Threads + Wait + Sync>(
-    rt: &R,
-    alloc: Global,
-    compared: &mut Compared,
-    scenes: &[Scene],
-) -> Result<(), Fail> {
-    for scene in scenes {
-        compare_scene(rt, alloc, compared, scene)?;
+/// Puts ten places in each of four scenes, and two broken schedules for each of fifteen spans.
+pub fn put_scenes(text: &mut String) -> Result<(), Fail> {
+    for scene in &SCENES {
+        put_scene(text, scene)?;
     }
     Ok(())
 }
 
-/// In each of four scenes ten places, and two broken schedules for each of fifteen spans.
-#[test]
-fn a_call_between_the_events_of_a_crossing(rt: HostRuntime) -> Result<(), Fail> {
-    let mut compared = Compared::over(rt.alloc(), files())?;
-    compare_scenes(&rt, rt.alloc(), &mut compared, &SCENES)?;
-    assert_eq!(rt; compared.wrong(), "");
-    assert_eq!(rt; compared.tried, 70);
-    Ok(())
+/// Puts a schedule of one thread that ends behind so many events.
+fn put_end(text: &mut String, events: u32) -> Result<(), Fail> {
+    put(
+        text,
+        &[
+            Piece::Text("---- schedule\nschedule 0*"),
+            Piece::Number(events),
+        ],
+    )?;
+    put_broken(text, events)
 }
 
-/// A schedule of one thread that ends behind so many events.
-fn compare_end<R: Threads + Wait + Sync>(
-    rt: &R,
-    alloc: Global,
-    compared: &mut Compared,
-    case: &str,
-    events: u32,
-) -> Result<(), Fail> {
-    let schedule = format!(in alloc; "schedule 0*{events}")?;
-    compare_broken(rt, alloc, compared, (case, schedule.as_str()), events)
-}
-
-/// A schedule of one thread that ends before each event but the first of the call, inside its wrapper among them: work remains
-/// then, so it fails at its length.
-fn compare_ends<R: Threads + Wait + Sync>(
-    rt: &R,
-    alloc: Global,
-    compared: &mut Compared,
-    call: &str,
-) -> Result<(), Fail> {
-    let head = head();
-    let case = format!(in alloc; "{head} {call} fuel 100\n")?;
+/// Puts a schedule of one thread that ends before each event but the first of the call, inside its wrapper among them: work
+/// remains then, so it fails at its length.
+fn put_ends_of(text: &mut String, call: &'static str) -> Result<(), Fail> {
+    put(
+        text,
+        &[
+            Piece::Text("---- "),
+            Piece::Text(call),
+            Piece::Text("\n---- case\n"),
+            Piece::Text(head()),
+            Piece::Text(" "),
+            Piece::Text(call),
+            Piece::Text(" fuel 100\n"),
+        ],
+    )?;
     for events in 1..EVENTS {
-        compare_end(rt, alloc, compared, case.as_str(), events)?;
+        put_end(text, events)?;
     }
     Ok(())
 }
 
-#[test]
-fn a_schedule_that_ends_inside_a_wrapper(rt: HostRuntime) -> Result<(), Fail> {
-    let mut compared = Compared::over(rt.alloc(), files())?;
-    compare_ends(&rt, rt.alloc(), &mut compared, "m:hand")?;
-    compare_ends(&rt, rt.alloc(), &mut compared, "kernel:run &m:ops")?;
-    assert_eq!(rt; compared.wrong(), "");
-    assert_eq!(rt; compared.tried, 16);
-    Ok(())
+/// Puts these ends of a call to the kernel and of one from the kernel.
+pub fn put_ends(text: &mut String) -> Result<(), Fail> {
+    put_ends_of(text, "m:hand")?;
+    put_ends_of(text, "kernel:run &m:ops")
 }

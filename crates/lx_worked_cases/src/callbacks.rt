@@ -21,11 +21,8 @@
 //! the middle leaves the references where they are then: the kernel has all but the deepest, which is the last instance's
 //! where the call of the kernel finds no frame, and the kernel's too where the slot finds none.
 
-use crate::table::run_cases;
-use std::test::Fail;
-
 /// The chains, with the least fuel at which each comes to its end and with one unit less.
-fn callbacks() -> &'static str {
+pub fn callbacks() -> &'static str {
     "---- file steps_kernel.ll
 declare i64 @k.slot.step(ptr, i64, i64)
 define i64 @again(ptr %s, i64 %n, i64 %d) {
@@ -213,12 +210,4 @@ owns m.shared call 0x10060
 owns m.shared call 0x10080
 owns m[0x467] ref level 0x467
 "
-}
-
-#[test]
-fn callbacks_to_the_frame_limit(rt: HostRuntime) -> Result<(), Fail> {
-    let mut wrong = String::new(rt.alloc());
-    run_cases(&rt, rt.alloc(), &mut wrong, callbacks())?;
-    assert_eq!(rt; wrong.as_str(), "");
-    Ok(())
 }

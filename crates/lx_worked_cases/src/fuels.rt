@@ -6,12 +6,8 @@
 //! address (12), the store (13), `ret` (14); the action behind the probe (15), and the kernel's `ret` (16). Where the fuel
 //! ends before a unit, the end of the call takes its place, and what came before it stays.
 
-use crate::compared::{Asked, Compared, compare};
-use lx_worked_texts::small_files;
-use std::alloc::Global;
-use std::sync::Wait;
+use crate::pieces::{Piece, put};
 use std::test::Fail;
-use std::thread::Threads;
 
 /// The units that are events; the three others are computations of addresses.
 static EVENT_UNITS: [u32; 13] = [1, 3, 4, 5, 7, 8, 9, 10, 11, 13, 14, 15, 16];
@@ -136,57 +132,67 @@ fn again(fuel: u32) -> Rest {
     }
 }
 
-/// What is written: the schedule and the replies, and then what is owned.
-fn wanted_of(alloc: Global, fuel: u32, rest: Rest) -> Result<String, Fail> {
-    let status = u32::from(fuel < ALL_UNITS);
-    let events = rest.events.saturating_add(INIT_EVENTS);
-    let (reply, replies) = (reply_at(fuel), rest.replies);
-    let told = format!(in alloc;
-        "status {status}\nschedule 0*{events}\ncall 0.0 m:init returned\ncall 0.1 kernel:do_probe {reply}\n{replies}"
-    )?;
-    let (image, calls) = (image(), calls());
-    let (bytes, instance) = (rest.bytes, rest.instance);
-    let wanted = format!(in alloc; "{told}{image}+{bytes}\n{calls}{instance}")?;
-    Ok(wanted)
+/// Puts the case of a call at a fuel, with what stands behind it.
+fn put_case(text: &mut String, fuel: u32, rest: Rest) -> Result<(), Fail> {
+    put(
+        text,
+        &[
+            Piece::Text("---- fuel "),
+            Piece::Number(fuel),
+            Piece::Text("\n---- case\n"),
+            Piece::Text(head()),
+            Piece::Text(" "),
+            Piece::Number(fuel),
+            Piece::Text("\n"),
+            Piece::Text(rest.calls),
+        ],
+    )
 }
 
-/// The call at a fuel, with what stands behind it.
-fn compare_rest<R: Threads + Wait + Sync>(
-    rt: &R,
-    alloc: Global,
-    compared: &mut Compared,
-    fuel: u32,
-    rest: Rest,
-) -> Result<(), Fail> {
-    let (head, calls) = (head(), rest.calls);
-    let case = format!(in alloc; "{head} {fuel}\n{calls}")?;
-    let wanted = wanted_of(alloc, fuel, rest)?;
-    let asked = Asked {
-        case: case.as_str(),
-        schedule: "",
-        wanted: wanted.as_str(),
-    };
-    compare(rt, alloc, compared, asked)
+/// Puts the schedule and the replies.
+fn put_replies(text: &mut String, fuel: u32, rest: Rest) -> Result<(), Fail> {
+    put(
+        text,
+        &[
+            Piece::Text("---- whole\nstatus "),
+            Piece::Number(u32::from(fuel < ALL_UNITS)),
+            Piece::Text("\nschedule 0*"),
+            Piece::Number(rest.events.saturating_add(INIT_EVENTS)),
+            Piece::Text("\ncall 0.0 m:init returned\ncall 0.1 kernel:do_probe "),
+            Piece::Text(reply_at(fuel)),
+            Piece::Text("\n"),
+            Piece::Text(rest.replies),
+        ],
+    )
 }
 
-fn compare_fuels<R: Threads + Wait + Sync>(
-    rt: &R,
-    alloc: Global,
-    compared: &mut Compared,
-    fuels: &[u32],
-) -> Result<(), Fail> {
-    for fuel in fuels {
-        compare_rest(rt, alloc, compared, *fuel, alone(*fuel))?;
-        compare_rest(rt, alloc, compared, *fuel, again(*fuel))?;
+/// Puts what is owned in the end.
+fn put_owned(text: &mut String, rest: Rest) -> Result<(), Fail> {
+    put(
+        text,
+        &[
+            Piece::Text(image()),
+            Piece::Text("+"),
+            Piece::Number(rest.bytes),
+            Piece::Text("\n"),
+            Piece::Text(calls()),
+            Piece::Text(rest.instance),
+        ],
+    )
+}
+
+/// Puts the call at a fuel, with what stands behind it, and its report.
+fn put_call(text: &mut String, fuel: u32, rest: Rest) -> Result<(), Fail> {
+    put_case(text, fuel, rest)?;
+    put_replies(text, fuel, rest)?;
+    put_owned(text, rest)
+}
+
+/// Puts the call at each fuel, alone and with the same call behind it.
+pub fn put_fuels(text: &mut String) -> Result<(), Fail> {
+    for fuel in &FUELS {
+        put_call(text, *fuel, alone(*fuel))?;
+        put_call(text, *fuel, again(*fuel))?;
     }
-    Ok(())
-}
-
-#[test]
-fn a_callback_at_every_fuel(rt: HostRuntime) -> Result<(), Fail> {
-    let mut compared = Compared::over(rt.alloc(), small_files())?;
-    compare_fuels(&rt, rt.alloc(), &mut compared, &FUELS)?;
-    assert_eq!(rt; compared.wrong(), "");
-    assert_eq!(rt; compared.tried, 40);
     Ok(())
 }

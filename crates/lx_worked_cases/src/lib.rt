@@ -2,17 +2,23 @@
 #![tactic(auto)]
 
 #[cfg(test)]
+mod bench;
+#[cfg(test)]
 mod between;
 #[cfg(test)]
 mod callbacks;
 #[cfg(test)]
-mod compared;
+mod edges;
 #[cfg(test)]
 mod examples;
 #[cfg(test)]
 mod fault_texts;
 #[cfg(test)]
+mod files;
+#[cfg(test)]
 mod fuels;
+#[cfg(test)]
+mod gates;
 #[cfg(test)]
 mod inputs;
 #[cfg(test)]
@@ -20,7 +26,11 @@ mod long;
 #[cfg(test)]
 mod one_entry;
 #[cfg(test)]
-mod run;
+mod pieces;
+#[cfg(test)]
+mod reports;
+#[cfg(test)]
+mod series;
 #[cfg(test)]
 mod shelves;
 #[cfg(test)]
@@ -33,3 +43,7 @@ mod table;
 mod tests;
 #[cfg(test)]
 mod threads;
+#[cfg(test)]
+mod trial;
+#[cfg(test)]
+mod wanted;

@@ -1,6 +1,5 @@
 //! Cases whose texts or reports have thousands of lines.
 
-use std::alloc::Global;
 use std::fmt::Write;
 use std::test::Fail;
 
@@ -8,151 +7,125 @@ use std::test::Fail;
 /// `#` stands for the number, and `$` for the same in hexadecimal.
 pub type Part = (&'static str, u32, u32);
 
-/// A case by its parts, the schedule under which it is replayed, empty where it is run, and the whole text that is written.
-pub struct LongRow {
-    pub name: &'static str,
-    pub case: &'static [Part],
-    pub schedule: &'static [Part],
-    pub status: u8,
-    pub wanted: &'static [Part],
-}
-
 /// Calls through a slot, each of eight events, and references that are copied, each in three events.
-pub static LONG: [LongRow; 3] = [
-    LongRow {
-        name: "2,000 slot calls",
-        case: &[
-            (
-                "lxfi case 1
+static LONG: [Part; 9] = [
+    (
+        "---- 2,000 slot calls
+---- case
+lxfi case 1
 kernel builtin
 interface builtin
 module m probe.ll
 thread
 call m:init fuel 100
 ",
-                0,
-                1,
-            ),
-            ("call kernel:do_probe 0 fuel 100\n", 0, 2000),
-        ],
-        schedule: &[],
-        status: 0,
-        wanted: &[
-            ("schedule 0*16011\ncall 0.0 m:init returned\n", 0, 1),
-            ("call 0.# kernel:do_probe returned 0\n", 1, 2001),
-            (
-                "image m guards 0 checks 0 wrappers 2
+        0,
+        1,
+    ),
+    ("call kernel:do_probe 0 fuel 100\n", 0, 2000),
+    (
+        "---- whole
+status 0
+schedule 0*16011
+call 0.0 m:init returned
+",
+        0,
+        1,
+    ),
+    ("call 0.# kernel:do_probe returned 0\n", 1, 2001),
+    (
+        "image m guards 0 checks 0 wrappers 2
 owns m.shared write 0x10000e0+16
 owns m.shared call 0x10090
 owns m.shared call 0x10130
 owns m.shared call 0x10140
 owns m[0x1000020] ref device 0x1000020
 ",
-                0,
-                1,
-            ),
-        ],
-    },
-    LongRow {
-        name: "1,000 copied references",
-        case: &[(
-            "lxfi case 1
+        0,
+        1,
+    ),
+    (
+        "---- 1,000 copied references
+---- case
+lxfi case 1
 kernel file many.ll
 interface file many.txt
 module m files.ll
 thread
 call m:main 1000 fuel 7003
-",
-            0,
-            1,
-        )],
-        schedule: &[],
-        status: 0,
-        wanted: &[
-            (
-                "schedule 0*3003
+---- whole
+status 0
+schedule 0*3003
 call 0.0 m:main returned
 image m guards 0 checks 0 wrappers 1
 owns m.shared call 0x10060
 owns m.shared call 0x10090
 ",
-                0,
-                1,
-            ),
-            ("owns m.shared ref file 0x$\n", 0, 1000),
-        ],
-    },
-    LongRow {
-        name: "5,000 references of one type",
-        case: &[(
-            "lxfi case 1
+        0,
+        1,
+    ),
+    ("owns m.shared ref file 0x$\n", 0, 1000),
+    (
+        "---- 5,000 references of one type
+---- case
+lxfi case 1
 kernel file many.ll
 interface file many.txt
 module m files.ll
 thread
 call m:main 5000 fuel 35003
-",
-            0,
-            1,
-        )],
-        schedule: &[],
-        status: 0,
-        wanted: &[
-            (
-                "schedule 0*15003
+---- whole
+status 0
+schedule 0*15003
 call 0.0 m:main returned
 image m guards 0 checks 0 wrappers 1
 owns m.shared call 0x10060
 owns m.shared call 0x10090
 ",
-                0,
-                1,
-            ),
-            ("owns m.shared ref file 0x$\n", 0, 5000),
-        ],
-    },
+        0,
+        1,
+    ),
+    ("owns m.shared ref file 0x$\n", 0, 5000),
 ];
 
 /// As many calls as a case may have, in which four threads take turns: 14 events with kmalloc and kfree, 8 with dev_wipe, 8
 /// through a slot, and 2 up to a store that is refused.
-pub static ALL_CALLS: [LongRow; 1] = [LongRow {
-    name: "4,096 calls of four kinds",
-    case: &[
-        (
-            "lxfi case 1
+static ALL_CALLS: [Part; 19] = [
+    (
+        "---- 4,096 calls of four kinds
+---- case
+lxfi case 1
 kernel builtin
 interface builtin
 module m mixed.ll
 thread
 ",
-            0,
-            1,
-        ),
-        ("call m:work # fuel 100\n", 0, 1024),
-        ("thread\n", 0, 1),
-        ("call m:wipe fuel 100\n", 0, 1024),
-        ("thread\ncall m:init fuel 100\n", 0, 1),
-        ("call kernel:do_probe 0 fuel 100\n", 1, 1024),
-        ("thread\n", 0, 1),
-        ("call m:stray # fuel 100\n", 0, 1024),
-    ],
-    schedule: &[("0*14 1*8 2*11 3*2", 0, 1), (" 0*14 1*8 2*8 3*2", 1, 1024)],
-    status: 1,
-    wanted: &[
-        ("schedule 0*14 1*8 2*11 3*2", 0, 1),
-        (" 0*14 1*8 2*8 3*2", 1, 1024),
-        ("\n", 0, 1),
-        ("call 0.# m:work returned #\n", 0, 1024),
-        ("call 1.# m:wipe returned\n", 0, 1024),
-        ("call 2.0 m:init returned\n", 0, 1),
-        ("call 2.# kernel:do_probe returned 0\n", 1, 1024),
-        (
-            "call 3.# m:stray refused 1 m.shared write 0x1000000+8\n",
-            0,
-            1024,
-        ),
-        (
-            "image m guards 2 checks 0 wrappers 5
+        0,
+        1,
+    ),
+    ("call m:work # fuel 100\n", 0, 1024),
+    ("thread\n", 0, 1),
+    ("call m:wipe fuel 100\n", 0, 1024),
+    ("thread\ncall m:init fuel 100\n", 0, 1),
+    ("call kernel:do_probe 0 fuel 100\n", 1, 1024),
+    ("thread\n", 0, 1),
+    ("call m:stray # fuel 100\n", 0, 1024),
+    ("---- schedule\n0*14 1*8 2*11 3*2", 0, 1),
+    (" 0*14 1*8 2*8 3*2", 1, 1024),
+    ("---- whole\nstatus 1\nschedule 0*14 1*8 2*11 3*2", 0, 1),
+    (" 0*14 1*8 2*8 3*2", 1, 1024),
+    ("\n", 0, 1),
+    ("call 0.# m:work returned #\n", 0, 1024),
+    ("call 1.# m:wipe returned\n", 0, 1024),
+    ("call 2.0 m:init returned\n", 0, 1),
+    ("call 2.# kernel:do_probe returned 0\n", 1, 1024),
+    (
+        "call 3.# m:stray refused 1 m.shared write 0x1000000+8\n",
+        0,
+        1024,
+    ),
+    (
+        "image m guards 2 checks 0 wrappers 5
 owns m.shared write 0x10000e0+32
 owns m.shared call 0x10060
 owns m.shared call 0x10080
@@ -165,11 +138,10 @@ owns m.shared call 0x10160
 owns m.shared call 0x10170
 owns m[0x1000020] ref device 0x1000020
 ",
-            0,
-            1,
-        ),
-    ],
-}];
+        0,
+        1,
+    ),
+];
 
 /// Writes the lines of a part for a number.
 fn put_lines(text: &mut String, lines: &str, number: u32) -> Result<(), Fail> {
@@ -191,11 +163,18 @@ fn put_part(text: &mut String, part: &Part) -> Result<(), Fail> {
     Ok(())
 }
 
-/// The text of these parts.
-pub fn text_of(alloc: Global, parts: &[Part]) -> Result<String, Fail> {
-    let mut text = String::new(alloc);
+/// Writes parts, one behind another.
+pub fn put_parts(text: &mut String, parts: &[Part]) -> Result<(), Fail> {
     for part in parts {
-        put_part(&mut text, part)?;
+        put_part(text, part)?;
     }
-    Ok(text)
+    Ok(())
+}
+
+pub fn put_long_reports(text: &mut String) -> Result<(), Fail> {
+    put_parts(text, &LONG)
+}
+
+pub fn put_all_calls(text: &mut String) -> Result<(), Fail> {
+    put_parts(text, &ALL_CALLS)
 }

@@ -5,16 +5,9 @@
 //! there exactly in those schedules in which thread 0's second entry stands before thread 1's third; where they are not,
 //! the store is refused in that entry, which is thread 0's last.
 
-use crate::compared::{Asked, Compared, compare, put_turn, run_at};
-use crate::table::put_files;
-use crate::threads::{schedule_in, waits};
-use lx_outside::{Gate, GatePlace, MemShelf};
-use std::alloc::Global;
-use std::sync::Wait;
-use std::sync::atomic::Ordering::SeqCst;
-use std::sync::atomic::{AtomicBool, AtomicU32};
+use crate::pieces::{Piece, put, put_broken, put_turn};
+use crate::reports::entries_in;
 use std::test::Fail;
-use std::thread::Threads;
 
 /// The threads of a schedule's entries: the digits of a number to the base 2, from the lowest on.
 #[derive(Clone, Copy)]
@@ -24,7 +17,7 @@ struct Entries {
 }
 
 /// The events of each call that is not refused.
-const CALL: u32 = 4;
+pub const CALL: u32 = 4;
 
 /// The entries of both calls where the store is made.
 const MADE: u32 = 8;
@@ -32,7 +25,8 @@ const MADE: u32 = 8;
 /// Their entries where it is refused.
 const REFUSED: u32 = 6;
 
-fn files() -> &'static str {
+/// The files and the case.
+pub fn store() -> &'static str {
     "---- file quits.txt
 interface 1
 slot done : void (ptr p) post(transfer(write, p, 8))
@@ -48,11 +42,8 @@ define void @put() {
 define void @quit(ptr %p) {
   ret void
 }
-"
-}
-
-fn case() -> &'static str {
-    "lxfi case 1
+---- case
+lxfi case 1
 kernel none
 interface file quits.txt
 module m puts.ll
@@ -61,6 +52,15 @@ call m:put fuel 100
 thread
 call m:quit &m:own fuel 100
 "
+}
+
+/// What is told of thread 0's call, whose store is made or refused.
+fn reply_of(made: bool) -> &'static str {
+    if made {
+        "call 0.0 m:put returned\n"
+    } else {
+        "call 0.0 m:put refused 1 m.shared write 0x1000010+8\n"
+    }
 }
 
 /// The lines behind thread 0's call.
@@ -105,35 +105,22 @@ fn is_made(entries: Entries) -> bool {
     place_of(entries, 0, 1) < place_of(entries, 1, 2)
 }
 
-/// The schedule as a report prints it, of runs as long as can be.
-fn schedule_of(alloc: Global, entries: Entries) -> Result<String, Fail> {
-    let mut schedule = String::from_str(alloc, "schedule")?;
+/// Puts the schedule as a report prints it, of runs as long as can be.
+fn put_schedule(text: &mut String, entries: Entries) -> Result<(), Fail> {
+    text.push_str("schedule")?;
     let mut rest = entries.digits;
     let mut thread = rest % 2;
     let mut count = 0u32;
     for _ in 0..entries.count {
         if rest % 2 != thread {
-            put_turn(&mut schedule, thread, count)?;
+            put_turn(text, thread, count)?;
             thread = rest % 2;
             count = 0;
         }
         count = count.saturating_add(1);
         rest /= 2;
     }
-    put_turn(&mut schedule, thread, count)?;
-    Ok(schedule)
-}
-
-/// The report of a whole schedule: of eight entries where the store is made, of six where it is refused.
-fn report_of(alloc: Global, schedule: &str, made: bool) -> Result<String, Fail> {
-    let (status, reply) = if made {
-        (0u32, "returned")
-    } else {
-        (1u32, "refused 1 m.shared write 0x1000010+8")
-    };
-    let rest = rest();
-    let report = format!(in alloc; "status {status}\n{schedule}\ncall 0.0 m:put {reply}\n{rest}")?;
-    Ok(report)
+    put_turn(text, thread, count)
 }
 
 /// The entry at which a schedule is not whole, or nothing: with eight entries a refused call has no third event, and with six
@@ -149,150 +136,75 @@ fn broken_at(entries: Entries) -> Option<u32> {
     }
 }
 
-/// What the replay of a schedule writes.
-fn wanted_of(alloc: Global, entries: Entries, schedule: &str) -> Result<String, Fail> {
-    match broken_at(entries) {
-        None => report_of(alloc, schedule, is_made(entries)),
-        Some(entry) => {
-            let fault = format!(in alloc; "status 7\nlxfi: schedule not whole at entry {entry}\n")?;
-            Ok(fault)
-        }
-    }
-}
-
-fn compare_one<R: Threads + Wait + Sync>(
-    rt: &R,
-    alloc: Global,
-    compared: &mut Compared,
-    entries: Entries,
-) -> Result<(), Fail> {
-    let schedule = schedule_of(alloc, entries)?;
-    let wanted = wanted_of(alloc, entries, schedule.as_str())?;
-    let asked = Asked {
-        case: case(),
-        schedule: schedule.as_str(),
-        wanted: wanted.as_str(),
-    };
-    compare(rt, alloc, compared, asked)
-}
-
-/// Each schedule of so many entries, four of which are thread 1's; the digits stand below this number.
-fn compare_all<R: Threads + Wait + Sync>(
-    rt: &R,
-    alloc: Global,
-    compared: &mut Compared,
-    count: u32,
-    end: u32,
-) -> Result<(), Fail> {
-    for digits in 0..end {
-        let entries = Entries { digits, count };
-        if strangers(entries) == CALL {
-            compare_one(rt, alloc, compared, entries)?;
-        }
-    }
-    Ok(())
-}
-
-/// There are 70 schedules with four entries of each thread, and 15 with two of thread 0.
-#[test]
-fn a_store_is_one_entry_of_every_schedule(rt: HostRuntime) -> Result<(), Fail> {
-    let mut compared = Compared::over(rt.alloc(), files())?;
-    compare_all(&rt, rt.alloc(), &mut compared, MADE, 256)?;
-    compare_all(&rt, rt.alloc(), &mut compared, REFUSED, 64)?;
-    assert_eq!(rt; compared.wrong(), "");
-    assert_eq!(rt; compared.tried, 85);
-    Ok(())
-}
-
-/// Holds a thread before one of its events, when its register steps are done, until the other has passed for its last.
-#[derive(Drop)]
-struct HeldThread {
-    thread: u32,
-    event: u32,
-    passed: AtomicU32,
-    others: AtomicU32,
-    missed: AtomicBool,
-}
-
-impl Gate for HeldThread {
-    fn pass(&self, thread: u32, place: GatePlace) {
-        if place != GatePlace::Event {
-            return;
-        }
-        if thread != self.thread {
-            self.others.fetch_add(1, SeqCst);
-            return;
-        }
-        if self.passed.fetch_add(1, SeqCst) == self.event && !waits(&self.others, CALL) {
-            self.missed.store(true, SeqCst);
-        }
-    }
-}
-
-/// How many entries a schedule has.
-fn entries_in(schedule: &str) -> u32 {
-    let mut entries = 0u32;
-    for turn in schedule.split(' ') {
-        if let Some((_, count)) = turn.split_once('*') {
-            entries = entries.saturating_add(count.parse::<u32>().unwrap_or(0));
-        }
-    }
-    entries
-}
-
-/// What a run at a gate writes.
-fn report_at<R: Threads + Wait + Sync>(
-    rt: &R,
-    alloc: Global,
-    gate: &HeldThread,
-) -> Result<String, Fail> {
-    let mut shelf = MemShelf::new(alloc, Vec::new(alloc));
-    put_files(alloc, &mut shelf, files())?;
-    run_at(rt, alloc, &mut shelf, case(), gate)
-}
-
-/// Whether the store is made, or refused, in the run at a gate, by a report with an entry for each request.
-fn is_as_held<R: Threads + Wait + Sync>(
-    rt: &R,
-    alloc: Global,
-    gate: &HeldThread,
-    made: bool,
-) -> Result<bool, Fail> {
-    let report = report_at(rt, alloc, gate)?;
-    let printed = schedule_in(report.as_str());
-    let schedule = format!(in alloc; "schedule {printed}")?;
-    let wanted = report_of(alloc, schedule.as_str(), made)?;
-    let entries = if made { MADE } else { REFUSED };
-    Ok(
-        report.as_str() == wanted.as_str()
-            && entries_in(printed) == entries
-            && !gate.missed.load(SeqCst),
+/// Puts the report of a whole schedule: of eight entries where the store is made, of six where it is refused.
+fn put_report(text: &mut String, entries: Entries) -> Result<(), Fail> {
+    let made = is_made(entries);
+    put(
+        text,
+        &[
+            Piece::Text("---- whole\nstatus "),
+            Piece::Number(u32::from(!made)),
+            Piece::Text("\n"),
+        ],
+    )?;
+    put_schedule(text, entries)?;
+    put(
+        text,
+        &[
+            Piece::Text("\n"),
+            Piece::Text(reply_of(made)),
+            Piece::Text(rest()),
+        ],
     )
 }
 
-/// A thread that is held before its event with this number, counted from 0.
-fn held_before(thread: u32, event: u32) -> HeldThread {
-    HeldThread {
-        thread,
-        event,
-        passed: AtomicU32::new(0),
-        others: AtomicU32::new(0),
-        missed: AtomicBool::new(false),
+/// Puts a schedule, and what its replay writes.
+fn put_replay(text: &mut String, entries: Entries) -> Result<(), Fail> {
+    text.push_str("---- schedule\n")?;
+    put_schedule(text, entries)?;
+    match broken_at(entries) {
+        None => put_report(text, entries),
+        Some(entry) => put_broken(text, entry),
     }
 }
 
-/// The store's guard has passed when its thread is held; what was taken away meanwhile is missed all the same.
-#[test]
-fn a_store_that_is_held_behind_its_guard(rt: HostRuntime) -> Result<(), Fail> {
-    let is = is_as_held(&rt, rt.alloc(), &held_before(0, 1), false)?;
-    assert!(rt; is);
+/// Puts each schedule of so many entries, four of which are thread 1's; the digits stand below this number.
+fn put_all_of(text: &mut String, count: u32, end: u32) -> Result<(), Fail> {
+    for digits in 0..end {
+        let entries = Entries { digits, count };
+        if strangers(entries) == CALL {
+            put_replay(text, entries)?;
+        }
+    }
     Ok(())
 }
 
-/// The action that takes the bytes away is held until the store and its thread are done.
-#[test]
-fn an_action_that_is_held_behind_a_store(rt: HostRuntime) -> Result<(), Fail> {
-    let is = is_as_held(&rt, rt.alloc(), &held_before(1, 2), true)?;
-    assert!(rt; is);
-    Ok(())
+/// Puts the 70 schedules with four entries of each thread, and the 15 with two of thread 0.
+pub fn put_entries(text: &mut String) -> Result<(), Fail> {
+    put_all_of(text, MADE, 256)?;
+    put_all_of(text, REFUSED, 64)
+}
+
+/// Whether these are the lines behind the schedule where the store is made, or refused.
+fn are_replies(lines: &str, made: bool) -> bool {
+    match lines.strip_prefix(reply_of(made)) {
+        Some(behind) => behind == rest(),
+        None => false,
+    }
+}
+
+/// Whether a report is that of a run in which the store is made, or refused, with an entry for each request.
+pub fn is_store(report: &str, made: bool) -> bool {
+    let (head, entries) = if made {
+        ("status 0\nschedule ", MADE)
+    } else {
+        ("status 1\nschedule ", REFUSED)
+    };
+    let Some(told) = report.strip_prefix(head) else {
+        return false;
+    };
+    match told.split_once('\n') {
+        Some((schedule, lines)) => are_replies(lines, made) && entries_in(schedule) == entries,
+        None => false,
+    }
 }

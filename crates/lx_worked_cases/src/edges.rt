@@ -1,0 +1,89 @@
+//! Runs that end at the program's edges: its output, its files and its words.
+
+use crate::long::put_parts;
+use crate::pieces::{Piece, put};
+use lx_worked_texts::ONE_CASE;
+use std::test::Fail;
+
+/// What is written of words that are no command.
+pub const USAGE: &str =
+    "usage: lxfi_run run CASE | replay CASE SCHEDULE | instrument CASE MODULE | check CASE MODULE IMAGE | generate N\n";
+
+/// An output that fails, and one without room.
+pub fn outputs() -> &'static str {
+    "---- nothing is written
+---- failing output
+---- words run one.case
+---- whole
+status 5
+---- ten bytes are written
+---- short output
+---- words run one.case
+---- whole
+status 5
+schedule 0"
+}
+
+/// Puts a case whose module is not there.
+pub fn put_without_module(text: &mut String) -> Result<(), Fail> {
+    put(
+        text,
+        &[
+            Piece::Text("---- file one.case\n"),
+            Piece::Text(ONE_CASE),
+            Piece::Text("---- words run one.case\n---- whole\nstatus 4\n"),
+            Piece::Text("lxfi: cannot read one.ll\n"),
+        ],
+    )
+}
+
+/// Puts a module with a byte more than a file may have.
+pub fn put_past_limit(text: &mut String) -> Result<(), Fail> {
+    put_parts(
+        text,
+        &[
+            ("---- file one.ll\n", 0, 1),
+            ("\n", 0, 1_048_577),
+            ("---- words run one.case\n---- whole\nstatus 3\n", 0, 1),
+            ("one.ll:1: limit 1 file\n", 0, 1),
+        ],
+    )
+}
+
+/// Words that are no command: none in the first row, and one without letters at the end of the ninth.
+static NO_COMMANDS: [&str; 14] = [
+    "",
+    "run",
+    "run --x",
+    "generate",
+    "generate 4097",
+    "generate 18446744073709551617",
+    "generate 007",
+    "generate -1",
+    "generate ",
+    "generate 1 2",
+    "run one.case one.case",
+    "replay one.case",
+    "replay one.case -",
+    "why one.case",
+];
+
+/// Puts what is wanted of these words.
+fn put_no_command(text: &mut String, words: &'static str) -> Result<(), Fail> {
+    put(
+        text,
+        &[
+            Piece::Text("---- words "),
+            Piece::Text(words),
+            Piece::Text("\n---- whole\nstatus 2\n"),
+            Piece::Text(USAGE),
+        ],
+    )
+}
+
+pub fn put_no_commands(text: &mut String) -> Result<(), Fail> {
+    for words in &NO_COMMANDS {
+        put_no_command(text, words)?;
+    }
+    Ok(())
+}
