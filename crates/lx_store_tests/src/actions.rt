@@ -5,6 +5,7 @@ ghost use Rattle.lx_annot.specs.Items.{list_items, list_of_action};
 use crate::common::{self, FIRST, SECOND, SHARED, STRANGER};
 use lx_actions::{ActFault, SpaceLook, perform};
 use lx_annot::action::{Action, ActionNode, CapSpec};
+use lx_annot::caps::caps_of;
 use lx_annot::expr::{Env, Expr, ExprNode, Ty};
 use lx_annot::interface::{CapIterator, Interface, Item};
 use lx_annot::value::Look;
@@ -99,11 +100,11 @@ fn action(kind: Kind, named: Named) -> Action {
     Action { node }
 }
 
-/// A lend behind a condition that is 0.
-fn no_lend(alloc: Global, named: Named) -> Result<Action, lx_caps::Memory> {
-    match Box::new(alloc, action(Kind::Lend, named)) {
-        Ok(lend) => Ok(Action {
-            node: ActionNode::If(number(0), lend),
+/// An action behind a condition that is 0.
+fn not_done(alloc: Global, kind: Kind, named: Named) -> Result<Action, lx_caps::Memory> {
+    match Box::new(alloc, action(kind, named)) {
+        Ok(action) => Ok(Action {
+            node: ActionNode::If(number(0), action),
         }),
         Err(e) => Err(AllocError::from(e).into()),
     }
@@ -126,18 +127,22 @@ fn env(alloc: Global, bits: u64) -> Result<Env, Memory> {
     })
 }
 
-/// The 8 bytes at `p`, and 8 bytes at the address that the word at `p` is.
+/// The 8 bytes at `p`, and 8 bytes at the address that the word at `p` is. Between them is an item whose condition is 0.
 fn packet(alloc: Global) -> Result<Vec<Item>, Memory> {
     let at = looked_at(alloc, first_param())?;
     let own = Item {
         cond: None,
         cap: CapSpec::Write(first_param(), number(8)),
     };
+    let left_out = Item {
+        cond: Some(number(0)),
+        cap: CapSpec::Call(first_param()),
+    };
     let further = Item {
         cond: None,
         cap: CapSpec::Write(at, number(8)),
     };
-    let items = vec![in alloc; own, further]?;
+    let items = vec![in alloc; own, left_out, further]?;
     Ok(items)
 }
 
@@ -243,10 +248,12 @@ enum Step {
     Put(u64, u64),
     /// An action from one principal to another, and how it ends.
     Act(Kind, Named, (Principal, Principal), Ending),
-    /// A lend behind a condition that is 0, from one principal to another.
-    NoLend(Named, (Principal, Principal), Ending),
+    /// The same behind a condition that is 0.
+    NotDone(Kind, Named, (Principal, Principal), Ending),
     /// An end of so many loans.
     End(u32, (Principal, Principal), Ending),
+    /// How many capabilities an action names.
+    Names(Deed, usize),
     /// How many acts the store took.
     Count(usize),
     /// The acts that the store took.
@@ -257,15 +264,15 @@ enum Step {
 #[derive(Clone, Copy)]
 enum Deed {
     Do(Kind, Named),
-    /// A lend behind a condition that is 0.
-    NoLend(Named),
+    /// The same behind a condition that is 0.
+    NotDone(Kind, Named),
     End(u32),
 }
 
 fn action_of(alloc: Global, deed: Deed) -> Result<Action, lx_caps::Memory> {
     match deed {
         Deed::Do(kind, named) => Ok(action(kind, named)),
-        Deed::NoLend(named) => no_lend(alloc, named),
+        Deed::NotDone(kind, named) => not_done(alloc, kind, named),
         Deed::End(count) => Ok(end(count)),
     }
 }
@@ -283,6 +290,27 @@ fn ends_so(
     Ok(ending == want)
 }
 
+/// How many capabilities an action names, where all that it looks at is there.
+fn count_named(bench: &Bench, a: &Action) -> Option<usize> {
+    let i = &bench.interface;
+    if !is_short(i, a) {
+        return None;
+    }
+    let space = &bench.space;
+    match caps_of(i, a, &bench.env, &SpaceLook { space }) {
+        Ok(caps) => Some(caps.as_slice().len()),
+        Err(_) => None,
+    }
+}
+
+/// Whether the action of a deed names so many capabilities.
+fn names_so_many(bench: &Bench, deed: Deed, count: usize) -> Result<bool, lx_caps::Memory> {
+    let action = action_of(bench.alloc, deed)?;
+    let named = count_named(bench, &action);
+    drop(action);
+    Ok(named == Some(count))
+}
+
 /// Takes a step, and says whether it went as it has to.
 fn goes_so(bench: &mut Bench, step: Step) -> Result<bool, lx_caps::Memory> {
     match step {
@@ -293,8 +321,11 @@ fn goes_so(bench: &mut Bench, step: Step) -> Result<bool, lx_caps::Memory> {
         Step::Act(kind, named, between, want) => {
             ends_so(bench, Deed::Do(kind, named), between, want)
         }
-        Step::NoLend(named, between, want) => ends_so(bench, Deed::NoLend(named), between, want),
+        Step::NotDone(kind, named, between, want) => {
+            ends_so(bench, Deed::NotDone(kind, named), between, want)
+        }
         Step::End(count, between, want) => ends_so(bench, Deed::End(count), between, want),
+        Step::Names(deed, want) => names_so_many(bench, deed, want),
         Step::Count(want) => Ok(bench.caps.acts().as_slice().len() == want),
         Step::Acts(want) => Ok(bench.caps.acts().as_slice() == want),
     }
@@ -316,8 +347,10 @@ fn assert_steps(rt: &impl Abort, alloc: Global, bits: u64, steps: &[Step]) -> Re
     went
 }
 
-/// Eight bytes go out to a module and come back, and then it has them no more.
-static OUT_AND_BACK: [Step; 4] = [
+/// Eight bytes go out to a module and come back, and then it has them no more; a copy that is not done gives it nothing.
+static OUT_AND_BACK: [Step; 7] = [
+    Step::Names(Deed::Do(Kind::Copy, Named::Bytes(0x2000000, 8)), 1),
+    Step::Names(Deed::NotDone(Kind::Copy, Named::Bytes(0x2000000, 8)), 0),
     Step::Act(
         Kind::Transfer,
         Named::Bytes(0x2000000, 8),
@@ -335,6 +368,12 @@ static OUT_AND_BACK: [Step; 4] = [
         Named::Bytes(0x2000000, 8),
         (SHARED, KERNEL),
         Ending::Write(SHARED, 0x2000000, 8),
+    ),
+    Step::NotDone(
+        Kind::Copy,
+        Named::Bytes(0x2000000, 8),
+        (KERNEL, SHARED),
+        Ending::Done,
     ),
     Step::Acts(&[
         Act::Strip(EIGHT_BYTES),
@@ -385,7 +424,7 @@ static OUT_ON_LOAN: [Step; 11] = [
         BACK,
         Ending::Borrowed(STRANGER, FOUR_OF_THEM),
     ),
-    Step::NoLend(Named::Bytes(0x1000000, 8), OUT, Ending::Done),
+    Step::NotDone(Kind::Lend, Named::Bytes(0x1000000, 8), OUT, Ending::Done),
     Step::End(1, BACK, Ending::Done),
     Step::Act(Kind::Check, Named::Bytes(0x1000000, 8), BACK, Ending::Done),
     Step::End(1, BACK, Ending::Done),

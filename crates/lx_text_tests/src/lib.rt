@@ -14,4 +14,6 @@ mod outside;
 #[cfg(test)]
 mod script;
 #[cfg(test)]
+mod values;
+#[cfg(test)]
 mod words;

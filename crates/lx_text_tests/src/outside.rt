@@ -33,10 +33,19 @@ fn put_old_and_new(alloc: Global, shelf: &mut MemShelf) -> Result<(), Fail> {
     Ok(())
 }
 
+/// Whether a shelf has noted one failed read, of this name.
+fn has_noted(shelf: &MemShelf, name: &str) -> bool {
+    match shelf.faults.as_slice() {
+        [noted] => noted.as_str() == name,
+        _ => false,
+    }
+}
+
 fn assert_new(rt: &impl Abort, alloc: Global, shelf: &mut MemShelf) -> Result<(), Fail> {
     put_old_and_new(alloc, shelf)?;
     assert!(rt; reads(alloc, shelf, "a", b"new")?);
     assert!(rt; cannot_read(alloc, shelf, "a"));
+    assert!(rt; has_noted(shelf, "a"));
     Ok(())
 }
 
@@ -71,6 +80,24 @@ fn a_file_of_the_system_is_read(rt: HostRuntime) -> Result<(), Fail> {
     assert!(rt; kept?);
     removed?;
     assert!(rt; failed);
+    Ok(())
+}
+
+/// How many bytes a shelf reads of a file. Any shelf will do.
+fn count_of<S: Shelf>(alloc: Global, shelf: &mut S, name: &str) -> Result<usize, ShelfFault> {
+    let bytes = shelf.read(alloc, name)?;
+    let count = bytes.len();
+    drop(bytes);
+    Ok(count)
+}
+
+/// A byte past the limit is read, so that it is seen to be passed.
+#[test]
+fn a_file_without_an_end_is_read_past_the_limit(rt: HostRuntime) -> Result<(), Fail> {
+    let mut shelf = FileShelf::new(&rt, rt.alloc());
+    let count = count_of(rt.alloc(), &mut shelf, "/dev/zero");
+    drop(shelf);
+    assert!(rt; count? == 1_048_577);
     Ok(())
 }
 
