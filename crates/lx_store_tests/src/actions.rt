@@ -407,8 +407,8 @@ const OUT: (Principal, Principal) = (SHARED, STRANGER);
 const BACK: (Principal, Principal) = (STRANGER, SHARED);
 
 /// Bytes are lent to another module, which may use them and may not give them away, until the loan ends. A lend that is
-/// not done opens a loan all the same, which the first end ends.
-static OUT_ON_LOAN: [Step; 11] = [
+/// not done opens a loan all the same, which the first end ends; and one end ends two loans.
+static OUT_ON_LOAN: [Step; 15] = [
     Step::Grant(SHARED, 0x1000000, 8),
     Step::Act(Kind::Lend, Named::Bytes(0x1000000, 8), OUT, Ending::Done),
     Step::Act(Kind::Check, Named::Bytes(0x1000000, 8), BACK, Ending::Done),
@@ -434,6 +434,15 @@ static OUT_ON_LOAN: [Step; 11] = [
         BACK,
         Ending::Write(STRANGER, 0x1000000, 8),
     ),
+    Step::Act(Kind::Lend, Named::Bytes(0x1000000, 8), OUT, Ending::Done),
+    Step::Act(Kind::Lend, Named::Bytes(0x1000000, 4), OUT, Ending::Done),
+    Step::End(2, BACK, Ending::Done),
+    Step::Act(
+        Kind::Check,
+        Named::Bytes(0x1000000, 8),
+        BACK,
+        Ending::Write(STRANGER, 0x1000000, 8),
+    ),
     Step::Acts(&[
         Act::Grant(SHARED, LENT_BYTES),
         Act::Loan(0),
@@ -441,6 +450,11 @@ static OUT_ON_LOAN: [Step; 11] = [
         Act::Loan(0),
         Act::Shut(0, 1),
         Act::Shut(0, 1),
+        Act::Loan(0),
+        Act::Lend(0, STRANGER, LENT_BYTES),
+        Act::Loan(0),
+        Act::Lend(0, STRANGER, FOUR_OF_THEM),
+        Act::Shut(0, 2),
     ]),
 ];
 
