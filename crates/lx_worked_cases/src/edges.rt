@@ -1,7 +1,7 @@
 //! Runs that end at the program's edges: its output, its files and its words.
 
+use crate::forms::put_row;
 use crate::long::put_parts;
-use crate::pieces::{Piece, put};
 use lx_worked_texts::ONE_CASE;
 use std::test::Fail;
 
@@ -26,13 +26,13 @@ schedule 0"
 
 /// Puts a case whose module is not there.
 pub fn put_without_module(text: &mut String) -> Result<(), Fail> {
-    put(
+    put_parts(
         text,
         &[
-            Piece::Text("---- file one.case\n"),
-            Piece::Text(ONE_CASE),
-            Piece::Text("---- words run one.case\n---- whole\nstatus 4\n"),
-            Piece::Text("lxfi: cannot read one.ll\n"),
+            ("---- file one.case\n", 0, 1),
+            (ONE_CASE, 0, 1),
+            ("---- words run one.case\n---- whole\nstatus 4\n", 0, 1),
+            ("lxfi: cannot read one.ll\n", 0, 1),
         ],
     )
 }
@@ -68,22 +68,10 @@ static NO_COMMANDS: [&str; 14] = [
     "why one.case",
 ];
 
-/// Puts what is wanted of these words.
-fn put_no_command(text: &mut String, words: &'static str) -> Result<(), Fail> {
-    put(
-        text,
-        &[
-            Piece::Text("---- words "),
-            Piece::Text(words),
-            Piece::Text("\n---- whole\nstatus 2\n"),
-            Piece::Text(USAGE),
-        ],
-    )
-}
-
 pub fn put_no_commands(text: &mut String) -> Result<(), Fail> {
     for words in &NO_COMMANDS {
-        put_no_command(text, words)?;
+        put_row(text, "---- words <0>\n---- whole\nstatus 2\n", words)?;
+        text.push_str(USAGE)?;
     }
     Ok(())
 }

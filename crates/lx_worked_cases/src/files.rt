@@ -1,6 +1,5 @@
 //! The files that worked cases name.
 
-use crate::pieces::{Piece, put};
 use lx_c_texts::{
     checksum_text, driver_text, interface_text, kernel_text, nic_after_text, nic_bent_text,
     nic_past_text, nic_text, ring_text,
@@ -34,15 +33,10 @@ fn file(number: u32) -> (&'static str, &'static str) {
 
 fn put_file(text: &mut String, number: u32) -> Result<(), Fail> {
     let (name, body) = file(number);
-    put(
-        text,
-        &[
-            Piece::Text("---- file "),
-            Piece::Text(name),
-            Piece::Text("\n"),
-            Piece::Text(body),
-        ],
-    )
+    for piece in ["---- file ", name, "\n", body] {
+        text.push_str(piece)?;
+    }
+    Ok(())
 }
 
 /// Puts all files.
@@ -50,12 +44,8 @@ pub fn put_files(text: &mut String) -> Result<(), Fail> {
     for number in 0..FILES {
         put_file(text, number)?;
     }
-    put(
-        text,
-        &[
-            Piece::Text(small_files()),
-            Piece::Text(many_files()),
-            Piece::Text(loan_files()),
-        ],
-    )
+    text.push_str(small_files())?;
+    text.push_str(many_files())?;
+    text.push_str(loan_files())?;
+    Ok(())
 }

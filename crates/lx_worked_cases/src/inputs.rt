@@ -192,6 +192,9 @@ fn each_check_tells_its_fault(rt: HostRuntime) -> Result<(), Fail> {
     assert_rows(&rt, rt.alloc(), &ROWS)
 }
 
+/// A function that is named by its number.
+const FUNCTION: &str = "define void@#(){ret void}";
+
 /// A program has numbers for 65,536 functions. Six of them are natives, so ten modules of one text have 6,553 each.
 const TEN_MODULES: &str =
     "lxfi case 1\nkernel none\ninterface none\nmodule a m.ll\nmodule b m.ll\nmodule c m.ll\nmodule d m.ll\nmodule e m.ll\nmodule f m.ll\nmodule g m.ll\nmodule h m.ll\nmodule i m.ll\nmodule j m.ll\n";
@@ -202,15 +205,17 @@ const ONE_MORE: &str =
 
 static COUNTED: [Row; 2] = [
     Row(
-        Files::Functions(
+        Files::Parts(
             &[("one.case", TEN_MODULES), ("one.ll", UNSHARED)],
-            "",
-            6_553,
+            &[(FUNCTION, 0, 6_553)],
         ),
         Wanted::Linked(""),
     ),
     Row(
-        Files::Functions(&[("one.case", ONE_MORE), ("one.ll", UNSHARED)], "", 6_553),
+        Files::Parts(
+            &[("one.case", ONE_MORE), ("one.ll", UNSHARED)],
+            &[(FUNCTION, 0, 6_553)],
+        ),
         Wanted::Linked("one.ll:1: link 4 functions\n"),
     ),
 ];
@@ -222,18 +227,16 @@ fn a_program_has_numbers_for_65536_functions(rt: HostRuntime) -> Result<(), Fail
 
 static PLACED: [Row; 2] = [
     Row(
-        Files::Functions(
+        Files::Parts(
             &[("one.case", ONE_MORE), ("one.ll", UNSHARED)],
-            ALL_BYTES,
-            6_553,
+            &[(ALL_BYTES, 0, 1), (FUNCTION, 0, 6_553)],
         ),
         Wanted::Linked("one.ll:1: link 4 functions\n"),
     ),
     Row(
-        Files::Functions(
+        Files::Parts(
             &[("one.case", TEN_MODULES), ("one.ll", UNSHARED)],
-            ALL_BYTES,
-            1,
+            &[(ALL_BYTES, 0, 1), (FUNCTION, 0, 1)],
         ),
         Wanted::Linked("m.ll:1: link 4 globals\n"),
     ),

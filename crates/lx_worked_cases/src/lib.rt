@@ -16,6 +16,8 @@ mod fault_texts;
 #[cfg(test)]
 mod files;
 #[cfg(test)]
+mod forms;
+#[cfg(test)]
 mod fuels;
 #[cfg(test)]
 mod gates;
@@ -25,8 +27,6 @@ mod inputs;
 mod long;
 #[cfg(test)]
 mod one_entry;
-#[cfg(test)]
-mod pieces;
 #[cfg(test)]
 mod reports;
 #[cfg(test)]

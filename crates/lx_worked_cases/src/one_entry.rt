@@ -5,16 +5,9 @@
 //! there exactly in those schedules in which thread 0's second entry stands before thread 1's third; where they are not,
 //! the store is refused in that entry, which is thread 0's last.
 
-use crate::pieces::{Piece, put, put_broken, put_turn};
+use crate::forms::put_rows;
 use crate::reports::entries_in;
 use std::test::Fail;
-
-/// The threads of a schedule's entries: the digits of a number to the base 2, from the lowest on.
-#[derive(Clone, Copy)]
-struct Entries {
-    digits: u32,
-    count: u32,
-}
 
 /// The events of each call that is not refused.
 pub const CALL: u32 = 4;
@@ -54,18 +47,14 @@ call m:quit &m:own fuel 100
 "
 }
 
-/// What is told of thread 0's call, whose store is made or refused.
-fn reply_of(made: bool) -> &'static str {
-    if made {
-        "call 0.0 m:put returned\n"
-    } else {
-        "call 0.0 m:put refused 1 m.shared write 0x1000010+8\n"
-    }
-}
-
-/// The lines behind thread 0's call.
-fn rest() -> &'static str {
-    "call 1.0 m:quit returned
+/// A schedule that is whole, its status, and what it tells of thread 0's call.
+fn whole_form() -> &'static str {
+    "---- schedule
+schedule <0>---- whole
+status <1>
+schedule <0>
+call 0.0 m:put <2>
+call 1.0 m:quit returned
 image m guards 1 checks 0 wrappers 1
 owns m.shared write 0x1000000+8
 owns m.shared call 0x10060
@@ -73,123 +62,134 @@ owns m.shared call 0x10070
 "
 }
 
-/// How many of the entries are thread 1's.
-fn strangers(entries: Entries) -> u32 {
-    let mut rest = entries.digits;
-    let mut found = 0u32;
-    for _ in 0..entries.count {
-        found = found.saturating_add(rest % 2);
-        rest /= 2;
-    }
-    found
+/// The schedules of eight entries in which the store is made, and those of six in which it is refused.
+fn whole_rows() -> &'static str {
+    "1*2 0*2 1*2 0*2|0|returned
+1*1 0*1 1*1 0*1 1*2 0*2|0|returned
+0*1 1*2 0*1 1*2 0*2|0|returned
+1*1 0*2 1*3 0*2|0|returned
+0*1 1*1 0*1 1*3 0*2|0|returned
+0*2 1*4 0*2|0|returned
+1*2 0*2 1*1 0*1 1*1 0*1|0|returned
+1*1 0*1 1*1 0*1 1*1 0*1 1*1 0*1|0|returned
+0*1 1*2 0*1 1*1 0*1 1*1 0*1|0|returned
+1*1 0*2 1*2 0*1 1*1 0*1|0|returned
+0*1 1*1 0*1 1*2 0*1 1*1 0*1|0|returned
+0*2 1*3 0*1 1*1 0*1|0|returned
+1*2 0*3 1*2 0*1|0|returned
+1*1 0*1 1*1 0*2 1*2 0*1|0|returned
+0*1 1*2 0*2 1*2 0*1|0|returned
+1*1 0*2 1*1 0*1 1*2 0*1|0|returned
+0*1 1*1 0*1 1*1 0*1 1*2 0*1|0|returned
+0*2 1*2 0*1 1*2 0*1|0|returned
+1*1 0*3 1*3 0*1|0|returned
+0*1 1*1 0*2 1*3 0*1|0|returned
+0*2 1*1 0*1 1*3 0*1|0|returned
+0*3 1*4 0*1|0|returned
+1*2 0*2 1*1 0*2 1*1|0|returned
+1*1 0*1 1*1 0*1 1*1 0*2 1*1|0|returned
+0*1 1*2 0*1 1*1 0*2 1*1|0|returned
+1*1 0*2 1*2 0*2 1*1|0|returned
+0*1 1*1 0*1 1*2 0*2 1*1|0|returned
+0*2 1*3 0*2 1*1|0|returned
+1*2 0*3 1*1 0*1 1*1|0|returned
+1*1 0*1 1*1 0*2 1*1 0*1 1*1|0|returned
+0*1 1*2 0*2 1*1 0*1 1*1|0|returned
+1*1 0*2 1*1 0*1 1*1 0*1 1*1|0|returned
+0*1 1*1 0*1 1*1 0*1 1*1 0*1 1*1|0|returned
+0*2 1*2 0*1 1*1 0*1 1*1|0|returned
+1*1 0*3 1*2 0*1 1*1|0|returned
+0*1 1*1 0*2 1*2 0*1 1*1|0|returned
+0*2 1*1 0*1 1*2 0*1 1*1|0|returned
+0*3 1*3 0*1 1*1|0|returned
+1*2 0*4 1*2|0|returned
+1*1 0*1 1*1 0*3 1*2|0|returned
+0*1 1*2 0*3 1*2|0|returned
+1*1 0*2 1*1 0*2 1*2|0|returned
+0*1 1*1 0*1 1*1 0*2 1*2|0|returned
+0*2 1*2 0*2 1*2|0|returned
+1*1 0*3 1*1 0*1 1*2|0|returned
+0*1 1*1 0*2 1*1 0*1 1*2|0|returned
+0*2 1*1 0*1 1*1 0*1 1*2|0|returned
+0*3 1*2 0*1 1*2|0|returned
+1*1 0*4 1*3|0|returned
+0*1 1*1 0*3 1*3|0|returned
+0*2 1*1 0*2 1*3|0|returned
+0*3 1*1 0*1 1*3|0|returned
+0*4 1*4|0|returned
+1*4 0*2|1|refused 1 m.shared write 0x1000010+8
+1*3 0*1 1*1 0*1|1|refused 1 m.shared write 0x1000010+8
+1*2 0*1 1*2 0*1|1|refused 1 m.shared write 0x1000010+8
+1*1 0*1 1*3 0*1|1|refused 1 m.shared write 0x1000010+8
+0*1 1*4 0*1|1|refused 1 m.shared write 0x1000010+8
+1*3 0*2 1*1|1|refused 1 m.shared write 0x1000010+8
+1*2 0*1 1*1 0*1 1*1|1|refused 1 m.shared write 0x1000010+8
+1*1 0*1 1*2 0*1 1*1|1|refused 1 m.shared write 0x1000010+8
+0*1 1*3 0*1 1*1|1|refused 1 m.shared write 0x1000010+8
+"
 }
 
-/// The place of a thread's entry with this number, counted from 0; behind all entries where it has fewer.
-fn place_of(entries: Entries, thread: u32, number: u32) -> u32 {
-    let mut rest = entries.digits;
-    let mut found = 0u32;
-    for place in 0..entries.count {
-        if rest % 2 == thread {
-            if found == number {
-                return place;
-            }
-            found = found.saturating_add(1);
-        }
-        rest /= 2;
-    }
-    entries.count
+/// A schedule, and the entry at which it is not whole.
+fn broken_form() -> &'static str {
+    "---- schedule
+schedule <0>---- whole
+status 7
+lxfi: schedule not whole at entry <1>
+"
 }
 
-/// Whether the store comes before the action that takes its bytes away.
-fn is_made(entries: Entries) -> bool {
-    place_of(entries, 0, 1) < place_of(entries, 1, 2)
-}
-
-/// Puts the schedule as a report prints it, of runs as long as can be.
-fn put_schedule(text: &mut String, entries: Entries) -> Result<(), Fail> {
-    text.push_str("schedule")?;
-    let mut rest = entries.digits;
-    let mut thread = rest % 2;
-    let mut count = 0u32;
-    for _ in 0..entries.count {
-        if rest % 2 != thread {
-            put_turn(text, thread, count)?;
-            thread = rest % 2;
-            count = 0;
-        }
-        count = count.saturating_add(1);
-        rest /= 2;
-    }
-    put_turn(text, thread, count)
-}
-
-/// The entry at which a schedule is not whole, or nothing: with eight entries a refused call has no third event, and with six
-/// a call whose store is made has no fourth.
-fn broken_at(entries: Entries) -> Option<u32> {
-    let made = is_made(entries);
-    if made == (entries.count == MADE) {
-        None
-    } else if made {
-        Some(entries.count)
-    } else {
-        Some(place_of(entries, 0, 2))
-    }
-}
-
-/// Puts the report of a whole schedule: of eight entries where the store is made, of six where it is refused.
-fn put_report(text: &mut String, entries: Entries) -> Result<(), Fail> {
-    let made = is_made(entries);
-    put(
-        text,
-        &[
-            Piece::Text("---- whole\nstatus "),
-            Piece::Number(u32::from(!made)),
-            Piece::Text("\n"),
-        ],
-    )?;
-    put_schedule(text, entries)?;
-    put(
-        text,
-        &[
-            Piece::Text("\n"),
-            Piece::Text(reply_of(made)),
-            Piece::Text(rest()),
-        ],
-    )
-}
-
-/// Puts a schedule, and what its replay writes.
-fn put_replay(text: &mut String, entries: Entries) -> Result<(), Fail> {
-    text.push_str("---- schedule\n")?;
-    put_schedule(text, entries)?;
-    match broken_at(entries) {
-        None => put_report(text, entries),
-        Some(entry) => put_broken(text, entry),
-    }
-}
-
-/// Puts each schedule of so many entries, four of which are thread 1's; the digits stand below this number.
-fn put_all_of(text: &mut String, count: u32, end: u32) -> Result<(), Fail> {
-    for digits in 0..end {
-        let entries = Entries { digits, count };
-        if strangers(entries) == CALL {
-            put_replay(text, entries)?;
-        }
-    }
-    Ok(())
+/// The other ones: with eight entries a refused call has no third event, and with six a call whose store is made has no fourth.
+fn broken_rows() -> &'static str {
+    "1*4 0*4|6
+1*3 0*1 1*1 0*3|6
+1*2 0*1 1*2 0*3|6
+1*1 0*1 1*3 0*3|6
+0*1 1*4 0*3|6
+1*3 0*2 1*1 0*2|6
+1*2 0*1 1*1 0*1 1*1 0*2|6
+1*1 0*1 1*2 0*1 1*1 0*2|6
+0*1 1*3 0*1 1*1 0*2|6
+1*3 0*3 1*1 0*1|5
+1*2 0*1 1*1 0*2 1*1 0*1|5
+1*1 0*1 1*2 0*2 1*1 0*1|5
+0*1 1*3 0*2 1*1 0*1|5
+1*3 0*4 1*1|5
+1*2 0*1 1*1 0*3 1*1|5
+1*1 0*1 1*2 0*3 1*1|5
+0*1 1*3 0*3 1*1|5
+1*2 0*2 1*2|6
+1*1 0*1 1*1 0*1 1*2|6
+0*1 1*2 0*1 1*2|6
+1*1 0*2 1*3|6
+0*1 1*1 0*1 1*3|6
+0*2 1*4|6
+"
 }
 
 /// Puts the 70 schedules with four entries of each thread, and the 15 with two of thread 0.
 pub fn put_entries(text: &mut String) -> Result<(), Fail> {
-    put_all_of(text, MADE, 256)?;
-    put_all_of(text, REFUSED, 64)
+    put_rows(text, whole_form(), whole_rows())?;
+    put_rows(text, broken_form(), broken_rows())
 }
 
-/// Whether these are the lines behind the schedule where the store is made, or refused.
-fn are_replies(lines: &str, made: bool) -> bool {
-    match lines.strip_prefix(reply_of(made)) {
-        Some(behind) => behind == rest(),
-        None => false,
+/// The lines behind the schedule where the store is made, or refused.
+fn replies(made: bool) -> &'static str {
+    if made {
+        "call 0.0 m:put returned
+call 1.0 m:quit returned
+image m guards 1 checks 0 wrappers 1
+owns m.shared write 0x1000000+8
+owns m.shared call 0x10060
+owns m.shared call 0x10070
+"
+    } else {
+        "call 0.0 m:put refused 1 m.shared write 0x1000010+8
+call 1.0 m:quit returned
+image m guards 1 checks 0 wrappers 1
+owns m.shared write 0x1000000+8
+owns m.shared call 0x10060
+owns m.shared call 0x10070
+"
     }
 }
 
@@ -204,7 +204,7 @@ pub fn is_store(report: &str, made: bool) -> bool {
         return false;
     };
     match told.split_once('\n') {
-        Some((schedule, lines)) => are_replies(lines, made) && entries_in(schedule) == entries,
+        Some((schedule, lines)) => lines == replies(made) && entries_in(schedule) == entries,
         None => false,
     }
 }

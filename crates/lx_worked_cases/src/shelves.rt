@@ -1,6 +1,6 @@
 //! Shelves of inputs.
 
-use crate::pieces::{Piece, put};
+use crate::long::{Part, put_parts};
 use lx_outside::MemShelf;
 use std::alloc::Global;
 use std::test::Fail;
@@ -9,61 +9,27 @@ use std::test::Fail;
 pub type Texts = &'static [(&'static str, &'static str)];
 
 /// The files of a shelf.
-#[derive(Clone, Copy)]
 pub enum Files {
     These(Texts),
-    /// These, and the module `m.ll` of so many spaces.
-    Spaces(Texts, usize),
-    /// These, and the module `m.ll` with this global and so many functions.
-    Functions(Texts, &'static str, u32),
-}
-
-fn put_spaces(text: &mut String, count: usize) -> Result<(), Fail> {
-    for _ in 0..count {
-        text.push(' ')?;
-    }
-    Ok(())
-}
-
-fn put_functions(text: &mut String, global: &'static str, count: u32) -> Result<(), Fail> {
-    text.push_str(global)?;
-    for number in 0..count {
-        put(
-            text,
-            &[
-                Piece::Text("define void@"),
-                Piece::Number(number),
-                Piece::Text("(){ret void}"),
-            ],
-        )?;
-    }
-    Ok(())
-}
-
-/// Puts the text of the module that is computed.
-fn put_text(text: &mut String, files: Files) -> Result<(), Fail> {
-    match files {
-        Files::These(_) => Ok(()),
-        Files::Spaces(_, count) => put_spaces(text, count),
-        Files::Functions(_, global, count) => put_functions(text, global, count),
-    }
+    /// These, and the module `m.ll` of these parts.
+    Parts(Texts, &'static [Part]),
 }
 
 fn put_module_in(
     alloc: Global,
     shelf: &mut MemShelf,
     text: &mut String,
-    files: Files,
+    parts: &[Part],
 ) -> Result<(), Fail> {
-    put_text(text, files)?;
+    put_parts(text, parts)?;
     shelf.put_file(alloc, "m.ll", text.as_bytes())?;
     Ok(())
 }
 
-/// Puts the module that is computed.
-fn put_module(alloc: Global, shelf: &mut MemShelf, files: Files) -> Result<(), Fail> {
+/// Puts the module of these parts.
+fn put_module(alloc: Global, shelf: &mut MemShelf, parts: &[Part]) -> Result<(), Fail> {
     let mut text = String::new(alloc);
-    let put = put_module_in(alloc, shelf, &mut text, files);
+    let put = put_module_in(alloc, shelf, &mut text, parts);
     drop(text);
     put
 }
@@ -76,12 +42,12 @@ fn put_texts(alloc: Global, shelf: &mut MemShelf, texts: Texts) -> Result<(), Fa
 }
 
 /// Puts the files on a shelf.
-pub fn put_files(alloc: Global, shelf: &mut MemShelf, files: Files) -> Result<(), Fail> {
+pub fn put_files(alloc: Global, shelf: &mut MemShelf, files: &Files) -> Result<(), Fail> {
     match files {
         Files::These(texts) => put_texts(alloc, shelf, texts),
-        Files::Spaces(texts, _) | Files::Functions(texts, _, _) => {
+        Files::Parts(texts, parts) => {
             put_texts(alloc, shelf, texts)?;
-            put_module(alloc, shelf, files)
+            put_module(alloc, shelf, parts)
         }
     }
 }

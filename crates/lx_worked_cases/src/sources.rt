@@ -86,11 +86,11 @@ static ROWS: [Row; 17] = [
     Row(Files::These(&[("one.case", BUILT_IN)]), Wanted::Read("")),
     // A long file is not read.
     Row(
-        Files::Spaces(&[("one.case", ONE_MODULE)], 1_048_577),
+        Files::Parts(&[("one.case", ONE_MODULE)], &[(" ", 0, 1_048_577)]),
         Wanted::Read("m.ll:1: limit 1 file\n"),
     ),
     Row(
-        Files::Spaces(&[("one.case", ONE_MODULE)], 1_048_576),
+        Files::Parts(&[("one.case", ONE_MODULE)], &[(" ", 0, 1_048_576)]),
         Wanted::Read(""),
     ),
 ];

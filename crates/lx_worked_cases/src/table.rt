@@ -49,10 +49,21 @@ fn put_file(alloc: Global, shelf: &mut MemShelf, name: &str, body: &str) -> Resu
     Ok(())
 }
 
+fn put_case(
+    alloc: Global,
+    shelf: &mut MemShelf,
+    case: &mut String,
+    calls: &str,
+) -> Result<(), Fail> {
+    case.push_str(HEAD)?;
+    case.push_str(calls)?;
+    put_file(alloc, shelf, "row.case", case.as_str())
+}
+
 /// Puts the calls of a case behind the first lines of all.
 fn put_calls(alloc: Global, shelf: &mut MemShelf, calls: &str) -> Result<(), Fail> {
-    let case = format!(in alloc; "{HEAD}{calls}")?;
-    let put = put_file(alloc, shelf, "row.case", case.as_str());
+    let mut case = String::new(alloc);
+    let put = put_case(alloc, shelf, &mut case, calls);
     drop(case);
     put
 }

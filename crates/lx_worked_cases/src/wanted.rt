@@ -147,7 +147,7 @@ fn is_so(alloc: Global, shelf: &mut MemShelf, wanted: Wanted) -> bool {
 }
 
 fn is_row_on(alloc: Global, shelf: &mut MemShelf, row: &Row) -> Result<bool, Fail> {
-    put_files(alloc, shelf, row.0)?;
+    put_files(alloc, shelf, &row.0)?;
     Ok(is_so(alloc, shelf, row.1))
 }
 
