@@ -1,7 +1,9 @@
 //! Threads of images that run beside each other.
-ghost use Rattle.std.specs.Prelude.{IfOk};
+ghost use Rattle.std.specs.Prelude.{◌≡◌, IfOk, true};
+ghost use Rattle.lx_model.specs.World.{is_done};
 ghost use Rattle.lx_images.specs.Image.{Code};
 ghost use Rattle.lx_images.specs.ImageWorld.{ImageWorld};
+ghost use Rattle.lx_images.specs.Shown.{shown};
 ghost use Rattle.lx_core.specs.Worlds.{StandsForWorld};
 ghost use Rattle.lx_threads.specs.Running.{AreRun};
 
@@ -15,6 +17,19 @@ use lx_workers::run_workers;
 use std::alloc::Global;
 use std::sync::Wait;
 use std::thread::Threads;
+
+/// The world, where no thread of it has work left; else it is given up.
+fn without_work<C: CapStore + Drop>(world: World<C>) -> Result<World<C>, Memory>
+    ensures same { IfOk result (λ done. done ≡ world) }
+    ensures done { IfOk result (λ done. (c : Code) (v : ImageWorld) → StandsForWorld C.stands c done v → is_done (shown v) ≡ true) }
+{
+    if world.done() {
+        Ok(world)
+    } else {
+        drop(world);
+        Err(Memory)
+    }
+}
 
 /// Runs the threads of a world of images beside each other, until none has work. The world that comes back is the run of the one
 /// handed in by the machine of images, under its own schedule, which goes on from that of the one handed in: an event for each
@@ -35,8 +50,15 @@ pub fn run_threads<C: CapStore + Drop + Send, G: Gate + Sync, R: Threads + Wait 
     image_monitor_laws();
     let (shared, runners, code) = world.into_parts();
     let text = ThreadCode { code };
-    let (part, list) = run_workers(rt, alloc, shared, &text, gate, runners.into_list())?;
-    let ThreadCode { code } = text;
-    let done = World::from_parts(part, Runners::of_list(list), code);
-    if done.done() { Ok(done) } else { Err(Memory) }
+    match run_workers(rt, alloc, shared, &text, gate, runners.into_list()) {
+        Ok((part, list)) => {
+            let ThreadCode { code } = text;
+            let done = without_work(World::from_parts(part, Runners::of_list(list), code))?;
+            Ok(done)
+        }
+        Err(why) => {
+            drop(text);
+            Err(why)
+        }
+    }
 }

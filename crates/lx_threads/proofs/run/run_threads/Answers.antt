@@ -2,6 +2,7 @@ use Rattle.std.proofs.Common.{◌∙◌, sym, ap, subst}
 use Rattle.lx_images.specs.Image.{Code}
 use Rattle.lx_serve.specs.Stands.{program_of}
 use Rattle.lx_workers.specs.Working.{AllStand}
+use Rattle.lx_core.specs.Parts.{AreParts}
 use Rattle.lx_core.specs.Worlds.{StandsFor}
 use Rattle.lx_threads.specs.declared.runner.ThreadCode.{ThreadCode}
 use Rattle.lx_threads.specs.Imaged.{images_behind}
@@ -24,9 +25,9 @@ run_workers-requires-clause-may g c κs within =
       served = λ p t r fits. fits;
     }
 
-pub returns-then-done : goal.returns-then-done
-returns-then-done g c =
-    let h = c.in_ok-part.ensures in
+pub returns-in_ok-done-in-Ok : goal.returns-in_ok-done-in-Ok
+returns-in_ok-done-in-Ok g c =
+    let h = c.in-Ok.ensures in
     let text : ThreadCode = record { code = c.into_parts-shared.result.2 } in
     record {
       runs = record {
@@ -35,11 +36,11 @@ returns-then-done g c =
             let parts = parts_of g.C.CapStore.stands d c.args.world before c.into_parts-shared.result.0 c.into_parts-shared.result.1 c.into_parts-shared.result.2 c.into_list.result.items st c.into_parts-shared.ensures c.into_list.ensures.list in
             let came = h.comes before.state before.threads parts.own parts.threads in (
               images_behind d before h.history came.0,
-              has_run g.C.CapStore.stands c.image_monitor_laws.ensures d (program_of c.into_parts-shared.result.0) c.in_ok-part.part c.of_list.result text c.from_parts-done.result before came.0 h.history parts.code parts.state.program
+              has_run g.C.CapStore.stands c.image_monitor_laws.ensures d (program_of c.into_parts-shared.result.0) c.in-Ok.part c.of_list.result text c.in_ok-done-in-Ok.done before came.0 h.history parts.code parts.state.program
                   (h.same ∙ parts.state.program) came.1.events came.1.state
                   (subst (λ l. AllStand (λ (k : ThreadCode) t r v. StandsFor k.code t r v) text 0 l came.0) (sym c.of_list.ensures) came.1.threads)
-                  c.from_parts-done.ensures
-                  (λ e w s. sym c.if-done.true ∙ c.done.ensures e w s),
+                  (subst (λ w. AreParts w c.in-Ok.part c.of_list.result text.code) (sym c.in_ok-done-in-Ok.ensures.same) c.from_parts.ensures)
+                  (λ e w s. sym (c.in_ok-done-in-Ok.ensures.done e w s)),
             );
       };
     }
