@@ -1,0 +1,10 @@
+pub mod Sets
+pub mod Places
+pub mod Tables
+pub mod Rights
+pub mod Gifts
+pub mod Follows
+pub mod Passing
+pub mod Turns
+pub mod Beginnings
+pub mod Exact

@@ -1,0 +1,10 @@
+pub mod Named
+pub mod Targets
+pub mod Effects
+pub mod Frames
+pub mod Replies
+pub mod Given
+pub mod Opened
+pub mod Serving
+pub mod Runs
+pub mod Namings

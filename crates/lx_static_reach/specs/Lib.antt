@@ -1,0 +1,4 @@
+pub mod Names
+pub mod Reach
+pub mod Laws
+pub mod Other

@@ -1,0 +1,3 @@
+-- What a bound allows.
+pub use Rattle.lx_reach_bound.specs.declared.limits.Bound.{Bound}
+pub use Rattle.lx_reach_bound.specs.Bound.{IsExact, allows}
