@@ -34,6 +34,15 @@ owns nic.shared call 0x10140
 owns nic.shared call 0x10150
 owns nic[0x1000020] write 0x2000010+16
 owns nic[0x1000020] ref device 0x1000020
+---- words surface examples/nic.case
+---- surface examples/nic.case
+---- whole
+status 0
+surface nic ref device
+surface nic call kzalloc
+surface nic call dev_register
+surface nic call dev_set_priv
+surface nic call netif_rx
 ---- file examples/nic_past.case
 lxfi case 1
 kernel builtin

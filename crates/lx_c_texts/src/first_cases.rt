@@ -204,6 +204,14 @@ owns m.shared call 0x10090
 owns m.shared call 0x100a0
 owns m.shared ref box 0x2
 owns m.shared ref box 0x3
+---- words surface examples/letters.case
+---- surface examples/letters.case
+---- whole
+status 0
+surface m ref box
+surface m call box_open
+surface m call letter_new
+surface m call letter_send
 ---- file examples/manual/arguments.case
 lxfi case 1
 kernel builtin

@@ -37,6 +37,23 @@ owns m.shared call 0x100f0
 owns m.shared call 0x10100
 owns m.shared call 0x10130
 owns m.shared call 0x10140
+---- words surface examples/manual/hook.case
+---- surface examples/manual/hook.case
+---- whole
+status 0
+surface m call kmalloc
+surface m call kzalloc
+surface m call kfree
+surface m call dev_register
+surface m call dev_set_priv
+surface m call dev_zero
+surface m call dev_wipe
+surface m call skb_new
+surface m call netif_rx
+surface m call hook_get
+surface m call hook_fn
+surface m call do_probe
+surface m call do_xmit
 ---- file examples/manual/bad_swap.case
 lxfi case 1
 kernel builtin

@@ -7,7 +7,7 @@ use Rattle.lx_outside.specs.declared.file_text.FileText.{FileText}
 use Rattle.lx_input.specs.Files.Asked.{Asked, AreThere}
 use Rattle.lx_input.specs.Inputs.{InputTurn}
 use Rattle.lx_input.specs.declared.input.Input.{Input}
-use Rattle.lx_cli.specs.Command.{Command, Run, Replay, Instrument, Check, Generate, CommandTurn, asked_of, case_of, count_asked, generated_files}
+use Rattle.lx_cli.specs.Command.{Command, Run, Replay, Instrument, Check, Generate, Surface, CommandTurn, asked_of, case_of, count_asked, generated_files}
 use Rattle.lx_cli.specs.declared.answer.Answer.{Answer}
 use Rattle.lx_cli.specs.declared.answer.Answer.TheVariants as answer
 use Rattle.lx_runs.specs.Reports.{TellsRun}
@@ -38,6 +38,7 @@ told_input (Instrument case part) turn i a there comes (text, same, is) = subst 
 told_input (Check case part image) turn i a there comes (inl (same, is)) = subst (TellsInput (Some (Check case part image)) turn) (sym same) (i, comes, (is, refl))
 told_input (Check case part image) turn i a there comes (inr (line, same, is)) = subst (TellsInput (Some (Check case part image)) turn) (sym same) (i, comes, is)
 told_input (Generate count) turn i a there comes (text, same, is) = subst (TellsInput (Some (Generate count)) turn) (sym same) (i, comes, is)
+told_input (Surface case) turn i a there comes (text, same, is) = subst (TellsInput (Some (Surface case)) turn) (sym same) (i, comes, is)
 
 -- an answer to an input names no file that was not read
 
@@ -52,6 +53,7 @@ names_none (Instrument case part) i file (text, same, is) = absurd cc
 names_none (Check case part image) i file (inl (same, is)) = absurd cc
 names_none (Check case part image) i file (inr (line, same, is)) = absurd cc
 names_none (Generate count) i file (text, same, is) = absurd cc
+names_none (Surface case) i file (text, same, is) = absurd cc
 
 -- and to one that ended
 pub told_stop : (c : Option Command) (turn : Result Input InputStop → Type 0) (stop : InputStop) (a : Answer) → turn (Err stop)
@@ -110,6 +112,7 @@ generated_is (Replay case schedule) count is = absurd cc
 generated_is (Instrument case part) count is = absurd cc
 generated_is (Check case part image) count is = absurd cc
 generated_is (Generate n) count is = let same : n ≡ count = cc in ap Generate same
+generated_is (Surface case) count is = absurd cc
 
 pub generated_turn : (files : List FileText) (c : Command) (count : ℕ) (a : Answer) → count_asked c ≡ Some count → TellsInput (Some c) (InputTurn (generated_files count) (case_of c) (asked_of c)) a
     → TellsInput (Some c) (CommandTurn files (Some c)) a
@@ -123,6 +126,7 @@ shelf_turn files (Replay case schedule) a is tells = tells
 shelf_turn files (Instrument case part) a is tells = tells
 shelf_turn files (Check case part image) a is tells = tells
 shelf_turn files (Generate count) a is tells = absurd cc
+shelf_turn files (Surface case) a is tells = tells
 
 pub not_generated : (c : Command) (count : ℕ) → count_asked c ≡ None → c ≡ Generate count → ⊥
 not_generated c count none is = let some : count_asked c ≡ Some count = ap count_asked is in absurd cc

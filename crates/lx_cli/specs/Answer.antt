@@ -23,7 +23,10 @@ use Rattle.lx_input.specs.Files.FaultLine.{FaultLine}
 use Rattle.lx_files.specs.Faults.{fault_at}
 use Rattle.lx_input.specs.Files.ImageFile.{ImageFile}
 use Rattle.lx_input.specs.declared.input.Input.{Input}
-use Rattle.lx_cli.specs.Command.{Command, Run, Replay, Instrument, Check, Generate}
+use Rattle.lx_static_reach.specs.Laws.{IsBounded}
+use Rattle.lx_surface.specs.Bound.{Bound, IsExact}
+use Rattle.lx_surface.specs.Text.{bound_text}
+use Rattle.lx_cli.specs.Command.{Command, Run, Replay, Instrument, Check, Generate, Surface}
 use Rattle.lx_runs.specs.Reports.{IsAsked, IsReport, all_returned, broken_at}
 
 -- the report of an input: under a schedule of the program's choice, or under the one that is replayed
@@ -124,6 +127,14 @@ pub record IsSummary (n : ℕ) (p : Program) (script : List (List ScriptCall)) (
   pub whole : is_whole p schedule (opening p script) ≡ true
   pub summed : text ≡ summary_text n (account p (run p schedule (opening p script)))
 
+-- The text is that of the bound which allows just what modules of the program can come to hold, and which no run of the program passes,
+-- whatever its script and its schedule.
+pub record IsSurface (i : Input) (text : List ℕ) : Type 0 where
+  pub bound : Bound
+  pub exact : IsExact i.program bound
+  pub written : text ≡ bound_text i.program bound
+  pub sound : (script : List (List ScriptCall)) (schedule : List ℕ) → IsBounded i.program (run i.program schedule (opening i.program script))
+
 -- What each command makes of its input: with status 0 (true) or 1 (false),
 
 abbrev pub Makes : Command → Input → Bool → List ℕ → Type 0
@@ -135,6 +146,8 @@ Makes (Check case part image) i true text = IsAccepted i × (text ≡ accepted_l
 Makes (Check case part image) i false text = ⊥
 Makes (Generate count) i true text = IsSummary count i.program i.script text
 Makes (Generate count) i false text = ⊥
+Makes (Surface case) i true text = IsSurface i text
+Makes (Surface case) i false text = ⊥
 
 -- with status 7,
 abbrev pub Breaks : Command → Input → ℕ → Type 0
@@ -152,6 +165,7 @@ EndsWith (Run case) i status = HasEnded i status
 EndsWith (Replay case schedule) i status = HasEnded i status ⊎ ((status ≡ 7) × (entry : ℕ) × IsBroken i entry)
 EndsWith (Instrument case part) i status = status ≡ 0
 EndsWith (Generate count) i status = status ≡ 0
+EndsWith (Surface case) i status = status ≡ 0
 EndsWith (Check case part image) i status = ((status ≡ 0) × IsAccepted i) ⊎ ((status ≡ 8) × (line : FaultLine) × IsRefusedBy i line)
 
 -- the same of words, which may be no command
@@ -175,7 +189,7 @@ EndedBy (Some c) i status = EndsWith c i status
 -- the lines of the other statuses
 
 abbrev pub usage_line : List ℕ
-usage_line = codes "usage: lxfi_run run CASE | replay CASE SCHEDULE | instrument CASE MODULE | check CASE MODULE IMAGE | generate N\n"
+usage_line = codes "usage: lxfi_run run CASE | replay CASE SCHEDULE | instrument CASE MODULE | check CASE MODULE IMAGE | generate N | surface CASE\n"
 
 abbrev pub unread_line : List ℕ → List ℕ
 unread_line file = codes "lxfi: cannot read " ++ file ++ codes "\n"

@@ -11,7 +11,8 @@ use Rattle.lx_cli.specs.Command.{command_of, ComesTo}
 use Rattle.lx_cli.specs.declared.answer.Answer.{Answer}
 use Rattle.lx_cli.specs.declared.answer.Answer.TheVariants as answer
 
--- the text is what the command makes of its input: a report where every call returned or not, an image, or that one is accepted
+-- the text is what the command makes of its input: a report where every call returned or not, an image, that one is accepted, a summary, or
+-- what modules can come to hold
 abbrev pub Done : List (List ℕ) → List FileText → Bool → List ℕ → Type 0
 Done words files well text = (i : Input) × ComesTo words files (Ok i) × MadeBy (command_of words) i well text
 

@@ -10,8 +10,8 @@ use Rattle.lx_input.specs.declared.input.Input.{Input}
 use Rattle.lx_runs.specs.Reports.{TellsRun}
 use Rattle.lx_runs.specs.declared.told.Told.{Told}
 use Rattle.lx_runs.specs.declared.told.Told.TheVariants as runs
-use Rattle.lx_cli.specs.Answer.{IsImageText, IsSummary, IsAccepted, IsRefusedBy, HasProgram, image_line, MadeBy, BrokenBy, RefusedBy, accepted_line}
-use Rattle.lx_cli.specs.Command.{Command, Run, Replay, Instrument, Check, Generate}
+use Rattle.lx_cli.specs.Answer.{IsImageText, IsSummary, IsSurface, IsAccepted, IsRefusedBy, HasProgram, image_line, MadeBy, BrokenBy, RefusedBy, accepted_line}
+use Rattle.lx_cli.specs.Command.{Command, Run, Replay, Instrument, Check, Generate, Surface}
 use Rattle.lx_cli.specs.declared.answer.Answer.{Answer}
 use Rattle.lx_cli.specs.declared.answer.Answer.TheVariants as answer
 
@@ -47,3 +47,4 @@ TellsOf (Replay case schedule) i a = TellsRunOf i a
 TellsOf (Instrument case part) i a = (text : List ℕ) × (a ≡ answer.Text text) × IsImageText i text
 TellsOf (Check case part image) i a = ((a ≡ answer.Accepted) × IsAccepted i) ⊎ ((line : FaultLine) × (a ≡ answer.Refused line) × IsRefusedBy i line)
 TellsOf (Generate count) i a = (text : List ℕ) × (a ≡ answer.Text text) × IsSummary count i.program i.script text
+TellsOf (Surface case) i a = (text : List ℕ) × (a ≡ answer.Text text) × IsSurface i text

@@ -21,7 +21,7 @@ pub enum Answer {
     Broken(u64),
     /// The report, and whether every call returned.
     Report(Name, bool),
-    /// The text of the module's image, or the summary of a case that was generated.
+    /// The text of the module's image, the summary of a case that was generated, or what each module can come to hold.
     Text(Name),
     /// Some program has the image.
     Accepted,

@@ -18,7 +18,8 @@ pub(crate) fn case_of<'a>(command: Command<'a>) -> &'a str
         Command::Run { case }
         | Command::Replay { case, .. }
         | Command::Instrument { case, .. }
-        | Command::Check { case, .. } => case,
+        | Command::Check { case, .. }
+        | Command::Surface { case } => case,
         Command::Generate { .. } => GENERATED_CASE,
     }
 }
@@ -38,7 +39,7 @@ pub(crate) fn asked_of<'a>(command: Command<'a>) -> Asked<'a>
     ensures { asked_by result ≡ asked_of (said command.entry) }
 {
     match command {
-        Command::Run { .. } | Command::Generate { .. } => Asked {
+        Command::Run { .. } | Command::Generate { .. } | Command::Surface { .. } => Asked {
             module: None,
             schedule: None,
             image: None,

@@ -5,6 +5,7 @@ mod answer;
 mod command;
 mod generate;
 mod images;
+mod surface;
 mod top;
 
 pub use top::{WANT_OF_MEMORY, lxfi};

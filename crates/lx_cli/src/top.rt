@@ -18,6 +18,7 @@ use crate::answer::{Answer, answer_of_run, answer_text, status_of};
 use crate::command::{asked_of, case_of, count_asked};
 use crate::generate::{generated_shelf, sum_up_input};
 use crate::images::{check_input, instrument_input};
+use crate::surface::surface_input;
 use lx_command::{Command, command_of};
 use lx_input::{Input, InputStop, input_laws, read_input};
 use lx_outside::{Gate, Shelf, Sink, put_all};
@@ -29,7 +30,7 @@ use std::thread::Threads;
 
 /// What is written where the words are no command.
 const USAGE: &str =
-    "usage: lxfi_run run CASE | replay CASE SCHEDULE | instrument CASE MODULE | check CASE MODULE IMAGE | generate N\n";
+    "usage: lxfi_run run CASE | replay CASE SCHEDULE | instrument CASE MODULE | check CASE MODULE IMAGE | generate N | surface CASE\n";
 
 /// The status of a sink that did not take all.
 const NOT_TAKEN: u8 = 5;
@@ -98,6 +99,11 @@ fn answer_input<R: Threads + Wait + Sync, G: Gate + Sync>(
             answer
         }
         Command::Generate { count } => sum_up_input(host, input, count),
+        Command::Surface { .. } => {
+            let answer = surface_input(host.alloc, &input);
+            drop(input);
+            answer
+        }
     }
 }
 

@@ -8,9 +8,9 @@ use Rattle.clap.specs.Faults.{step_fault, walk_fault, settle_fault, defaults_fau
 use Rattle.clap.specs.declared.error.kind.ErrorKind.{ErrorKind}
 use Rattle.clap.specs.declared.error.kind.ErrorKind.TheVariants as kind
 use Rattle.clap.proofs.OnLiterals.{clap_on_literals}
-use Rattle.lx_command.specs.Command.{Command, Run, Replay, Instrument, Check, is_name, command_of}
+use Rattle.lx_command.specs.Command.{Command, Run, Replay, Instrument, Check, Surface, is_name, command_of}
 use Rattle.lx_command.specs.Matched.{command_by}
-use Rattle.lx_command.specs.Tree.{check_app, generate_app, instrument_app, replay_app, run_app, top_app}
+use Rattle.lx_command.specs.Tree.{check_app, generate_app, instrument_app, replay_app, run_app, surface_app, top_app}
 use Rattle.lx_command.proofs.Named.{Walks, at, fault_more, stray, walks_end, walks_more}
 
 -- a command as the parser builds it
@@ -103,7 +103,7 @@ module _ (s : Shape) where
       walks_1 first a (b ∷ c ∷ []) (at 4 (held_3 a b c)) na (walks_2 second a b (c ∷ []) (at 4 (held_3 a b c)) nb
       (walks_3 third a b c [] (at 4 (held_3 a b c)) nc (walks_end s (at 4 (held_3 a b c)))))
 
--- ---- the five commands
+-- ---- the six commands
 
 abbrev pub Reads : Text → Shape → List Text → Type 0
 Reads name s rest = ((level_fault s [] nothing_held rest false [] ≡ []) × (command_of (name ∷ rest) ≡ command_by name (rows_after s.rules [] rest)))
@@ -228,3 +228,20 @@ generate_reads (a ∷ b ∷ rest) named =
     let na = both (is_name a) (list_all is_name (b ∷ rest)) named in
     let nb = both (is_name b) (list_all is_name (rest)) na.1 in
     inr (level_fails (leaf generate_app) (a ∷ b ∷ rest) kind.UnknownArgument [] (fault_1 (leaf generate_app) (refl, λ a. refl) a (b ∷ rest) na.0 ∙ stray (leaf generate_app) [] 2 (held_1 (leaf generate_app) a) b rest nb.0 refl), generate_more a b rest)
+
+surface_more : (a b : Text) (rest : List Text) → command_of (codes "surface" ∷ a ∷ b ∷ rest) ≡ None
+surface_more a b [] = same_if (is_name a && is_name b)
+surface_more a b (c ∷ []) = refl
+surface_more a b (c ∷ d ∷ rest) = refl
+
+pub surface_reads : (rest : List Text) → list_all is_name rest ≡ true → Reads (codes "surface") (leaf surface_app) rest
+unfolding clap_on_literals
+surface_reads [] named = inr (none_given (leaf surface_app) missing refl, refl)
+surface_reads (a ∷ []) named =
+    let na = both (is_name a) (list_all is_name ([])) named in
+    let taken = (takes (leaf surface_app) (a ∷ []) (at 2 (held_1 (leaf surface_app) a)) (finished (leaf surface_app).rules (held_1 (leaf surface_app) a)) (one_given (leaf surface_app) (refl, λ a. refl) a na.0) refl refl) in
+    inl (taken.0, if_named (is_name a) (Some (Surface a)) na.0 ∙ sym (ap (command_by (codes "surface")) taken.1))
+surface_reads (a ∷ b ∷ rest) named =
+    let na = both (is_name a) (list_all is_name (b ∷ rest)) named in
+    let nb = both (is_name b) (list_all is_name (rest)) na.1 in
+    inr (level_fails (leaf surface_app) (a ∷ b ∷ rest) kind.UnknownArgument [] (fault_1 (leaf surface_app) (refl, λ a. refl) a (b ∷ rest) na.0 ∙ stray (leaf surface_app) [] 2 (held_1 (leaf surface_app) a) b rest nb.0 refl), surface_more a b rest)

@@ -5,7 +5,7 @@ use Rattle.std.specs.Str.{bytes_eq}
 use Rattle.std.specs.Cmp.{unsigned_Decides}
 use Rattle.std.proofs.lemmas.Slice.Eq.{bytes_eq-Decides}
 use Rattle.lx_words.specs.Text.{decimal_value}
-use Rattle.lx_command.specs.Command.{Command, Run, Replay, Instrument, Check, Generate, begins_well, is_name, is_number, if_words, count_of, command_of}
+use Rattle.lx_command.specs.Command.{Command, Run, Replay, Instrument, Check, Generate, Surface, begins_well, is_name, is_number, if_words, count_of, command_of}
 
 on : (b : Bool) → not (b && true) ≡ false → b ≡ true
 on true dashed = refl
@@ -34,13 +34,15 @@ not_all n is isnt = let bad : true ≡ false = sym is ∙ isnt in cc
 and_true : (a b : Bool) → a ≡ true → (a && b) ≡ b
 and_true a b is = ap (λ x. x && b) is
 
-one_off : (r g w a : Bool) (x : Option ℕ) (c : Command) → (r ≡ true → w ≡ true) → (g ≡ true → w ≡ true) → (a ≡ false → x ≡ None) → (w && (a && true)) ≡ false
-    → (if r then if_words a c else (if g then option_map Generate x else None)) ≡ None
-one_off true g w true x c run generate none off = absurd (not_all (w && (true && true)) (and_true w (true && true) (run refl)) off)
-one_off true g w false x c run generate none off = refl
-one_off false true w true x c run generate none off = absurd (not_all (w && (true && true)) (and_true w (true && true) (generate refl)) off)
-one_off false true w false x c run generate none off = ap (option_map Generate) (none refl)
-one_off false false w a x c run generate none off = refl
+one_off : (r g s w a : Bool) (x : Option ℕ) (c d : Command) → (r ≡ true → w ≡ true) → (g ≡ true → w ≡ true) → (s ≡ true → w ≡ true) → (a ≡ false → x ≡ None) → (w && (a && true)) ≡ false
+    → (if r then if_words a c else (if g then option_map Generate x else (if s then if_words a d else None))) ≡ None
+one_off true g s w true x c d run generate surface none off = absurd (not_all (w && (true && true)) (and_true w (true && true) (run refl)) off)
+one_off true g s w false x c d run generate surface none off = refl
+one_off false true s w true x c d run generate surface none off = absurd (not_all (w && (true && true)) (and_true w (true && true) (generate refl)) off)
+one_off false true s w false x c d run generate surface none off = ap (option_map Generate) (none refl)
+one_off false false true w true x c d run generate surface none off = absurd (not_all (w && (true && true)) (and_true w (true && true) (surface refl)) off)
+one_off false false true w false x c d run generate surface none off = refl
+one_off false false false w a x c d run generate surface none off = refl
 
 two_off : (p i w a b : Bool) (c d : Command) → (p ≡ true → w ≡ true) → (i ≡ true → w ≡ true) → (w && (a && (b && true))) ≡ false
     → (if a && b then (if p then Some c else if_words i d) else None) ≡ None
@@ -61,8 +63,8 @@ pub none_with_option : (words : List (List ℕ)) → list_all is_name words ≡ 
 none_with_option [] off = refl
 none_with_option (w ∷ []) off = refl
 none_with_option (w ∷ a ∷ []) off =
-    one_off (bytes_eq w (codes "run")) (bytes_eq w (codes "generate")) (is_name w) (is_name a) (count_of a) (Run a)
-    (named (codes "run") w refl) (named (codes "generate") w refl) (no_number a) off
+    one_off (bytes_eq w (codes "run")) (bytes_eq w (codes "generate")) (bytes_eq w (codes "surface")) (is_name w) (is_name a) (count_of a) (Run a) (Surface a)
+    (named (codes "run") w refl) (named (codes "generate") w refl) (named (codes "surface") w refl) (no_number a) off
 none_with_option (w ∷ a ∷ b ∷ []) off =
     two_off (bytes_eq w (codes "replay")) (bytes_eq w (codes "instrument")) (is_name w) (is_name a) (is_name b) (Replay a b) (Instrument a b)
     (named (codes "replay") w refl) (named (codes "instrument") w refl) off

@@ -20,6 +20,7 @@ pub data Command : Type 0 where
   Instrument : (case : List ℕ) → (part : List ℕ) → Command
   Check : (case : List ℕ) → (part : List ℕ) → (image : List ℕ) → Command
   Generate : (count : ℕ) → Command
+  Surface : (case : List ℕ) → Command
 
 -- what the words of a command say
 abbrev pub said : Words → Command
@@ -28,6 +29,7 @@ said (words.Replay case schedule) = Replay case.now schedule.now
 said (words.Instrument case part) = Instrument case.now part.now
 said (words.Check case part image) = Check case.now part.now image.now
 said (words.Generate count) = Generate count
+said (words.Surface case) = Surface case.now
 
 -- a word that is no option
 abbrev pub is_name : List ℕ → Bool
@@ -55,13 +57,15 @@ abbrev pub one_name : List ℕ → List ℕ → Option Command
 one_name word second =
     if bytes_eq word (codes "run")
     then if_words (is_name second) (Run second)
-    else (if bytes_eq word (codes "generate") then option_map Generate (count_of second) else None)
+    else (if bytes_eq word (codes "generate") then option_map Generate (count_of second)
+    else (if bytes_eq word (codes "surface") then if_words (is_name second) (Surface second) else None))
 
 abbrev pub two_names : List ℕ → List ℕ → List ℕ → Option Command
 two_names word case second =
     if bytes_eq word (codes "replay") then Some (Replay case second) else if_words (bytes_eq word (codes "instrument")) (Instrument case second)
 
--- `run CASE`, `replay CASE SCHEDULE`, `instrument CASE MODULE`, `check CASE MODULE IMAGE` and `generate N`, where no word begins with `-`
+-- `run CASE`, `replay CASE SCHEDULE`, `instrument CASE MODULE`, `check CASE MODULE IMAGE`, `generate N` and `surface CASE`, where no word
+-- begins with `-`
 abbrev pub command_of : List (List ℕ) → Option Command
 command_of (word ∷ second ∷ []) = one_name word second
 command_of (word ∷ case ∷ second ∷ []) = if is_name case && is_name second then two_names word case second else None

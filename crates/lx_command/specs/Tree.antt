@@ -24,6 +24,9 @@ check_app =
 abbrev pub generate_app : App
 generate_app = with_rule (new_app (codes "generate")) (word_rule (codes "count"))
 
+abbrev pub surface_app : App
+surface_app = with_rule (new_app (codes "surface")) (word_rule (codes "case"))
+
 -- the program without its commands: it has no word of its own, no help and no version
 abbrev pub top_app : App
 top_app = record (new_app (codes "lxfi")) {
@@ -36,10 +39,11 @@ top_app = record (new_app (codes "lxfi")) {
   };
 }
 
--- the program and its five commands
+-- the program and its six commands
 abbrev pub tree_app : App
 tree_app =
-    with_subcommand (with_subcommand (with_subcommand (with_subcommand (with_subcommand top_app run_app.top) replay_app.top) instrument_app.top) check_app.top) generate_app.top
+    with_subcommand (with_subcommand (with_subcommand (with_subcommand (with_subcommand (with_subcommand top_app run_app.top) replay_app.top) instrument_app.top)
+    check_app.top) generate_app.top) surface_app.top
 
 -- the command is the one that is wanted, and stands below no other
 pub record IsLeaf (a : App) (c : Command) : Type 0 where

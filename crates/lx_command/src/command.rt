@@ -41,6 +41,10 @@ pub enum Command<'a> {
     Generate {
         count: u32,
     },
+    /// Writes what each module of the case can come to hold, and runs nothing.
+    Surface {
+        case: &'a str,
+    },
 }
 
 /// A word that is no option.
@@ -94,6 +98,10 @@ fn command_by<'a>(name: &str, found: &ArgMatches<'a>) -> Option<Command<'a>>
             let count = count_of(word.as_bytes())?;
             Some(Command::Generate { count })
         }
+        "surface" => {
+            let case = word_of(found, "case")?;
+            Some(Command::Surface { case })
+        }
         _ => None,
     }
 }
@@ -122,8 +130,8 @@ fn read<'a>(alloc: Global, words: &'a [String]) -> Result<Option<Command<'a>>, M
     }
 }
 
-/// The command of the words `run CASE`, `replay CASE SCHEDULE`, `instrument CASE MODULE`, `check CASE MODULE IMAGE` and `generate N`,
-/// where no word begins with `-`. Whether words are a command must not hang on memory: where `clap` lacks it, they are read without.
+/// The command of the words `run CASE`, `replay CASE SCHEDULE`, `instrument CASE MODULE`, `check CASE MODULE IMAGE`, `generate N` and
+/// `surface CASE`, where no word begins with `-`. Whether words are a command must not hang on memory: where `clap` lacks it, they are read without.
 pub fn command_of<'a>(alloc: Global, words: &'a [String]) -> Option<Command<'a>>
     ensures { option_map said result ≡ command_of (texts words.entry.now) }
 {

@@ -21,6 +21,13 @@ fn one_name<'a>(word: &str, second: &'a str) -> Option<Command<'a>>
             let count = count_of(second.as_bytes())?;
             Some(Command::Generate { count })
         }
+        "surface" => {
+            if is_name(second) {
+                Some(Command::Surface { case: second })
+            } else {
+                None
+            }
+        }
         _ => None,
     }
 }

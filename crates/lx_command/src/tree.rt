@@ -1,7 +1,7 @@
 //! The commands as `clap` knows them.
 ghost use Rattle.std.specs.Prelude.{◌≡◌, IfOk, false};
 ghost use Rattle.clap.specs.Words.{app_of, rule_of};
-ghost use Rattle.lx_command.specs.Tree.{IsLeaf, check_app, generate_app, instrument_app, replay_app, run_app, top_app, tree_app, word_rule};
+ghost use Rattle.lx_command.specs.Tree.{IsLeaf, check_app, generate_app, instrument_app, replay_app, run_app, surface_app, top_app, tree_app, word_rule};
 
 use clap::Arg;
 use std::alloc::{AllocError, Global};
@@ -56,6 +56,13 @@ fn generate<'a>(alloc: Global) -> Result<clap::Command<'a>, AllocError>
     clap::Command::new(alloc, "generate").arg(word(alloc, "count"))
 }
 
+/// `surface CASE`.
+fn surface<'a>(alloc: Global) -> Result<clap::Command<'a>, AllocError>
+    ensures { IfOk result (IsLeaf surface_app) }
+{
+    clap::Command::new(alloc, "surface").arg(word(alloc, "case"))
+}
+
 /// The program without its commands: it has no word of its own, and `clap` adds no help and no version.
 fn top<'a>(alloc: Global) -> clap::Command<'a>
     ensures { app_of result ≡ top_app }
@@ -68,7 +75,7 @@ fn top<'a>(alloc: Global) -> clap::Command<'a>
         .subcommand_required(true)
 }
 
-/// The program and its five commands.
+/// The program and its six commands.
 pub(crate) fn tree<'a>(alloc: Global) -> Result<clap::Command<'a>, AllocError>
     ensures { IfOk result (λ c. app_of c ≡ tree_app) }
 {
@@ -77,5 +84,6 @@ pub(crate) fn tree<'a>(alloc: Global) -> Result<clap::Command<'a>, AllocError>
         .subcommand(replay(alloc)?)?
         .subcommand(instrument(alloc)?)?
         .subcommand(check(alloc)?)?
-        .subcommand(generate(alloc)?)
+        .subcommand(generate(alloc)?)?
+        .subcommand(surface(alloc)?)
 }

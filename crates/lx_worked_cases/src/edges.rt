@@ -7,7 +7,7 @@ use std::test::Fail;
 
 /// What is written of words that are no command.
 pub const USAGE: &str =
-    "usage: lxfi_run run CASE | replay CASE SCHEDULE | instrument CASE MODULE | check CASE MODULE IMAGE | generate N\n";
+    "usage: lxfi_run run CASE | replay CASE SCHEDULE | instrument CASE MODULE | check CASE MODULE IMAGE | generate N | surface CASE\n";
 
 /// An output that fails, and one without room.
 pub fn outputs() -> &'static str {
@@ -51,7 +51,7 @@ pub fn put_past_limit(text: &mut String) -> Result<(), Fail> {
 }
 
 /// Words that are no command: none in the first row, and one without letters at the end of the ninth.
-static NO_COMMANDS: [&str; 14] = [
+static NO_COMMANDS: [&str; 17] = [
     "",
     "run",
     "run --x",
@@ -66,6 +66,9 @@ static NO_COMMANDS: [&str; 14] = [
     "replay one.case",
     "replay one.case -",
     "why one.case",
+    "surface",
+    "surface --x",
+    "surface one.case m",
 ];
 
 pub fn put_no_commands(text: &mut String) -> Result<(), Fail> {

@@ -14,7 +14,8 @@ use lx_worked_texts::{
     atomic_cases, borrowed_cases, borrower_cases, c_file_cases, end_cases, faulty_cases,
     generated_cases, image_call_cases, image_cases, lent_slot_cases, limit_cases, many_cases,
     memory_cases, nested_cases, own_kernel_cases, packet_cases, plain_cases, principal_cases,
-    replayed_cases, slot_cases, small_files, spared_cases, text_cases, thread_cases, wrapper_cases,
+    replayed_cases, slot_cases, small_files, spared_cases, surface_cases, text_cases, thread_cases,
+    wrapper_cases,
 };
 use std::test::Fail;
 
@@ -72,11 +73,12 @@ fn cases(number: u32) -> &'static str {
         20 => image_call_cases(),
         21 => spared_cases(),
         22 => generated_cases(),
+        23 => surface_cases(),
         _ => text_cases(),
     }
 }
 
-pub const TABLES: u32 = 24;
+pub const TABLES: u32 = 25;
 
 /// What of a series is written out.
 fn text_of(series: Series) -> &'static str {
@@ -127,7 +129,7 @@ pub fn count_of(series: Series) -> Option<u32> {
         Series::Ends => Some(16),
         Series::Fuels => Some(40),
         Series::Entries => Some(85),
-        Series::NoCommands => Some(14),
+        Series::NoCommands => Some(17),
         Series::Race => Some(20),
         Series::Crowd => Some(3),
         _ => None,

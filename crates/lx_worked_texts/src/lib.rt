@@ -16,6 +16,7 @@ mod many;
 mod over_kernels;
 mod plain;
 mod replayed;
+mod surfaces;
 
 pub use c_files::c_file_cases;
 pub use files::{ONE_CASE, small_files};
@@ -33,3 +34,4 @@ pub use many::{many_cases, many_files};
 pub use over_kernels::{memory_cases, own_kernel_cases, principal_cases, slot_cases};
 pub use plain::{faulty_cases, plain_cases};
 pub use replayed::replayed_cases;
+pub use surfaces::surface_cases;
