@@ -103,7 +103,8 @@ pub fn earlier(first: Option<Principal>, found: Option<Principal>) -> Option<Pri
     }
 }
 
-pub(crate) fn has(cap: Cap, atom: Atom) -> bool
+/// Says whether the atom is one of the capability's.
+pub fn has(cap: Cap, atom: Atom) -> bool
     ensures { result ≡ has cap atom }
 {
     match (cap, atom) {

@@ -15,7 +15,8 @@ use Rattle.lx_model.specs.Serve.{serve}
 use Rattle.lx_model.specs.State.{State}
 use Rattle.lx_model.specs.World.{World, event}
 use Rattle.lx_run_laws.specs.Authorised.{is_end}
-use Rattle.lx_refusals.specs.Errands.{Need, is_met}
+use Rattle.lx_certificates.specs.declared.Need.{Need}
+use Rattle.lx_certificates.specs.Needs.{is_met}
 use Rattle.lx_refusals.specs.Needs.{needs_of, is_for_need, refuses_need, IsUnmet}
 use Rattle.lx_refusals.specs.Explained.{IsExplained, AreExplained}
 use Rattle.lx_refusals.proofs.Causing.{is_decided}

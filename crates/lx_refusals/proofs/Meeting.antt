@@ -27,7 +27,9 @@ use Rattle.lx_model.specs.Next.{request}
 use Rattle.lx_model.specs.State.{State}
 use Rattle.lx_run_laws.specs.Authorised.{needs}
 use Rattle.lx_refusals.specs.Causes.{IsCauseOf, IsLack, IsWriterLack}
-use Rattle.lx_refusals.specs.Errands.{Need, is_met, Errand, errand_of}
+use Rattle.lx_certificates.specs.declared.Need.{Need}
+use Rattle.lx_certificates.specs.Needs.{is_met}
+use Rattle.lx_refusals.specs.Errands.{Errand, errand_of}
 use Rattle.lx_refusals.specs.Needs.{to_hold, item_needs, all_needs, is_for_need}
 use Rattle.lx_refusals.proofs.Causing.{errand_decides, is_decided, own_refused, some_cap}
 use Rattle.lx_refusals.proofs.Decisions.{both}

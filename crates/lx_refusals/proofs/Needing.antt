@@ -17,8 +17,10 @@ use Rattle.lx_model.specs.declared.request.What.{What}
 use Rattle.lx_model.specs.Act.{or_else, unless, not_held, item_refusal, first_refusal}
 use Rattle.lx_model.specs.Authority.{is_module}
 use Rattle.lx_model.specs.State.{State}
-use Rattle.lx_refusals.specs.Errands.{Need, is_met, Errand, is_in_memory, is_on_stacks, is_placed, need_of_item, is_fine}
-use Rattle.lx_refusals.specs.Needs.{up_to_unmet, is_for_need, IsNamed, IsUnmet}
+use Rattle.lx_certificates.specs.declared.Need.{Need}
+use Rattle.lx_certificates.specs.Needs.{is_met, up_to_unmet}
+use Rattle.lx_refusals.specs.Errands.{Errand, is_in_memory, is_on_stacks, is_placed, need_of_item, is_fine}
+use Rattle.lx_refusals.specs.Needs.{is_for_need, IsNamed, IsUnmet}
 use Rattle.lx_refusals.proofs.Decisions.{at_first, at_first_test, at_test, behind_test, both, either, either_test, left_of, neither, not_both, right_of, same_refusal}
 use Rattle.lx_refusals.proofs.Items.{fine_none, item_is, none_fine, on_a_stack, out_of_memory}
 

@@ -1,11 +1,13 @@
 -- What actions ask of the capabilities that they name, and what requests need.
-use Rattle.std.specs.Prelude.{ℕ, suc, Bool, true, false, not, ◌&&◌, ◌||◌, Option, Some, None, Ok, Err, List, slice_get, option_and_then}
+use Rattle.std.specs.Prelude.{ℕ, suc, Bool, true, false, not, ◌&&◌, Option, Some, None, Ok, Err, List, slice_get, option_and_then}
 use Rattle.lx_caps.specs.declared.Principal.{Principal}
 use Rattle.lx_caps.specs.declared.Cap.{Cap}
 use Rattle.lx_caps.specs.declared.Cap.TheVariants.{Write}
-use Rattle.lx_caps.specs.History.{History, holds, keeps_all}
+use Rattle.lx_caps.specs.History.{History}
 use Rattle.lx_caps.specs.Memory.{Memory, load64}
 use Rattle.lx_caps.specs.Regions.{mapped, overlaps, stacks_start, region_size}
+use Rattle.lx_certificates.specs.declared.Need.{Need}
+use Rattle.lx_certificates.specs.Needs.{is_met}
 use Rattle.lx_annot.specs.declared.expr.Env.{Env}
 use Rattle.lx_annot.specs.declared.interface.Interface.{Interface}
 use Rattle.lx_annot.specs.Action.{Action, Copy, Transfer, Check, Lend, End, If}
@@ -16,16 +18,6 @@ use Rattle.lx_model.specs.declared.request.What.{What}
 use Rattle.lx_model.specs.declared.request.What.TheVariants as what
 use Rattle.lx_model.specs.Next.{actions_of}
 use Rattle.lx_model.specs.State.{State}
-
--- a principal needs to hold a capability, and where it gives it on, to keep it: a loan will not do
-pub record Need : Type 0 where
-  pub who : Principal
-  pub cap : Cap
-  pub kept : Bool
-
--- the capability is held, and kept where it has to be
-abbrev pub is_met : History → Need → Bool
-is_met h n = holds h n.who n.cap && (not n.kept || keeps_all h n.who n.cap)
 
 -- what an action asks for: whose items, whether they are taken from everyone, whether they are given or lent on, and which
 pub record Errand : Type 0 where

@@ -18,7 +18,7 @@ use Rattle.lx_model.specs.World.{World, event}
 use Rattle.lx_run_laws.specs.Authorised.{is_end}
 use Rattle.lx_refusals.specs.Causes.{IsCauseOf, is_finish}
 use Rattle.lx_refusals.specs.Entries.{IsEntry}
-use Rattle.lx_refusals.specs.Errands.{is_met}
+use Rattle.lx_certificates.specs.Needs.{is_met}
 use Rattle.lx_refusals.specs.Needs.{needs_of, is_for_need, refuses_need, IsUnmet}
 
 -- what the reply to a request says of the state before it

@@ -5,9 +5,11 @@ use Rattle.lx_words.specs.Width.{byte_count}
 use Rattle.lx_caps.specs.declared.Principal.{Principal}
 use Rattle.lx_caps.specs.declared.Cap.{Cap}
 use Rattle.lx_caps.specs.declared.Cap.TheVariants.{Write, Call, Ref}
-use Rattle.lx_caps.specs.History.{History, holds, keeps_all}
+use Rattle.lx_caps.specs.History.{holds, keeps_all}
 use Rattle.lx_caps.specs.Memory.{number_at}
 use Rattle.lx_caps.specs.Regions.{mapped}
+use Rattle.lx_certificates.specs.declared.Need.{Need}
+use Rattle.lx_certificates.specs.Needs.{is_met, up_to_unmet}
 use Rattle.lx_model.specs.declared.program.Program.{Program}
 use Rattle.lx_model.specs.declared.request.Outcome.TheVariants.{Refused}
 use Rattle.lx_model.specs.declared.request.Refusal.{Refusal}
@@ -21,7 +23,7 @@ use Rattle.lx_model.specs.declared.request.What.TheVariants as what
 use Rattle.lx_model.specs.Authority.{is_module}
 use Rattle.lx_model.specs.Enter.{slot_writers}
 use Rattle.lx_model.specs.State.{State}
-use Rattle.lx_refusals.specs.Errands.{Need, is_met, Errand, errand_of, is_placed, need_of_item}
+use Rattle.lx_refusals.specs.Errands.{Errand, errand_of, is_placed, need_of_item}
 
 -- a need of what is only used, so that a loan will do
 abbrev pub to_hold : Principal → Cap → Need
@@ -45,11 +47,6 @@ all_needs p s who (what.Enter (Slot slot ty) args) =
     if mapped slot 8 then map (λ w. to_hold w (Call (number_at s.memory slot 8))) (slot_writers p s slot) else []
 all_needs p s who (what.Perform n post k env source dest) = item_needs (errand_of p s (what.Perform n post k env source dest))
 all_needs p s who _ = []
-
--- the needs up to and with the first that is not met
-abbrev pub up_to_unmet : History → List Need → List Need
-up_to_unmet h [] = []
-up_to_unmet h (n ∷ ns) = n ∷ (if is_met h n then up_to_unmet h ns else [])
 
 -- what modules need for a request, in the order in which it is asked for
 abbrev pub needs_of : Program → State → Request → List Need

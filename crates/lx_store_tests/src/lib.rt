@@ -6,6 +6,8 @@ mod actions;
 #[cfg(test)]
 mod caps;
 #[cfg(test)]
+mod certificates;
+#[cfg(test)]
 mod common;
 #[cfg(test)]
 mod memory;

@@ -1,0 +1,9 @@
+pub mod Pieces
+pub mod Reaching
+pub mod Meanings
+pub mod Making
+pub mod Existing
+pub mod Needing
+pub mod Newest
+pub mod Telling
+pub mod Stripping
