@@ -60,7 +60,7 @@ struct Scope<'a> {
 /// Puts the line of a type, if the module can come to hold references of it.
 #[tactic(auto, using(crate::proofs::Lines::line, crate::proofs::Lines::no_line))]
 fn put_type(out: &mut Vec<u8>, scope: Scope, place: usize, ty: &Name) -> Result<(), Memory>
-    ensures { OnOk result (out.new.items ≡ out.old.items ++ type_line scope.bound.now scope.home scope.name.now (place, ty.now)) }
+    ensures { OnOk result (out.new.items ≡ out.old.items ++ type_line scope.entry.bound.now scope.entry.home scope.entry.name.now (place, ty.now)) }
 {
     let number = number_of(place)?;
     if scope.bound.has(scope.home, Thing::RefType(number)) {
@@ -71,7 +71,7 @@ fn put_type(out: &mut Vec<u8>, scope: Scope, place: usize, ty: &Name) -> Result<
 
 /// Puts the lines of types.
 fn put_types(out: &mut Vec<u8>, scope: Scope, types: &[Name]) -> Result<(), Memory>
-    ensures { OnOk result (out.new.items ≡ out.old.items ++ flat_map (type_line scope.bound.now scope.home scope.name.now) (enumerate_from 0 types.now)) }
+    ensures { OnOk result (out.new.items ≡ out.old.items ++ flat_map (type_line scope.entry.bound.now scope.entry.home scope.entry.name.now) (enumerate_from 0 types.now)) }
 {
     for (place, ty) in types.iter().enumerate() {
         put_type(out, scope, place, ty)?;
@@ -93,7 +93,7 @@ fn put_named(
     number: u32,
     function: Option<&Function>,
 ) -> Result<(), Memory>
-    ensures { OnOk result (out.new.items ≡ out.old.items ++ named_line scope.bound.now scope.home scope.name.now number (option_copied function.entry)) }
+    ensures { OnOk result (out.new.items ≡ out.old.items ++ named_line scope.entry.bound.now scope.entry.home scope.entry.name.now number (option_copied function.entry)) }
 {
     match function {
         Some(function) => {
@@ -114,7 +114,7 @@ fn put_entry(
     place: usize,
     entry: &ProgramFunction,
 ) -> Result<(), Memory>
-    ensures { OnOk result (out.new.items ≡ out.old.items ++ function_line scope.program.now scope.bound.now scope.home scope.name.now (place, entry.now)) }
+    ensures { OnOk result (out.new.items ≡ out.old.items ++ function_line scope.entry.program.now scope.entry.bound.now scope.entry.home scope.entry.name.now (place, entry.now)) }
 {
     let number = number_of(place)?;
     match *entry {
@@ -136,7 +136,7 @@ fn put_functions(
     scope: Scope,
     functions: &[ProgramFunction],
 ) -> Result<(), Memory>
-    ensures { OnOk result (out.new.items ≡ out.old.items ++ flat_map (function_line scope.program.now scope.bound.now scope.home scope.name.now) (enumerate_from 0 functions.now)) }
+    ensures { OnOk result (out.new.items ≡ out.old.items ++ flat_map (function_line scope.entry.program.now scope.entry.bound.now scope.entry.home scope.entry.name.now) (enumerate_from 0 functions.now)) }
 {
     for (place, entry) in functions.iter().enumerate() {
         put_entry(out, scope, place, entry)?;
