@@ -69,8 +69,8 @@ all_plain p there may [] x are = refl
 all_plain p there may (a ∷ actions) x are =
     let first : IsLawfulBehind there may a = are 0 a (omega arith) in
     ap (λ b. b || any_gives p actions x) (plain p a x first.lends_nothing) ∙ ap (λ b. hands p a x || b) (all_plain p there may actions x (λ k d less. are (suc k) d (further less))) where
-  further : {k n : ℕ} → k < n → suc k < suc n
-  further h = omega (arith, h)
+      further : {k n : ℕ} → k < n → suc k < suc n
+      further h = omega (arith, h)
 
 end_plain : (p : Program) (k : ℕ) (x : Thing) → any_gives p (end_of k) x ≡ list_any (λ (a : Action). hands p a x) (end_of k)
 end_plain p zero x = refl
