@@ -12,7 +12,7 @@ use Rattle.lx_model.specs.declared.request.Outcome.{Outcome}
 use Rattle.lx_model.specs.declared.request.Outcome.TheVariants.{Trapped}
 use Rattle.lx_model.specs.declared.request.Trap.TheVariants.{Unreachable}
 use Rattle.lx_model.specs.declared.request.Request.{Request}
-use Rattle.lx_model.specs.declared.request.Way.TheVariants.{Script}
+use Rattle.lx_model.specs.declared.request.Way.TheVariants.{Script, Direct}
 use Rattle.lx_model.specs.declared.request.What.TheVariants as what
 use Rattle.lx_model.specs.Thread.{Activation, Ending, activation_behind}
 use Rattle.lx_model.specs.Effect.{Effect, Moves, Wants, Enters, Calls, Traps, effect, text_of}
@@ -20,7 +20,8 @@ use Rattle.lx_model.specs.Next.{finish, has_action, request}
 use Rattle.lx_run_laws.specs.Servable.{is_on_stack, is_servable, is_servable_what}
 use Rattle.lx_run_laws.proofs.Effects.{IsAbove, KeepsPart, effect_keeps}
 use Rattle.lx_run_laws.proofs.Steps.{top_on}
-use Rattle.lx_images.specs.Image.{Code, Place, AtEnter, AtPre, AtCall, InBody, AtPost, AtLeave, AtRet, ImageFrame, Runs, Wraps, ImageThread, ImageStep, Goes, Asks, ImageAsking, Marks, no_marks, after_leaving, below_top, comes_to, costly_step, due_or, effect_step, frame_step, has_room, if_paid, if_room, image_next, image_next_within, image_step, instruction_step, one_step, perform, post_line, stack_top, start_step, tail, top, with_shadow, wrapped_import, wrapper_line}
+use Rattle.lx_images.specs.Image.{Code, ImageFrame, Runs, Wraps, ImageThread, ImageStep, Goes, Asks, ImageAsking, Marks, no_marks, action_line, after_leaving, below_top, comes_to, costly_step, due_or, effect_step, first_line, frame_step, has_room, if_paid, if_room, image_next, image_next_within, image_step, instruction_step, leaving_line, one_step, stack_top, start_step, tail, top, with_shadow, wrapped_import, wrapper_args, wrapper_line}
+use Rattle.lx_images.specs.Wrappers.{called_lines}
 use Rattle.lx_core.specs.OnImageStack.{IsOnImageStack, AreOnImageStack}
 use Rattle.lx_core.proofs.Wrapped.{wrapped_in}
 
@@ -53,12 +54,19 @@ effected c t v m a fs (Enters w) on rest h = roomed c t (has_room (Runs a ∷ fs
 effected c t v m a fs (Calls n args) on rest h = roomed c t (has_room (Runs a ∷ fs)) v _ (top_on t a.low a.high on, (on, rest))
 effected c t v m a fs (Traps trap) on rest h = ended c t _
 
+-- the call of a wrapper whose first line is its enter, and of any other
+called_on : (c : Code) (t : ℕ) (v : ImageThread) (n : ℕ) (args : List Word) (fs : List ImageFrame) (lines : List Op) → is_servable_what c.program t (what.Enter (Direct n) args) ≡ true
+    → AreOnImageStack t fs → IsStepOn c t (first_line v n args fs lines)
+called_on c t v n args fs (op.Enter s ∷ lines) is rest = record { servable = is; above = tt; frames_on = (tt, rest) }
+called_on c t v n args fs lines is rest = ended c t _
+
 -- an instruction, which may be the call of a wrapper
 costed : (c : Code) (t : ℕ) (m : Marks) (a : Activation) (fs : List ImageFrame) (o : Op) (w : Option ℕ) (v : ImageThread) → wrapped_import c (text_of c.program a) o ≡ w
     → IsOnImageStack t (Runs a) → AreOnImageStack t fs → IsStepOn c t (costly_step c m a fs o w v)
 costed c t m a fs o None v is on rest = effected c t v m a fs (effect c.program a o) on rest (effect_keeps c.program t a o on)
 costed c t m a fs o (Some n) v is on rest =
-    roomed c t (has_room (Runs a ∷ fs)) v _ (record { servable = wrapped_in c (text_of c.program a) o n is; above = tt; frames_on = (tt, (on, rest)) })
+    roomed c t (has_room (Runs a ∷ fs)) v _
+    (called_on c t v n (wrapper_args c a o) (Runs a ∷ fs) (called_lines c (text_of c.program a) o) (wrapped_in c (text_of c.program a) o n is) (on, rest))
 
 -- a step that costs a unit
 paid_from : (c : Code) (t : ℕ) (calls : List ScriptCall) (over : List Ending) (fuel : ℕ) (due : Option Outcome) (frames : List ImageFrame) (shadow : List Principal) (go : ImageThread → ImageStep)
@@ -84,31 +92,30 @@ instructed : (c : Code) (t : ℕ) (v : ImageThread) (fs : List ImageFrame) (os :
 instructed c t v fs [] rest = λ m a on. paid_on c t v (comes_to (Trapped Unreachable)) (λ n. ended c t (Trapped Unreachable))
 instructed c t v fs (o ∷ os) rest = λ m a on. one_on c t v m a fs o (instruction_step c v fs os) on rest (instructed c t v fs os rest)
 
--- an action is asked for
-performed : (c : Code) (t : ℕ) (v : ImageThread) (n : ℕ) (post : Bool) (k : ℕ) (args : List Word) (x : Option Word) (source dest : Principal) → AreOnImageStack t v.frames
-    → IsStepOn c t (perform v n post k args x source dest)
-performed c t v n post k args x source dest all =
+-- an action is asked for, where there is one
+performed : (c : Code) (t : ℕ) (b : Bool) (v : ImageThread) (n : ℕ) (post : Bool) (k : ℕ) (args : List Word) (x : Option Word) (source dest : Principal) → AreOnImageStack t v.frames
+    → IsStepOn c t (action_line b v n post k args x source dest)
+performed c t true v n post k args x source dest all =
     paid_on c t v (λ w. Asks w (request source (what.Perform n post k (record { args = args; ret = x }) source dest))) (λ m. record { servable = refl; above = tt; frames_on = all })
+performed c t false v n post k args x source dest all = ended c t _
 
 pub left_on : (t : ℕ) (x : Option Word) (fs : List ImageFrame) (v : ImageThread) → AreOnImageStack t fs → AreOnImageStack t (after_leaving x fs v).frames
 left_on t x [] v rest = tt
 left_on t x (Runs a ∷ fs) v rest = rest
-left_on t x (Wraps n args place ∷ fs) v rest = rest
+left_on t x (Wraps n args lines old ∷ fs) v rest = rest
 
-posted : (c : Code) (t : ℕ) (b : Bool) (v : ImageThread) (n : ℕ) (args : List Word) (k : ℕ) (x : Option Word) (fs : List ImageFrame) → AreOnImageStack t v.frames → AreOnImageStack t fs
-    → IsStepOn c t (post_line b v n args k x fs)
-posted c t true v n args k x fs all rest = performed c t v n true k args x (top v.shadow) (below_top v.shadow) all
-posted c t false v n args k x fs all rest = left_on t x fs (with_shadow (tail v.shadow) v) rest
+-- a wrapper is left by its `ret`
+leaving_on : (c : Code) (t : ℕ) (v : ImageThread) (x : Option Word) (fs : List ImageFrame) (lines : List Op) → AreOnImageStack t fs → IsStepOn c t (leaving_line v x fs lines)
+leaving_on c t v x fs (op.Ret r ∷ lines) rest = left_on t x fs v rest
+leaving_on c t v x fs lines rest = ended c t _
 
-lined : (c : Code) (t : ℕ) (v : ImageThread) (n : ℕ) (args : List Word) (place : Place) (fs : List ImageFrame) → AreOnImageStack t v.frames → AreOnImageStack t fs
-    → IsStepOn c t (wrapper_line c v n args place fs)
-lined c t v n args (AtPre k) fs all rest = performed c t v n false k args None (below_top v.shadow) (top v.shadow) all
-lined c t v n args (AtPost k x) fs all rest = posted c t (has_action c.program n true k) v n args k x fs all rest
-lined c t v n args AtEnter fs all rest = ended c t _
-lined c t v n args AtCall fs all rest = ended c t _
-lined c t v n args InBody fs all rest = ended c t _
-lined c t v n args (AtLeave x) fs all rest = ended c t _
-lined c t v n args (AtRet x) fs all rest = ended c t _
+lined : (c : Code) (t : ℕ) (v : ImageThread) (n : ℕ) (args : List Word) (x : Option Word) (fs : List ImageFrame) (lines : List Op) → AreOnImageStack t v.frames → AreOnImageStack t fs
+    → IsStepOn c t (wrapper_line c v n args x fs lines)
+lined c t v n args x fs (op.Pre s k ∷ lines) all rest = performed c t (has_action c.program n false k) v n false k args None (below_top v.shadow) (top v.shadow) all
+lined c t v n args x fs (op.Post s k ∷ lines) all rest = performed c t (has_action c.program n true k) v n true k args x (top v.shadow) (below_top v.shadow) all
+lined c t v n args x fs (op.Leave s ∷ lines) all rest = leaving_on c t (with_shadow (tail v.shadow) v) x fs lines rest
+lined c t v n args x fs (op.Ret r ∷ lines) all rest = left_on t x fs v rest
+lined c t v n args x fs lines all rest = ended c t _
 
 started : (c : Code) (t : ℕ) (calls : List ScriptCall) (v : ImageThread) → AreOnImageStack t v.frames → IsStepOn c t (start_step calls v)
 started c t [] v all = ended c t _
@@ -118,7 +125,7 @@ started c t (call ∷ calls) v all =
 framed : (c : Code) (t : ℕ) (v : ImageThread) (fs : List ImageFrame) → AreOnImageStack t v.frames → AreOnImageStack t fs → IsStepOn c t (frame_step c v fs)
 framed c t v [] all h = started c t v.calls v all
 framed c t v (Runs a ∷ fs) all h = instructed c t v fs a.code h.1 no_marks a h.0
-framed c t v (Wraps n args place ∷ fs) all h = lined c t v n args place fs all h.1
+framed c t v (Wraps n args lines x ∷ fs) all h = lined c t v n args x fs lines all h.1
 
 due_on : (c : Code) (t : ℕ) (due : Option Outcome) (v : ImageThread) (s : ImageStep) → AreOnImageStack t v.frames → IsStepOn c t s → IsStepOn c t (due_or due v s)
 due_on c t None v s all h = h

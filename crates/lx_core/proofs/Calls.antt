@@ -25,12 +25,12 @@ entry_keeps c t false way args n q crosses v = refl
 leaving_keeps : (x : Option Word) (fs : List ImageFrame) (v : ImageThread) → (after_leaving x fs v).calls ≡ v.calls
 leaving_keeps x [] v = refl
 leaving_keeps x (Runs a ∷ fs) v = refl
-leaving_keeps x (Wraps n args place ∷ fs) v = refl
+leaving_keeps x (Wraps n args lines old ∷ fs) v = refl
 
 ret_keeps : (c : Code) (fs : List ImageFrame) (v : ImageThread) → (after_ret c fs v).calls ≡ v.calls
 ret_keeps c [] v = refl
 ret_keeps c (Runs a ∷ fs) v = leaving_keeps (returned_value c.program a) fs v
-ret_keeps c (Wraps n args place ∷ fs) v = refl
+ret_keeps c (Wraps n args lines x ∷ fs) v = refl
 
 value_keeps : (c : Code) (t : ℕ) (v : ImageThread) (w : What) (x : Word) → (after_reply c t v w (Value x)).calls ≡ v.calls
 value_keeps c t v (what.Load at width) x = refl

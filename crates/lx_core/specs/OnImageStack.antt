@@ -6,7 +6,7 @@ use Rattle.lx_images.specs.Image.{ImageFrame, Runs, Wraps}
 -- the part of the stack of a function that runs lies in the thread's; a wrapper has none
 abbrev pub IsOnImageStack : ℕ → ImageFrame → Type 0
 IsOnImageStack t (Runs a) = IsTrue (is_on_stack t a.low a.high)
-IsOnImageStack t (Wraps n args place) = ⊤
+IsOnImageStack t (Wraps n args lines x) = ⊤
 
 abbrev pub AreOnImageStack : ℕ → List ImageFrame → Type 0
 AreOnImageStack t [] = ⊤

@@ -1,2 +1,3 @@
 pub mod Counting
 pub mod Entering
+pub mod Arriving

@@ -1,29 +1,23 @@
 -- The frames that a runner keeps, and what the definitions see of them.
-use Rattle.std.specs.Prelude.{ℕ, suc, Bool, true, Option, Some, None, List, [], ◌∷◌, ◌<◌, map, vec_len, vec_capacity, ⊤}
+use Rattle.std.specs.Prelude.{ℕ, suc, ◌+◌, Bool, true, false, Option, Some, None, List, [], ◌∷◌, ◌<◌, drop, map, vec_len, vec_capacity, ⊤}
 use Rattle.lx_words.specs.Word.{Word}
 use Rattle.lx_model.specs.declared.request.Trap.TheVariants.{Unreachable}
-use Rattle.lx_model.specs.Thread.{Activation, activation_behind}
+use Rattle.lx_model.specs.Thread.{Activation, activation_behind, behind_head}
 use Rattle.lx_model.specs.Effect.{Effect, Moves, Traps}
-use Rattle.lx_images.specs.Image.{Code, ImageFrame, Runs, Wraps, Place, AtEnter, AtPre, InBody, AtPost, ImageThread, ImageStep, Marks, frame_step}
+use Rattle.lx_images.specs.Image.{Code, ImageFrame, Runs, Wraps, ImageThread, ImageStep, Marks, frame_step}
+use Rattle.lx_image_code.specs.declared.line.Line.{Line}
+use Rattle.lx_image_code.specs.declared.line.Line.TheVariants as line
+use Rattle.lx_image_code.specs.Wrappers.{first_op, line_of, wrapper_lines}
 use Rattle.lx_image_steps.specs.Marks.{plain_step}
 use Rattle.lx_image_steps.specs.Standing.{head_of, run_of}
 use Rattle.lx_image_steps.specs.declared.activation.Activation.{Activation as Running}
-use Rattle.lx_frames.specs.declared.frame.Place.{Place as KeptPlace}
-use Rattle.lx_frames.specs.declared.frame.Place.TheVariants as kept_place
 use Rattle.lx_frames.specs.declared.frame.Frame.{Frame as KeptFrame}
 use Rattle.lx_frames.specs.declared.frame.Frame.TheVariants as kept
 
--- the line at which a wrapper stands, as the definitions have it
-abbrev pub place_of : KeptPlace → Place
-place_of kept_place.Enter = AtEnter
-place_of (kept_place.Pre k) = AtPre k
-place_of kept_place.Body = InBody
-place_of (kept_place.Post k x) = AtPost k x
-
--- a frame, as the definitions have it
+-- a frame, as the definitions have it: of a wrapper the lines from its place on are left
 abbrev pub frame_of : Code → KeptFrame → ImageFrame
 frame_of c (kept.Runs run) = Runs (run_of c run)
-frame_of c (kept.Wraps n args place) = Wraps n args (place_of place)
+frame_of c (kept.Wraps n args wrapper at x) = Wraps n args (drop at (wrapper_lines c wrapper)) x
 
 -- the frames below the top one, the newest first, and for how many more there is room
 pub record Stack : Type 0 where
@@ -49,13 +43,13 @@ older (f ∷ fs) = fs
 abbrev pub running_in : List KeptFrame → ℕ
 running_in [] = 0
 running_in (kept.Runs run ∷ fs) = suc (running_in fs)
-running_in (kept.Wraps n args place ∷ fs) = running_in fs
+running_in (kept.Wraps n args wrapper at x ∷ fs) = running_in fs
 
 -- where the stack of the newest function that runs ends
 abbrev pub high_in : List KeptFrame → Option ℕ
 high_in [] = None
 high_in (kept.Runs run ∷ fs) = Some run.high
-high_in (kept.Wraps n args place ∷ fs) = high_in fs
+high_in (kept.Wraps n args wrapper at x ∷ fs) = high_in fs
 
 -- and with a frame on top
 abbrev pub high_on : Option KeptFrame → Stack → Option ℕ
@@ -65,37 +59,37 @@ high_on (Some f) below = high_in (f ∷ below.frames)
 -- a running function, changed; a wrapper stays as it is
 abbrev pub changed : (Activation → Activation) → ImageFrame → ImageFrame
 changed change (Runs a) = Runs (change a)
-changed change (Wraps n args place) = Wraps n args place
+changed change (Wraps n args lines x) = Wraps n args lines x
 
--- the frame behind the one that it called: a function goes on with the value, and a wrapper goes on to its actions behind the body
+-- the frame behind the one that it called: a function goes on with the value, and a wrapper with what its call gave
 abbrev pub resumed : Option Word → ImageFrame → ImageFrame
 resumed x (Runs a) = Runs (activation_behind x a)
-resumed x (Wraps n args place) = Wraps n args (AtPost 0 x)
+resumed x (Wraps n args lines old) = Wraps n args lines x
 
 -- the function that runs; none, in a wrapper
 abbrev pub runs : KeptFrame → Option Running
 runs (kept.Runs run) = Some run
-runs (kept.Wraps n args place) = None
+runs (kept.Wraps n args wrapper at x) = None
 
 -- the number of the function that a wrapper wraps
 abbrev pub wrapped_function : KeptFrame → ℕ
 wrapped_function (kept.Runs run) = 0
-wrapped_function (kept.Wraps n args place) = n
+wrapped_function (kept.Wraps n args wrapper at x) = n
 
 -- the arguments that it was called with
 abbrev pub wrapped_args : KeptFrame → List Word
 wrapped_args (kept.Runs run) = []
-wrapped_args (kept.Wraps n args place) = args
+wrapped_args (kept.Wraps n args wrapper at x) = args
 
--- and its line
-abbrev pub wrapped_place : KeptFrame → Option KeptPlace
-wrapped_place (kept.Runs run) = None
-wrapped_place (kept.Wraps n args place) = Some place
+-- and what its call gave
+abbrev pub wrapped_value : KeptFrame → Option Word
+wrapped_value (kept.Runs run) = None
+wrapped_value (kept.Wraps n args wrapper at x) = x
 
 -- a function that runs has room for bytes of the stack more
 abbrev pub HasSpace : KeptFrame → Type 0
 HasSpace (kept.Runs run) = vec_len run.allocas < vec_capacity run.allocas
-HasSpace (kept.Wraps n args place) = ⊤
+HasSpace (kept.Wraps n args wrapper at x) = ⊤
 
 -- and a frame on top, if there is one
 abbrev pub HasSpaceOn : Option KeptFrame → Type 0
@@ -113,15 +107,57 @@ marked_frame_step c None v fs = frame_step c v fs
 marked_frame_step c (Some m) v (Runs a ∷ fs) = plain_step c v fs m a (head_of a.code)
 marked_frame_step c (Some m) v fs = frame_step c v fs
 
--- a wrapper at another line
-abbrev pub placed : KeptPlace → KeptFrame → KeptFrame
-placed place (kept.Runs run) = kept.Runs run
-placed place (kept.Wraps n args old) = kept.Wraps n args place
+-- lines of wrappers
 
--- a wrapper on top at another line
-abbrev pub placed_on : KeptPlace → Option KeptFrame → Option KeptFrame
-placed_on place None = None
-placed_on place (Some f) = Some (placed place f)
+-- a number of the machine counts the line behind this one
+abbrev pub Counts : KeptFrame → Type 0
+Counts (kept.Runs run) = ⊤
+Counts (kept.Wraps n args wrapper at x) = at < 18446744073709551615
+
+-- and so it is of a wrapper on top
+abbrev pub CountsOn : Option KeptFrame → Type 0
+CountsOn None = ⊤
+CountsOn (Some f) = Counts f
+
+-- a wrapper behind its line
+abbrev pub past_line : KeptFrame → KeptFrame
+past_line (kept.Runs run) = kept.Runs run
+past_line (kept.Wraps n args wrapper at x) = kept.Wraps n args wrapper (at + 1) x
+
+-- and a wrapper on top
+abbrev pub past_line_on : Option KeptFrame → Option KeptFrame
+past_line_on None = None
+past_line_on (Some f) = Some (past_line f)
+
+-- the line at which a wrapper stands; none, in a function
+abbrev pub line_at : ImageFrame → Option Line
+line_at (Runs a) = None
+line_at (Wraps n args lines x) = Some (line_of (first_op lines))
+
+-- and the line behind it
+abbrev pub line_behind : ImageFrame → Option Line
+line_behind (Runs a) = None
+line_behind (Wraps n args lines x) = Some (line_of (first_op (behind_head lines)))
+
+-- the line of the wrapper on top; none, where a function or nothing is there
+abbrev pub line_on : List ImageFrame → Option Line
+line_on [] = None
+line_on (f ∷ fs) = line_at f
+
+-- and the line behind it
+abbrev pub line_behind_on : List ImageFrame → Option Line
+line_behind_on [] = None
+line_behind_on (f ∷ fs) = line_behind f
+
+-- the line is the call
+abbrev pub is_call : Line → Bool
+is_call line.Call = true
+is_call l = false
+
+-- and there is one
+abbrev pub is_call_if : Option Line → Bool
+is_call_if None = false
+is_call_if (Some l) = is_call l
 
 -- what stands on top
 
@@ -130,10 +166,10 @@ abbrev pub running_on : Option KeptFrame → Option Running
 running_on None = None
 running_on (Some f) = runs f
 
--- the line of a wrapper there
-abbrev pub place_on : Option KeptFrame → Option KeptPlace
-place_on None = None
-place_on (Some f) = wrapped_place f
+-- what the call of a wrapper there gave
+abbrev pub value_on : Option KeptFrame → Option Word
+value_on None = None
+value_on (Some f) = wrapped_value f
 
 -- the number of the function that a wrapper there wraps
 abbrev pub function_on : Option KeptFrame → ℕ
@@ -147,10 +183,10 @@ args_on (Some f) = wrapped_args f
 
 -- no wrapper stands on top
 abbrev pub IsUnwrapped : Option KeptFrame → Type 0
-IsUnwrapped (Some (kept.Wraps n args place)) = ⊥
+IsUnwrapped (Some (kept.Wraps n args wrapper at x)) = ⊥
 IsUnwrapped _ = ⊤
 
 -- a wrapper stands on top
 abbrev pub IsWrapper : Option KeptFrame → Type 0
-IsWrapper (Some (kept.Wraps n args place)) = ⊤
+IsWrapper (Some (kept.Wraps n args wrapper at x)) = ⊤
 IsWrapper _ = ⊥

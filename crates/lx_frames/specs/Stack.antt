@@ -5,16 +5,16 @@ use Rattle.lx_caps.specs.declared.Principal.{Principal}
 use Rattle.lx_model.specs.declared.request.Request.{Request}
 use Rattle.lx_model.specs.declared.request.What.{What}
 use Rattle.lx_model.specs.declared.request.What.TheVariants as what
-use Rattle.lx_model.specs.Thread.{start_of}
+use Rattle.lx_ir.specs.declared.instr.Op.{Op}
+use Rattle.lx_model.specs.Thread.{behind_head, start_of}
 use Rattle.lx_model.specs.Effect.{returned_value}
-use Rattle.lx_images.specs.Image.{Code, ImageFrame, Runs, Wraps, InBody, at_pre, image_routine, stack_top}
+use Rattle.lx_images.specs.Image.{Code, ImageFrame, Runs, Wraps, at_lines, image_routine, stack_top}
 use Rattle.lx_image_code.specs.Tables.{HasLocals}
-use Rattle.lx_image_steps.specs.Marks.{next_args}
-use Rattle.lx_frames.specs.declared.frame.Place.TheVariants as kept_place
+use Rattle.lx_image_steps.specs.Marks.{next_args, next_lines}
 use Rattle.lx_frames.specs.declared.frame.Frame.{Frame as KeptFrame}
 use Rattle.lx_frames.specs.declared.frame.Frame.TheVariants as kept
 use Rattle.lx_frames.specs.declared.stack.FrameStack.{FrameStack}
-use Rattle.lx_frames.specs.Frames.{HasSpaceOn, frames_of}
+use Rattle.lx_frames.specs.Frames.{Counts, HasSpaceOn, frames_of, past_line_on}
 
 -- room for what a reply needs
 
@@ -28,20 +28,18 @@ CanEnter c s count frames = IsPrepared c count s.registers.items (vec_capacity s
 
 -- a wrapper on top may go into its body
 abbrev pub CanGoIn : Code → FrameStack → Option KeptFrame → Type 0
-CanGoIn c s (Some (kept.Wraps n args place)) = CanEnter c s (length args) 1
+CanGoIn c s (Some (kept.Wraps n args wrapper at x)) = CanEnter c s (length args) 1 × Counts (kept.Wraps n args wrapper at x)
 CanGoIn c s _ = ⊤
 
--- a wrapper on top may go on behind an action: before its body perhaps into it, and a `u32` counts the actions behind the body
+-- a wrapper on top may go on behind the line that it asks by, and from there perhaps into its body
 abbrev pub CanGoOn : Code → FrameStack → Option KeptFrame → Type 0
-CanGoOn c s (Some (kept.Wraps n args (kept_place.Pre k))) = CanEnter c s (length args) 1
-CanGoOn c s (Some (kept.Wraps n args (kept_place.Post k x))) = k < 4294967295
-CanGoOn c s _ = ⊤
+CanGoOn c s top = CanGoIn c s (past_line_on top)
 
 -- there is what the reply needs: room for the registers, the frames and the principal of what is entered, and a place for the bytes
 -- that a function is given
 abbrev pub HasRoomFor : Code → FrameStack → What → Type 0
 HasRoomFor c s (what.Perform n post k env source dest) = CanGoOn c s s.top
-HasRoomFor c s (what.Enter way args) = CanEnter c s (length args) 2 × CanGoIn c s s.top × (0 < s.shadow.room)
+HasRoomFor c s (what.Enter way args) = CanEnter c s (length args) 2 × CanGoOn c s s.top × (0 < s.shadow.room)
 HasRoomFor c s (what.Alloca at size) = HasSpaceOn s.top
 HasRoomFor c s w = ⊤
 
@@ -62,15 +60,20 @@ abbrev pub returned_on : Code → List ImageFrame → Option (Option Word)
 returned_on c (Runs a ∷ fs) = Some (returned_value c.program a)
 returned_on c fs = None
 
--- a wrapper before the action with this number, or in its body where there is none
-abbrev pub line_before : Code → ℕ → ℕ → List ImageFrame → List ImageFrame
-line_before c t k (Wraps n args place ∷ fs) = at_pre c t k n args fs
-line_before c t k fs = fs
+-- the lines of the wrapper that a function stands to call
+abbrev pub lines_in : Code → List ImageFrame → List Op
+lines_in c (Runs a ∷ fs) = next_lines c a a.code
+lines_in c fs = []
 
--- a wrapper in its body
-abbrev pub body_before : Code → ℕ → List ImageFrame → List ImageFrame
-body_before c t (Wraps n args place ∷ fs) = Runs (start_of n (image_routine c n) args (stack_top t fs)) ∷ Wraps n args InBody ∷ fs
-body_before c t fs = fs
+-- a wrapper that has come to its line: in its body, where that is the call
+abbrev pub arrived : Code → ℕ → List ImageFrame → List ImageFrame
+arrived c t (Wraps n args lines x ∷ fs) = at_lines c t n args x fs lines
+arrived c t fs = fs
+
+-- a wrapper in its body, behind the line of the call
+abbrev pub body_behind : Code → ℕ → List ImageFrame → List ImageFrame
+body_behind c t (Wraps n args lines x ∷ fs) = Runs (start_of n (image_routine c n) args (stack_top t fs)) ∷ Wraps n args (behind_head lines) x ∷ fs
+body_behind c t fs = fs
 
 -- what has become of a stack
 

@@ -1,5 +1,5 @@
 //! Frames of a thread: functions that run, and the wrappers round those that calls cross into.
-ghost use Rattle.std.specs.Prelude.{◌≡◌, ◌+◌, ◌≤◌, ◌∷◌, IfOk, IfSome, IsNone, IsSome, IsTrue, List, None, OnErr, OnOk, Some, option_copied, slice_get};
+ghost use Rattle.std.specs.Prelude.{◌≡◌, ◌+◌, ◌≤◌, ◌∷◌, IfOk, IfSome, IsNone, IsSome, IsTrue, List, None, OnErr, OnOk, Some, option_copied, slice_get, true};
 ghost use Rattle.lx_words.specs.declared.word.Width.TheVariants.{W64};
 ghost use Rattle.lx_words.specs.Word.{word};
 ghost use Rattle.lx_model.specs.Thread.{activation_behind};
@@ -8,42 +8,72 @@ ghost use Rattle.lx_model.specs.Next.{with_alloca};
 ghost use Rattle.lx_images.specs.Image.{Code as Images, ImageFrame, ImageThread};
 ghost use Rattle.lx_image_steps.specs.declared.activation.Activation.{Activation as Running};
 ghost use Rattle.lx_image_steps.specs.Standing.{run_of};
-ghost use Rattle.lx_frames.specs.Frames.{HasSpace, arrival_in, changed, frame_of, marked_frame_step, placed, resumed, runs, wrapped_args, wrapped_function, wrapped_place};
+ghost use Rattle.lx_frames.specs.Frames.{Counts, HasSpace, arrival_in, changed, frame_of, line_at, line_behind, marked_frame_step, past_line, resumed, runs, wrapped_args, wrapped_function, wrapped_value};
 
-use lx_image_code::Code;
+use lx_image_code::{Code, Line, Wrapper};
 use lx_image_steps::{Activation, Marks};
 use lx_words::{Memory, Width, Word, Words};
 use std::alloc::Global;
 
-/// The line at which a wrapper stands: before its enter, before an action with this number, in its body, or behind it with the
-/// result, before an action.
-#[derive(Clone, Copy)]
-pub enum Place {
-    Enter,
-    Pre(u32),
-    Body,
-    Post(u32, Option<Word>),
-}
-
-/// A function that runs, or the wrapper round one: the number of the function that it wraps, its arguments, and its line.
+/// A function that runs, or the wrapper round one: the number of the function that it wraps, its arguments, whose lines it has, at
+/// which of them it stands, and what its call gave.
 #[derive(Drop)]
 pub enum Frame {
     Runs(Activation),
     Wraps {
         function: u32,
         args: Words,
-        place: Place,
+        wrapper: Wrapper,
+        at: usize,
+        value: Option<Word>,
     },
 }
 
 impl Frame {
-    /// The line of a wrapper; none, in a function.
-    pub(crate) fn place(&self) -> Option<Place>
-        ensures { result ≡ wrapped_place self.now }
+    /// The line at which a wrapper stands; none, in a function.
+    pub(crate) fn line(&self, code: &Code) -> Option<Line>
+        ensures { result ≡ line_at (frame_of code.now self.now) }
     {
         match self {
             Frame::Runs(_) => None,
-            Frame::Wraps { place, .. } => Some(*place),
+            Frame::Wraps { wrapper, at, .. } => Some(code.line(*wrapper, *at)),
+        }
+    }
+
+    /// The line behind that; none, in a function.
+    ///
+    /// # Errors
+    /// `Memory`, where the wrapper has more lines than a number counts.
+    #[tactic(auto, using(crate::proofs::Arriving::line_more))]
+    pub(crate) fn line_behind(&self, code: &Code) -> Result<Option<Line>, Memory>
+        ensures { IfOk result (λ line. line ≡ line_behind (frame_of code.now self.now)) }
+    {
+        match self {
+            Frame::Runs(_) => Ok(None),
+            Frame::Wraps { wrapper, at, .. } => match at.checked_add(1) {
+                Some(behind) => Ok(Some(code.line(*wrapper, behind))),
+                None => Err(Memory),
+            },
+        }
+    }
+
+    /// What the call of a wrapper gave; none, before that and in a function.
+    pub(crate) fn value(&self) -> Option<Word>
+        ensures { result ≡ wrapped_value self.now }
+    {
+        match self {
+            Frame::Runs(_) => None,
+            Frame::Wraps { value, .. } => *value,
+        }
+    }
+
+    /// Whether a number counts the two lines behind the one at which a wrapper stands.
+    pub(crate) fn counts_on(&self) -> bool
+        ensures { result ≡ true → Counts (past_line self.now) }
+    {
+        match self {
+            Frame::Runs(_) => true,
+            Frame::Wraps { at, .. } => *at < usize::MAX - 1,
         }
     }
 
@@ -87,24 +117,23 @@ impl Frame {
         }
     }
 
-    /// What it called has returned: a function goes past its instruction with the value, and a wrapper goes on to its actions
-    /// behind the body.
+    /// What it called has returned: a function goes past its instruction with the value, and a wrapper goes on with it.
     pub fn resume(&mut self, code: &Code, value: &Option<Word>)
         ensures { frame_of code.now self.new ≡ resumed value.now (frame_of code.now self.old) }
     {
         match self {
             Frame::Runs(run) => run.pass(code, value),
-            Frame::Wraps { place, .. } => *place = Place::Post(0, *value),
+            Frame::Wraps { value: given, .. } => *given = *value,
         }
     }
 
-    /// A wrapper stands at another line.
-    pub(crate) fn stand(&mut self, line: Place)
-        ensures { self.new ≡ placed line self.old }
+    /// A wrapper goes past its line.
+    pub(crate) fn pass_line(&mut self)
+        ensures { Counts self.old → self.new ≡ past_line self.old }
     {
         match self {
             Frame::Runs(_) => {}
-            Frame::Wraps { place, .. } => *place = line,
+            Frame::Wraps { at, .. } => *at = at.saturating_add(1),
         }
     }
 

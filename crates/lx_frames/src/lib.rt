@@ -10,5 +10,5 @@ mod stack;
 
 pub use callers::Callers;
 pub use copies::copies_of;
-pub use frame::{Frame, Place};
+pub use frame::Frame;
 pub use stack::{Entry, FrameStack};

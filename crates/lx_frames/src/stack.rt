@@ -1,19 +1,20 @@
 //! The frames of a thread, and the principals of the wrappers among them.
 ghost use Rattle.std.specs.Prelude.{◌≡◌, ◌≤◌, [], IfOk, IfSome, IsSome, option_copied};
 ghost use Rattle.lx_images.specs.Image.{Code as Images, fits_site, has_room, stack_top};
-ghost use Rattle.lx_frames.specs.Frames.{args_on, frames_of, function_on, high_on, place_on, running_on};
-ghost use Rattle.lx_frames.specs.Stack.{args_in, returned_on};
+ghost use Rattle.lx_frames.specs.Frames.{args_on, frames_of, function_on, high_on, line_behind_on, line_on, running_on, value_on};
+ghost use Rattle.lx_image_code.specs.Wrappers.{wrapper_lines};
+ghost use Rattle.lx_frames.specs.Stack.{args_in, lines_in, returned_on};
 ghost use Rattle.lx_model.specs.Program.{same_result};
 
 mod entries;
 mod room;
 
 use crate::callers::{Callers, high_of};
-use crate::frame::{Frame, Place};
+use crate::frame::Frame;
 pub use entries::Entry;
 use lx_caps::stack_start;
-use lx_image_code::Code;
-use lx_image_steps::{Activation, call_arguments, call_result, returned};
+use lx_image_code::{Code, Line, Wrapper};
+use lx_image_steps::{Activation, call_arguments, call_result, called_wrapper, returned};
 use lx_model::request::Way;
 use lx_shadow::Shadow;
 use lx_words::{Items, Memory, Width, Word, Words};
@@ -73,13 +74,49 @@ impl FrameStack {
         }
     }
 
-    /// The line of the wrapper on top; none, where no wrapper is there.
-    pub fn place(&self) -> Option<Place>
-        ensures { result ≡ place_on self.now.top }
+    /// The line at which the wrapper on top stands; none, where no wrapper is there.
+    pub fn line(&self, code: &Code) -> Option<Line>
+        ensures { result ≡ line_on (frames_of code.now self.now.top self.now.below) }
     {
         match &self.top {
-            Some(frame) => frame.place(),
+            Some(frame) => frame.line(code),
             None => None,
+        }
+    }
+
+    /// The line behind that; none, where no wrapper is there.
+    ///
+    /// # Errors
+    /// `Memory`, where the wrapper has more lines than a number counts.
+    pub fn line_behind(&self, code: &Code) -> Result<Option<Line>, Memory>
+        ensures { IfOk result (λ line. line ≡ line_behind_on (frames_of code.now self.now.top self.now.below)) }
+    {
+        match &self.top {
+            Some(frame) => {
+                let line = frame.line_behind(code)?;
+                Ok(line)
+            }
+            None => Ok(None),
+        }
+    }
+
+    /// What the call of the wrapper on top gave; none, before that and where no wrapper is there.
+    pub fn value(&self) -> Option<Word>
+        ensures { result ≡ value_on self.now.top }
+    {
+        match &self.top {
+            Some(frame) => frame.value(),
+            None => None,
+        }
+    }
+
+    /// The wrapper that the function on top stands to call; one without lines, where no function is there.
+    pub fn called_wrapper(&self, code: &Code) -> Wrapper
+        ensures { wrapper_lines code.now result ≡ lines_in code.now (frames_of code.now self.now.top self.now.below) }
+    {
+        match self.running() {
+            Some(run) => called_wrapper(code, run),
+            None => Wrapper::Missing,
         }
     }
 

@@ -1,17 +1,26 @@
 //! The code that a machine of images runs: what runs of the functions of a program.
-ghost use Rattle.std.specs.Prelude.{◌≡◌, ℕ, ◌≤◌, IfOk, IfSome, map, bytes_eq, option_copied, position};
+ghost use Rattle.std.specs.Prelude.{◌≡◌, ℕ, ◌≤◌, IfErr, IfOk, IfSome, IsTrue, OnOk, drop, map, bytes_eq, option_copied, position};
 ghost use Rattle.lx_model.specs.Thread.{code_block_of};
 ghost use Rattle.lx_code.specs.Reach.{IsWithinReach, CountsActions};
 ghost use Rattle.lx_images.specs.Image.{image_function, image_routine, out_import};
+ghost use Rattle.lx_images.specs.WrapperForm.{have_formed_wrappers};
+ghost use Rattle.lx_images.specs.Wrappers.{in_lines};
 ghost use Rattle.lx_image_code.specs.Code.{code_of};
+ghost use Rattle.lx_image_code.specs.Form.{Tells};
 ghost use Rattle.lx_image_code.specs.Jumps.{op_at, IsCaseAt, IsEdgeAt, IsRoomAt, IsRouteAt};
 ghost use Rattle.lx_image_code.specs.Reach.{AreSized, AreWithinReach};
 ghost use Rattle.lx_image_code.specs.Tables.{HasLocals};
+ghost use Rattle.lx_image_code.specs.Wrappers.{first_op, line_of, wrapper_lines};
 
+use crate::entered::entered_at;
+use crate::fault::CodeFault;
+use crate::form::check_form;
 use crate::functions::function_named;
 use crate::imports::import_at;
 use crate::jumps::{first_block, first_case, first_edge, room_at, route_at};
+use crate::line::Line;
 use crate::tables::{Tables, tables_of};
+use crate::wrappers::{Wrapper, line_at};
 use lx_code::{ActionCounts, Code as ProgramCode};
 use lx_code_tables::{Room, Route};
 use lx_ir::module::{Block, Function};
@@ -52,11 +61,8 @@ impl Model for Code {
 impl Code {
     ghost use Rattle.std.specs.Arc.{arc_value};
 
-    /// The code of a program, whose functions have so many actions, and of the images of its modules.
-    ///
-    /// # Errors
-    /// Want of memory; more modules than a number of 32 bits counts are that too.
-    pub fn new(
+    // The code of a program and of images whose wrappers have the form of wrappers.
+    fn of_formed(
         alloc: Global,
         program: Arc<Program>,
         images: Vec<Verified>,
@@ -64,6 +70,7 @@ impl Code {
     ) -> Result<Code, Memory>
         requires reach { IsWithinReach (arc_value program) }
         requires images { AreWithinReach (arc_value program) images.items }
+        requires formed { IsTrue (have_formed_wrappers images.items) }
         requires actions { CountsActions (arc_value program) actions.items }
         ensures { IfOk result (λ code. code ≡ code_of (arc_value program) images.items) }
     {
@@ -74,6 +81,33 @@ impl Code {
             images,
             tables,
         })
+    }
+
+    /// The code of a program, whose functions have so many actions, and of the images of its modules.
+    ///
+    /// # Errors
+    /// The first function of an image that is named as a wrapper and has not the form of one, before anything else. Want of memory;
+    /// more modules, or functions of one text, than a number of 32 bits counts are that too.
+    pub fn new(
+        alloc: Global,
+        program: Arc<Program>,
+        images: Vec<Verified>,
+        actions: Vec<ActionCounts>,
+    ) -> Result<Code, CodeFault>
+        requires reach { IsWithinReach (arc_value program) }
+        requires images { AreWithinReach (arc_value program) images.items }
+        requires actions { CountsActions (arc_value program) actions.items }
+        ensures code { IfOk result (λ code. code ≡ code_of (arc_value program) images.items) }
+        ensures formed { OnOk result (IsTrue (have_formed_wrappers images.items)) }
+        ensures fault { IfErr result (Tells images.items) }
+    {
+        match check_form(images.as_slice()) {
+            Ok(()) => match Code::of_formed(alloc, program, images, actions) {
+                Ok(code) => Ok(code),
+                Err(_) => Err(CodeFault::Memory),
+            },
+            Err(why) => Err(why),
+        }
     }
 
     /// The program. Who has it knows too that each type whose layout an instruction asks for is within the limits.
@@ -187,5 +221,25 @@ impl Code {
             None => None,
             Some(number) => import_at(self.tables.imports.as_slice(), number, function),
         }
+    }
+
+    /// The wrapper by which a function is entered from elsewhere: of a module's function the one that its image names for it, if it
+    /// has one, and of the kernel's the one of its annotation.
+    pub fn entered_wrapper(&self, number: u32) -> Wrapper
+        ensures { wrapper_lines self.now result ≡ in_lines self.now number }
+    {
+        entered_at(self.tables.entered.as_slice(), number)
+    }
+
+    /// What the line at a place of a wrapper does.
+    pub fn line(&self, wrapper: Wrapper, at: usize) -> Line
+        ensures { result ≡ line_of (first_op (drop at (wrapper_lines self.now wrapper))) }
+    {
+        line_at(
+            self.images.as_slice(),
+            self.tables.kernel.as_slice(),
+            wrapper,
+            at,
+        )
     }
 }

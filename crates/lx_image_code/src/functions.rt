@@ -19,14 +19,19 @@ fn image_in(images: &[Verified], number: u32) -> Option<&Module>
     }
 }
 
-fn function_in<'a>(text: &'a Module, number: u32) -> Option<&'a Function>
+/// The function with this number of a text.
+pub(crate) fn function_in<'a>(text: &'a Module, number: u32) -> Option<&'a Function>
     ensures { option_copied result ≡ slice_get text.now.functions number }
 {
     text.functions.items.get(number as usize)
 }
 
-// The function of a module's image.
-fn function_of_image<'a>(images: &'a [Verified], number: u32, function: u32) -> Option<&'a Function>
+/// The function with this number of a module's image.
+pub(crate) fn function_of_image<'a>(
+    images: &'a [Verified],
+    number: u32,
+    function: u32,
+) -> Option<&'a Function>
     ensures { option_copied result ≡ option_and_then (λ i. slice_get i.functions function) (slice_get images.now number) }
 {
     match image_in(images, number) {

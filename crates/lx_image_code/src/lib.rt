@@ -1,11 +1,20 @@
 //! The code that a machine of images runs: a program, the images of its modules, and tables of where the jumps of their functions
-//! go and of which imports their wrappers wrap.
+//! go, of which imports their wrappers wrap, and of the wrappers by which functions are entered.
 #![tactic(auto)]
 
 mod code;
+mod entered;
+mod fault;
+mod form;
 mod functions;
 mod imports;
 mod jumps;
+mod kernel;
+mod line;
 mod tables;
+mod wrappers;
 
 pub use code::Code;
+pub use fault::CodeFault;
+pub use line::Line;
+pub use wrappers::Wrapper;

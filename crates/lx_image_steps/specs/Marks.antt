@@ -10,6 +10,7 @@ use Rattle.lx_model.specs.Thread.{Activation}
 use Rattle.lx_model.specs.Effect.{bits, is_phi, text_of}
 pub use Rattle.lx_image_texts.specs.Marks.{is_mark}
 use Rattle.lx_images.specs.Image.{Code, ImageFrame, ImageStep, ImageThread, Marks, comes_to, costly_step, if_paid, instruction_step, no_marks, wrapped_import, wrapper_args}
+use Rattle.lx_images.specs.Wrappers.{called_lines}
 use Rattle.lx_image_steps.specs.Standing.{head_of, run_of}
 use Rattle.lx_image_steps.specs.declared.activation.Activation.{Activation as Running}
 
@@ -44,3 +45,8 @@ StandsPlain a = IfSome (head_of a.code) (λ o. is_mark o ≡ false)
 abbrev pub next_args : Code → Activation → List Op → List Word
 next_args c a [] = []
 next_args c a (o ∷ os) = wrapper_args c a o
+
+-- the lines of the wrapper that a function stands to call
+abbrev pub next_lines : Code → Activation → List Op → List Op
+next_lines c a [] = []
+next_lines c a (o ∷ os) = called_lines c (text_of c.program a) o

@@ -23,4 +23,4 @@ pub use effect::Effect;
 pub use marks::{Guarded, Marks};
 pub use next::next_effect;
 pub use steps::{call_result, instruction, registers_of, returned};
-pub use wrapped::{call_arguments, wrapped_call};
+pub use wrapped::{call_arguments, called_wrapper, wrapped_call};

@@ -14,8 +14,9 @@ use Rattle.lx_model.specs.declared.program.Program.{Program}
 use Rattle.lx_model.specs.Program.{Home, home_or_kernel, kernel_function, module_of, native_named, slot_named}
 use Rattle.lx_model.specs.Thread.{CodeBlock, Routine, Activation, routine, routine_of}
 use Rattle.lx_model.specs.Effect.{Effect, Moves, Wants, Enters, Calls, Traps, code_block_named}
-use Rattle.lx_images.specs.Image.{Code, image_routine, out_import}
+use Rattle.lx_images.specs.Code.{Code, image_routine, out_import}
 use Rattle.lx_images.specs.ImageCode.{is_store, stores_in, Bare, bare_in, text_op, image_ops}
+use Rattle.lx_images.specs.WrapperLines.{WrapsWell}
 
 -- the code of a block, or none where there is no block
 abbrev pub code_or_none : Option CodeBlock → List Op
@@ -119,6 +120,8 @@ pub record Accepted (c : Code) : Type 0 where
   pub routines : (n : ℕ) → image_routine c n ≡ guarded_routine c (home_or_kernel c.program n) n (routine c.program n)
   -- calls of imports go to their wrappers, and no others
   pub wrappers : (m f : ℕ) → CallsOut c m f (slice_get (module_of c.program (Some m)).functions f)
+  -- and each wrapper has the lines of its function's annotation
+  pub wraps : WrapsWell c
   -- the kernel and each module are verified
   pub verified : (h : Home) → IsVerified (module_of c.program h)
   -- what the kernel calls as a slot takes the slot, and then the slot type's arguments

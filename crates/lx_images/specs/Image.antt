@@ -1,20 +1,13 @@
--- The machine of instrumented code: wrapper frames, a shadow stack of principals, and two marks.
-use Rattle.std.specs.Prelude.{ℕ, zero, suc, ◌+◌, ◌*◌, Bool, true, false, ◌&&◌, Option, Some, None, List, [], ◌∷◌, ◌++◌, nat_eq, nat_le, nat_lt, codes, length, drop, option_and_then, slice_get, if◌then◌else◌}
-use Rattle.std.specs.List.{starts_with}
+-- The machine of instrumented code: wrappers run line by line, beside a shadow stack of principals and two marks.
+use Rattle.std.specs.Prelude.{ℕ, zero, suc, ◌+◌, ◌*◌, Bool, true, false, ◌&&◌, Option, Some, None, List, [], ◌∷◌, ◌++◌, nat_eq, nat_le, nat_lt, length, option_and_then}
 use Rattle.lx_words.specs.declared.word.Width.TheVariants.{W64}
 use Rattle.lx_words.specs.Width.{byte_count}
 use Rattle.lx_words.specs.Word.{Word, word}
 use Rattle.lx_caps.specs.declared.Principal.{Principal}
 use Rattle.lx_caps.specs.declared.Principal.TheVariants.{Kernel}
-use Rattle.lx_ir.specs.declared.module.Function.{Function}
-use Rattle.lx_ir.specs.declared.module.Module.{Module}
-use Rattle.lx_ir.specs.declared.module.Symbol.TheVariants as symbol
-use Rattle.lx_ir.specs.declared.instr.Callee.TheVariants as callee
+use Rattle.lx_caps.specs.Regions.{stack_start}
 use Rattle.lx_ir.specs.declared.instr.Op.{Op}
 use Rattle.lx_ir.specs.declared.instr.Op.TheVariants as op
-use Rattle.lx_model.specs.declared.program.Program.{Program}
-use Rattle.lx_model.specs.declared.program.ProgramFunction.{ProgramFunction}
-use Rattle.lx_model.specs.declared.program.ProgramFunction.TheVariants.{Of}
 use Rattle.lx_model.specs.declared.program.ScriptCall.{ScriptCall}
 use Rattle.lx_model.specs.declared.request.Outcome.{Outcome}
 use Rattle.lx_model.specs.declared.request.Outcome.TheVariants.{Returned, Trapped, Budget}
@@ -26,45 +19,18 @@ use Rattle.lx_model.specs.declared.request.What.TheVariants as what
 use Rattle.lx_model.specs.declared.request.Request.{Request}
 use Rattle.lx_model.specs.declared.request.Reply.{Reply}
 use Rattle.lx_model.specs.declared.request.Reply.TheVariants.{Value, Entered, Ended}
-use Rattle.lx_model.specs.Program.{Home, function_of, function_of_entry, kernel_function, result_width, same_result}
-use Rattle.lx_model.specs.Thread.{Activation, Ending, Routine, routine_or_none, start_of, activation_behind, first_fuel}
+use Rattle.lx_model.specs.Program.{Home, function_of, result_width, same_result}
+use Rattle.lx_model.specs.Thread.{Activation, Ending, start_of, behind_head, activation_behind, first_fuel}
 use Rattle.lx_model.specs.Effect.{Effect, Moves, Wants, Enters, Calls, Traps, text_of, bits, argument_words, effect, returned_value, call_result}
 use Rattle.lx_model.specs.Next.{request, finish, frame_limit, has_action, way_address, with_alloca, other_calls, ending}
-use Rattle.lx_caps.specs.Regions.{stack_start}
-
--- a program and its images, module by module
-pub record Code : Type 0 where
-  pub program : Program
-  pub images : List Module
-
--- the function of an entry of the program's table: that of its module's image, or the kernel's own
-abbrev pub image_of_entry : Code → Option ProgramFunction → Option Function
-image_of_entry c (Some (Of (Some m) f)) = option_and_then (λ i. slice_get i.functions f) (slice_get c.images m)
-image_of_entry c e = function_of_entry c.program e
-
--- the code that runs of a function: that of its module's image, or the kernel's own
-abbrev pub image_function : Code → ℕ → Option Function
-image_function c n = image_of_entry c (slice_get c.program.functions n)
-
--- its blocks and how many registers they give
-abbrev pub image_routine : Code → ℕ → Routine
-image_routine c n = routine_or_none (image_function c n)
-
--- the line at which a wrapper stands. The free lines AtCall, AtLeave and AtRet are passed with the step before them
-pub data Place : Type 0 where
-  AtEnter : Place
-  AtPre : ℕ → Place
-  AtCall : Place
-  InBody : Place
-  AtPost : ℕ → Option Word → Place
-  AtLeave : Option Word → Place
-  AtRet : Option Word → Place
+pub use Rattle.lx_images.specs.Code.{Code, image_of_entry, image_function, image_routine, wrapped_name, out_import, wrapped_import}
+use Rattle.lx_images.specs.Wrappers.{called_lines, in_lines}
 
 -- a frame: a function that runs, or a wrapper round one
 pub data ImageFrame : Type 0 where
   Runs : Activation → ImageFrame
-  -- the wrapper of the program's function with this number, its arguments, and its line
-  Wraps : ℕ → List Word → Place → ImageFrame
+  -- the wrapper of the program's function with this number: its arguments, the lines that are left of it, and what its call gave
+  Wraps : ℕ → List Word → List Op → Option Word → ImageFrame
 
 -- a thread: its calls, those that have ended, the fuel that is left, an outcome that it comes to, its frames, the top one first, and
 -- the principals of its wrappers, the innermost first
@@ -103,13 +69,13 @@ below_top shadow = top (tail shadow)
 abbrev pub running : List ImageFrame → ℕ
 running [] = 0
 running (Runs a ∷ fs) = suc (running fs)
-running (Wraps n args place ∷ fs) = running fs
+running (Wraps n args lines x ∷ fs) = running fs
 
 -- where the next frame's part of the stack begins
 abbrev pub stack_top : ℕ → List ImageFrame → ℕ
 stack_top t [] = stack_start t
 stack_top t (Runs a ∷ fs) = a.high
-stack_top t (Wraps n args place ∷ fs) = stack_top t fs
+stack_top t (Wraps n args lines x ∷ fs) = stack_top t fs
 
 -- what a thread does next: a register step, or a request
 pub data ImageStep : Type 0 where
@@ -136,11 +102,11 @@ with_frames fs v = record v { frames = fs }
 abbrev pub with_shadow : List Principal → ImageThread → ImageThread
 with_shadow shadow v = record v { shadow = shadow }
 
--- a frame is left: its caller goes on with the value, or a wrapper goes on to its actions behind the body
+-- a frame is left: its caller goes on with the value, and a wrapper with what its call gave
 abbrev pub after_leaving : Option Word → List ImageFrame → ImageThread → ImageThread
 after_leaving x [] v = with_due (Returned x) v
 after_leaving x (Runs a ∷ fs) v = with_frames (Runs (activation_behind x a) ∷ fs) v
-after_leaving x (Wraps n args place ∷ fs) v = with_frames (Wraps n args (AtPost 0 x) ∷ fs) v
+after_leaving x (Wraps n args lines old ∷ fs) v = with_frames (Wraps n args lines x ∷ fs) v
 
 -- the marks
 
@@ -196,35 +162,24 @@ effect_step c v m a fs (Calls n args) =
     if_room (has_room (Runs a ∷ fs)) v (Goes (with_frames (Runs (start_of n (image_routine c n) args a.high) ∷ Runs a ∷ fs) v))
 effect_step c v m a fs (Traps trap) = comes_to (Trapped trap) v
 
--- the import that a called wrapper of an image wraps: what stands behind `lxfi.out.` in its name
-abbrev pub wrapped_name : Option Function → Option (List ℕ)
-wrapped_name None = None
-wrapped_name (Some f) = if starts_with nat_eq f.name (codes "lxfi.out.") then Some (drop 9 f.name) else None
-
--- the import of the kernel that the function with this number wraps in a module's image; the kernel's text wraps none
-abbrev pub out_import : Code → Home → ℕ → Option ℕ
-out_import c None f = None
-out_import c (Some m) f =
-    option_and_then (kernel_function c.program) (wrapped_name (option_and_then (λ i. slice_get i.functions f) (slice_get c.images m)))
-
--- the import that a call calls by its wrapper
-abbrev pub wrapped_import : Code → Home → Op → Option ℕ
-wrapped_import c home (op.Call to ret (callee.Symbol (symbol.Function f)) args) = out_import c home f
-wrapped_import c home _ = None
-
 -- the arguments of a call
 abbrev pub wrapper_args : Code → Activation → Op → List Word
 wrapper_args c a (op.Call to ret callee args) = argument_words c.program a args
 wrapper_args c a _ = []
 
--- the call of a wrapper, whose first line asks for the enter
-abbrev pub wrapper_call : ImageThread → Activation → List ImageFrame → ℕ → List Word → ImageStep
-wrapper_call v a fs n args =
-    if_room (has_room (Runs a ∷ fs)) v (Asks (with_frames (Wraps n args AtEnter ∷ Runs a ∷ fs) v) (request (top v.shadow) (what.Enter (Direct n) args)))
+-- a called wrapper's first line asks for the enter; a wrapper that begins with another line cannot run
+abbrev pub first_line : ImageThread → ℕ → List Word → List ImageFrame → List Op → ImageStep
+first_line v n args fs (op.Enter s ∷ lines) =
+    Asks (with_frames (Wraps n args (op.Enter s ∷ lines) None ∷ fs) v) (request (top v.shadow) (what.Enter (Direct n) args))
+first_line v n args fs lines = comes_to (Trapped Unreachable) v
+
+-- the call of a wrapper
+abbrev pub wrapper_call : ImageThread → Activation → List ImageFrame → ℕ → List Word → List Op → ImageStep
+wrapper_call v a fs n args lines = if_room (has_room (Runs a ∷ fs)) v (first_line v n args (Runs a ∷ fs) lines)
 
 -- an instruction that costs a unit: the call of a wrapper, or what the program has
 abbrev pub costly_step : Code → Marks → Activation → List ImageFrame → Op → Option ℕ → ImageThread → ImageStep
-costly_step c m a fs o (Some n) v = wrapper_call v a fs n (wrapper_args c a o)
+costly_step c m a fs o (Some n) v = wrapper_call v a fs n (wrapper_args c a o) (called_lines c (text_of c.program a) o)
 costly_step c m a fs o None v = effect_step c v m a fs (effect c.program a o)
 
 -- a guard and a check set their mark, and cost nothing; what is behind them empties both
@@ -238,23 +193,27 @@ abbrev pub instruction_step : Code → ImageThread → List ImageFrame → List 
 instruction_step c v fs [] m a = if_paid v (comes_to (Trapped Unreachable))
 instruction_step c v fs (o ∷ os) m a = one_step c v m a fs o (instruction_step c v fs os)
 
--- steps of a wrapper
+-- steps of a wrapper: each line does what it says
 
--- a request for the action with this number, before the body or behind it, from one principal to another
-abbrev pub perform : ImageThread → ℕ → Bool → ℕ → List Word → Option Word → Principal → Principal → ImageStep
-perform v n post k args x source dest =
+-- a request for an action, from one principal to another, where the function has an action of this number
+abbrev pub action_line : Bool → ImageThread → ℕ → Bool → ℕ → List Word → Option Word → Principal → Principal → ImageStep
+action_line true v n post k args x source dest =
     if_paid v (λ w. Asks w (request source (what.Perform n post k (record { args = args; ret = x }) source dest)))
+action_line false v n post k args x source dest = comes_to (Trapped Unreachable) v
 
--- behind the last action the wrapper is left, and its principal with it
-abbrev pub post_line : Bool → ImageThread → ℕ → List Word → ℕ → Option Word → List ImageFrame → ImageStep
-post_line true v n args k x fs = perform v n true k args x (top v.shadow) (below_top v.shadow)
-post_line false v n args k x fs = Goes (after_leaving x fs (with_shadow (tail v.shadow) v))
+-- behind the line that leaves stands the `ret`
+abbrev pub leaving_line : ImageThread → Option Word → List ImageFrame → List Op → ImageStep
+leaving_line v x fs (op.Ret r ∷ lines) = Goes (after_leaving x fs v)
+leaving_line v x fs lines = comes_to (Trapped Unreachable) v
 
--- the step of a wrapper that stands before an action, or behind the last one
-abbrev pub wrapper_line : Code → ImageThread → ℕ → List Word → Place → List ImageFrame → ImageStep
-wrapper_line c v n args (AtPre k) fs = perform v n false k args None (below_top v.shadow) (top v.shadow)
-wrapper_line c v n args (AtPost k x) fs = post_line (has_action c.program n true k) v n args k x fs
-wrapper_line c v n args place fs = comes_to (Trapped Unreachable) v
+-- the line at which a wrapper stands: an action from the caller to the callee, one back, the leaving of the wrapper and of its
+-- principal, or the `ret` alone, which leaves the principal where it is
+abbrev pub wrapper_line : Code → ImageThread → ℕ → List Word → Option Word → List ImageFrame → List Op → ImageStep
+wrapper_line c v n args x fs (op.Pre s k ∷ lines) = action_line (has_action c.program n false k) v n false k args None (below_top v.shadow) (top v.shadow)
+wrapper_line c v n args x fs (op.Post s k ∷ lines) = action_line (has_action c.program n true k) v n true k args x (top v.shadow) (below_top v.shadow)
+wrapper_line c v n args x fs (op.Leave s ∷ lines) = leaving_line (with_shadow (tail v.shadow) v) x fs lines
+wrapper_line c v n args x fs (op.Ret r ∷ lines) = leaving_line v x fs (op.Ret r ∷ lines)
+wrapper_line c v n args x fs lines = comes_to (Trapped Unreachable) v
 
 -- the start of the first call that is left
 abbrev pub start_step : List ScriptCall → ImageThread → ImageStep
@@ -265,7 +224,7 @@ start_step (call ∷ calls) v = if_paid v (λ w. Asks w (request Kernel (what.En
 abbrev pub frame_step : Code → ImageThread → List ImageFrame → ImageStep
 frame_step c v [] = start_step v.calls v
 frame_step c v (Runs a ∷ fs) = instruction_step c v fs a.code no_marks a
-frame_step c v (Wraps n args place ∷ fs) = wrapper_line c v n args place fs
+frame_step c v (Wraps n args lines x ∷ fs) = wrapper_line c v n args x fs lines
 
 -- an outcome that is due comes first
 abbrev pub due_or : Option Outcome → ImageThread → ImageStep → ImageStep
@@ -302,18 +261,14 @@ on_running change fs = fs
 abbrev pub past_instruction : Option Word → ImageThread → ImageThread
 past_instruction x v = with_frames (on_running (activation_behind x) v.frames) v
 
--- a wrapper before an action, or behind the last one in its body
-abbrev pub before_body : Code → ℕ → Bool → ℕ → ℕ → List Word → List ImageFrame → List ImageFrame
-before_body c t true k n args fs = Wraps n args (AtPre k) ∷ fs
-before_body c t false k n args fs = Runs (start_of n (image_routine c n) args (stack_top t fs)) ∷ Wraps n args InBody ∷ fs
+-- a wrapper with these lines left: at its call it goes into the body, and before any other line it stands
+abbrev pub at_lines : Code → ℕ → ℕ → List Word → Option Word → List ImageFrame → List Op → List ImageFrame
+at_lines c t n args x fs (op.Call to ret callee as' ∷ lines) = Runs (start_of n (image_routine c n) args (stack_top t fs)) ∷ Wraps n args lines x ∷ fs
+at_lines c t n args x fs lines = Wraps n args lines x ∷ fs
 
--- a wrapper before the action with this number, or in its body where there is none
-abbrev pub at_pre : Code → ℕ → ℕ → ℕ → List Word → List ImageFrame → List ImageFrame
-at_pre c t k n args fs = before_body c t (has_action c.program n false k) k n args fs
-
--- a wrapper is entered behind its enter; any other function runs at once
+-- a wrapper that is entered stands behind its first line, its enter, which has been served; any other function runs at once
 abbrev pub entered_frames : Code → ℕ → Bool → ℕ → List Word → List ImageFrame → List ImageFrame
-entered_frames c t true n args fs = at_pre c t 0 n args fs
+entered_frames c t true n args fs = at_lines c t n args None fs (behind_head (in_lines c n))
 entered_frames c t false n args fs = Runs (start_of n (image_routine c n) args (stack_top t fs)) ∷ fs
 
 -- the principals with one more, where a call crosses
@@ -332,21 +287,10 @@ after_entry c t true way args n q crosses v =
     record v { shadow = shadow_with crosses q v.shadow; frames = entered_frames c t crosses n args v.frames }
 after_entry c t false way args n q crosses v = with_due (Trapped (Signature (way_address way))) v
 
--- the wrapper on top is behind its enter
-abbrev pub behind_enter : Code → ℕ → List ImageFrame → List ImageFrame
-behind_enter c t (Wraps n args place ∷ fs) = at_pre c t 0 n args fs
-behind_enter c t fs = fs
-
--- a wrapper behind an action
-abbrev pub behind_action : Code → ℕ → ℕ → List Word → Place → List ImageFrame → List ImageFrame
-behind_action c t n args (AtPre k) fs = at_pre c t (suc k) n args fs
-behind_action c t n args (AtPost k x) fs = Wraps n args (AtPost (suc k) x) ∷ fs
-behind_action c t n args place fs = Wraps n args place ∷ fs
-
--- the wrapper on top is behind its action
-abbrev pub after_action : Code → ℕ → List ImageFrame → List ImageFrame
-after_action c t (Wraps n args place ∷ fs) = behind_action c t n args place fs
-after_action c t fs = fs
+-- the wrapper on top is behind the line that it asked by
+abbrev pub behind_line : Code → ℕ → List ImageFrame → List ImageFrame
+behind_line c t (Wraps n args lines x ∷ fs) = at_lines c t n args x fs (behind_head lines)
+behind_line c t fs = fs
 
 -- the function on top returns
 abbrev pub after_ret : Code → List ImageFrame → ImageThread → ImageThread
@@ -369,9 +313,9 @@ after_end o v =
 abbrev pub after_reply : Code → ℕ → ImageThread → What → Reply → ImageThread
 after_reply c t v (what.Alloca at size) reply =
     with_frames (on_running (λ a. activation_behind (Some (word W64 at)) (with_alloca at size a)) v.frames) v
-after_reply c t v (what.Enter (Direct f) args) (Entered n q crosses) = record v { shadow = q ∷ v.shadow; frames = behind_enter c t v.frames }
+after_reply c t v (what.Enter (Direct f) args) (Entered n q crosses) = record v { shadow = q ∷ v.shadow; frames = behind_line c t v.frames }
 after_reply c t v (what.Enter way args) (Entered n q crosses) = after_entry c t (fits_site c way v.frames n) way args n q crosses v
-after_reply c t v (what.Perform n post k env source dest) reply = with_frames (after_action c t v.frames) v
+after_reply c t v (what.Perform n post k env source dest) reply = with_frames (behind_line c t v.frames) v
 after_reply c t v (what.Return low high) reply = after_ret c v.frames v
 after_reply c t v w (Value x) = past_instruction (Some x) v
 after_reply c t v w reply = past_instruction None v

@@ -1,3 +1,7 @@
+pub mod Code
+pub mod Wrappers
+pub mod WrapperForm
+pub mod WrapperLines
 pub mod Image
 pub mod ImageWorld
 pub mod ImageCode

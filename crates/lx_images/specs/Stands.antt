@@ -1,5 +1,5 @@
--- The image thread that stands for a thread of the monitor, and what holds of the monitor's threads.
-use Rattle.std.specs.Prelude.{◌≡◌, ℕ, suc, Bool, true, false, Option, Some, None, List, [], ◌∷◌, map, slice_get, ⊤, ◌⊎◌}
+-- Which image threads stand for a thread of the monitor, and what holds of the monitor's threads.
+use Rattle.std.specs.Prelude.{◌≡◌, ℕ, suc, Bool, true, false, Option, Some, None, List, [], ◌∷◌, drop, map, slice_get, ⊤, ◌⊎◌}
 use Rattle.lx_caps.specs.declared.Principal.{Principal}
 use Rattle.lx_caps.specs.declared.Principal.TheVariants.{Kernel}
 use Rattle.lx_model.specs.declared.program.Program.{Program}
@@ -12,19 +12,21 @@ use Rattle.lx_model.specs.declared.request.Entry.{Entry}
 use Rattle.lx_model.specs.State.{State}
 use Rattle.lx_model.specs.declared.request.Reply.{Reply}
 use Rattle.lx_model.specs.declared.request.Reply.TheVariants.{Value, Done, Entered, Ended}
-use Rattle.lx_model.specs.Program.{Home, home_or_kernel}
+use Rattle.lx_model.specs.Program.{Home, home_or_kernel, annotation_or_none}
 use Rattle.lx_model.specs.Thread.{Stage, Pre, Body, Post, Crossing, Frame, Thread, activation, top_of_stack}
 use Rattle.lx_model.specs.Effect.{text_of, bits}
-use Rattle.lx_model.specs.Next.{Step, Goes, Asks, Asking, absorb, next, request}
+use Rattle.lx_model.specs.Next.{Step, Goes, Asks, Asking, absorb, next, request, has_action}
 use Rattle.lx_model.specs.World.{World}
-use Rattle.lx_images.specs.Image.{Code, AtPre, InBody, AtPost, ImageFrame, Runs, Wraps, ImageThread, ImageStep, ImageAsking, top, image_absorb}
+use Rattle.lx_images.specs.Image.{Code, ImageFrame, Runs, Wraps, ImageThread, ImageStep, ImageAsking, top, image_absorb}
 use Rattle.lx_images.specs.Image.{Goes as ImageGoes, Asks as ImageAsks}
 use Rattle.lx_images.specs.ImageWorld.{ImageWorld}
-use Rattle.lx_words.specs.Word.{word}
+use Rattle.lx_images.specs.WrapperLines.{Wording, from_pre, from_post}
+use Rattle.lx_words.specs.Word.{Word, word}
 use Rattle.lx_words.specs.Width.{byte_count}
 use Rattle.lx_caps.specs.declared.Cap.TheVariants.{Write}
 use Rattle.lx_caps.specs.Regions.{mapped}
 use Rattle.lx_caps.specs.History.{History, holds}
+use Rattle.lx_annot.specs.declared.action.Annotation.{Annotation}
 use Rattle.lx_ir.specs.declared.types.Scalar.{Scalar}
 use Rattle.lx_ir.specs.declared.module.Value.{Value as Operand}
 use Rattle.lx_ir.specs.declared.instr.Op.{Op}
@@ -33,35 +35,59 @@ use Rattle.lx_ir.specs.Layout.{width_of}
 use Rattle.lx_images.specs.ImageCode.{stores_in}
 use Rattle.lx_images.specs.Guarded.{bare_of, guarded_run, waiting_run}
 
--- a crossing's wrapper stands below its function's frame
-abbrev pub under : Option Crossing → List ImageFrame → List ImageFrame
-under None is = is
-under (Some x) is = Wraps x.function x.args InBody ∷ is
+-- The wrapper of a crossing is a frame that stands at a line of the function's wrapper.
+
+-- the frame of a crossing's wrapper, with these lines left of it, which the wording and the annotation give, and what its call gave, if it has returned
+abbrev pub IsWrapperFrame : Code → Crossing → (Wording → Annotation → List Op) → Option Word → ImageFrame → Type 0
+IsWrapperFrame c x left value f = (w : Wording) × (f ≡ Wraps x.function x.args (left w (annotation_or_none c.program x.function)) value)
+
+-- the same, where its call has not returned
+abbrev pub IsCallerFrame : Code → Crossing → (Wording → Annotation → List Op) → ImageFrame → Type 0
+IsCallerFrame c x left f = (value : Option Word) × IsWrapperFrame c x left value f
+
+-- before its action with this number, behind its call, and before its action with this number behind the body
+abbrev pub left_before : ℕ → Wording → Annotation → List Op
+left_before k w a = from_pre w a k (drop k a.pre)
+
+abbrev pub left_in_body : Wording → Annotation → List Op
+left_in_body w a = from_post w 0 a.post
+
+abbrev pub left_behind : ℕ → Wording → Annotation → List Op
+left_behind k w a = from_post w k (drop k a.post)
+
+-- below a function's frame stands its wrapper, behind its call, where the frame is a crossing's, and nothing else
+abbrev pub StandUnder : Code → Option Crossing → List ImageFrame → List ImageFrame → Type 0
+StandUnder c None is below = is ≡ below
+StandUnder c (Some x) is below = (i : ImageFrame) × IsCallerFrame c x left_in_body i × (is ≡ i ∷ below)
 
 -- a frame below the top one: its function stands at a call, and a crossing is in its body
-abbrev pub waiting_frame : Code → Frame → List ImageFrame → List ImageFrame
-waiting_frame c f is = Runs (waiting_run c (text_of c.program f.run) f.run) ∷ under f.crossing is
+abbrev pub WaitsAs : Code → Frame → List ImageFrame → List ImageFrame → Type 0
+WaitsAs c f is below =
+    (under : List ImageFrame) × StandUnder c f.crossing under below × (is ≡ Runs (waiting_run c (text_of c.program f.run) f.run) ∷ under)
 
 -- the frames below the top one
-abbrev pub waiting_frames : Code → List Frame → List ImageFrame
-waiting_frames c [] = []
-waiting_frames c (f ∷ fs) = waiting_frame c f (waiting_frames c fs)
+abbrev pub WaitAs : Code → List Frame → List ImageFrame → Type 0
+WaitAs c [] is = is ≡ []
+WaitAs c (f ∷ fs) is = (below : List ImageFrame) × WaitsAs c f is below × WaitAs c fs below
 
--- a crossing is its wrapper's frame, with the function's frame above it exactly while its body runs
-abbrev pub crossing_frames : Code → Frame → Crossing → Stage → List ImageFrame → List ImageFrame
-crossing_frames c f x (Pre k) is = Wraps x.function x.args (AtPre k) ∷ is
-crossing_frames c f x Body is = Runs (guarded_run c (text_of c.program f.run) f.run) ∷ Wraps x.function x.args InBody ∷ is
-crossing_frames c f x (Post k v) is = Wraps x.function x.args (AtPost k v) ∷ is
+-- a crossing on top is its wrapper's frame, before an action that there is or behind the body, with the function's frame above it
+-- exactly while its body runs
+abbrev pub CrossesAs : Code → Frame → Crossing → Stage → List ImageFrame → List ImageFrame → Type 0
+CrossesAs c f x (Pre k) is below =
+    (i : ImageFrame) × IsCallerFrame c x (left_before k) i × (has_action c.program x.function false k ≡ true) × (is ≡ i ∷ below)
+CrossesAs c f x Body is below =
+    (i : ImageFrame) × IsCallerFrame c x left_in_body i × (is ≡ Runs (guarded_run c (text_of c.program f.run) f.run) ∷ i ∷ below)
+CrossesAs c f x (Post k v) is below = (i : ImageFrame) × IsWrapperFrame c x (left_behind k) v i × (is ≡ i ∷ below)
 
 -- the frame on top, which may be a crossing
-abbrev pub top_frame : Code → Frame → Option Crossing → List ImageFrame → List ImageFrame
-top_frame c f None is = Runs (guarded_run c (text_of c.program f.run) f.run) ∷ is
-top_frame c f (Some x) is = crossing_frames c f x x.stage is
+abbrev pub StandsAs : Code → Frame → Option Crossing → List ImageFrame → List ImageFrame → Type 0
+StandsAs c f None is below = is ≡ Runs (guarded_run c (text_of c.program f.run) f.run) ∷ below
+StandsAs c f (Some x) is below = CrossesAs c f x x.stage is below
 
--- the image's frames of these frames
-abbrev pub image_frames : Code → List Frame → List ImageFrame
-image_frames c [] = []
-image_frames c (f ∷ fs) = top_frame c f f.crossing (waiting_frames c fs)
+-- the image's frames stand for these frames, one by one
+abbrev pub FramesStand : Code → List Frame → List ImageFrame → Type 0
+FramesStand c [] is = is ≡ []
+FramesStand c (f ∷ fs) is = (below : List ImageFrame) × StandsAs c f f.crossing is below × WaitAs c fs below
 
 -- the crossings' principals
 abbrev pub with_shadow : Option Crossing → Principal → List Principal → List Principal
@@ -73,17 +99,20 @@ abbrev pub shadow_of : List Frame → List Principal
 shadow_of [] = []
 shadow_of (f ∷ fs) = with_shadow f.crossing f.principal (shadow_of fs)
 
--- the image thread that stands for a thread
-abbrev pub image_of : Code → Thread → ImageThread
-image_of c thread =
-    record {
-      calls = thread.calls;
-      ended = thread.ended;
-      fuel = thread.fuel;
-      due = thread.due;
-      frames = image_frames c thread.frames;
-      shadow = shadow_of thread.frames;
-    }
+-- the image thread stands for the thread: it shows the same, its frames stand for the thread's, and its principals are the crossings'
+pub record ThreadStands (c : Code) (thread : Thread) (v : ImageThread) : Type 0 where
+  pub calls : v.calls ≡ thread.calls
+  pub ended : v.ended ≡ thread.ended
+  pub fuel : v.fuel ≡ thread.fuel
+  pub due : v.due ≡ thread.due
+  pub frames : FramesStand c thread.frames v.frames
+  pub shadow : v.shadow ≡ shadow_of thread.frames
+
+-- so does each of these of its own, and there are no others
+abbrev pub ThreadsStand : Code → List Thread → List ImageThread → Type 0
+ThreadsStand c [] vs = vs ≡ []
+ThreadsStand c (thread ∷ threads) [] = ⊥
+ThreadsStand c (thread ∷ threads) (v ∷ vs) = ThreadStands c thread v × ThreadsStand c threads vs
 
 -- an entry of the journal, but for whom it was asked
 pub record Seen : Type 0 where
@@ -107,7 +136,7 @@ pub record SameState (s v : State) : Type 0 where
 -- the image world stands for the world: the same is shared, and each image thread stands for its thread
 pub record StandsFor (c : Code) (w : World) (v : ImageWorld) : Type 0 where
   pub state : SameState w.state v.state
-  pub threads : v.threads ≡ map (image_of c) w.threads
+  pub threads : ThreadsStand c w.threads v.threads
 
 -- what holds of frames
 
@@ -180,7 +209,7 @@ Answers p who w r = ⊤
 -- both ask for the same, and take each answer in alike
 abbrev pub AbsorbAlike : Code → ℕ → Thread → ImageThread → Request → Type 0
 AbsorbAlike c t thread v r =
-    (reply : Reply) → Answers c.program r.who r.what reply → Well c.program t (absorb c.program t thread r reply) × (image_absorb c t v r reply ≡ image_of c (absorb c.program t thread r reply))
+    (reply : Reply) → Answers c.program r.who r.what reply → Well c.program t (absorb c.program t thread r reply) × ThreadStands c (absorb c.program t thread r reply) (image_absorb c t v r reply)
 
 -- the scripts and slots are the kernel's, and a direct call that crosses is one of the kernel's functions
 abbrev pub AskedBy : Program → Principal → What → Type 0
@@ -217,7 +246,7 @@ AsksAlike c t thread r v s = AskAlike c thread r s × AskedBy c.program r.who r.
 
 -- both take a register step to threads that stand for each other, or ask alike
 abbrev pub StepsAgree : Code → ℕ → Step → ImageStep → Type 0
-StepsAgree c t (Goes thread) (ImageGoes v) = Well c.program t thread × (v ≡ image_of c thread)
+StepsAgree c t (Goes thread) (ImageGoes v) = Well c.program t thread × ThreadStands c thread v
 StepsAgree c t (Asks thread r) (ImageAsks v s) = AsksAlike c t thread r v s
 StepsAgree c t _ _ = ⊥
 

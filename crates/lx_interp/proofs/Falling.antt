@@ -15,7 +15,8 @@ use Rattle.lx_model.specs.declared.request.Request.{Request}
 use Rattle.lx_model.specs.Thread.{Activation}
 use Rattle.lx_model.specs.Effect.{Effect, Moves, Wants, Enters, Calls, Traps, effect, text_of}
 use Rattle.lx_model.specs.Next.{has_action, request}
-use Rattle.lx_images.specs.Image.{Code, Place, AtPre, AtPost, ImageFrame, Runs, Wraps, ImageThread, ImageStep, ImageAsking, Goes, Asks, Marks, no_marks, if_paid, if_room, has_room, comes_to, effect_step, wrapped_import, costly_step, one_step, instruction_step, after_leaving, with_shadow, tail, perform, post_line, wrapper_line, start_step, frame_step, due_or, image_next_within}
+use Rattle.lx_images.specs.Image.{Code, ImageFrame, Runs, Wraps, ImageThread, ImageStep, ImageAsking, Goes, Asks, Marks, no_marks, if_paid, if_room, has_room, comes_to, effect_step, wrapped_import, costly_step, one_step, instruction_step, after_leaving, with_shadow, tail, action_line, first_line, leaving_line, wrapper_line, start_step, frame_step, due_or, image_next_within}
+use Rattle.lx_images.specs.Wrappers.{called_lines}
 use Rattle.lx_image_steps.specs.Marks.{plain_step}
 use Rattle.lx_image_steps.specs.Standing.{head_of}
 use Rattle.lx_frames.specs.Frames.{marked_frame_step}
@@ -48,8 +49,13 @@ falls_effect c v m a fs (Enters w) k h = falls_room (has_room (Runs a ∷ fs)) v
 falls_effect c v m a fs (Calls n args) k h = falls_room (has_room (Runs a ∷ fs)) v _ k (grind (arith, h))
 falls_effect c v m a fs (Traps trap) k h = tt
 
+falls_first : (v : ImageThread) (n : ℕ) (args : List Word) (fs : List ImageFrame) (lines : List Op) (k : ℕ) → Falls k (first_line v n args fs lines)
+falls_first v n args fs [] k = tt
+falls_first v n args fs (op.Enter s ∷ lines) k = tt
+falls_first v n args fs (o ∷ lines) k = tt
+
 falls_costly : (c : Code) (m : Marks) (a : Activation) (fs : List ImageFrame) (o : Op) (w : Option ℕ) (v : ImageThread) (k : ℕ) → 2 * v.fuel + length fs + 2 < k → Falls k (costly_step c m a fs o w v)
-falls_costly c m a fs o (Some n) v k h = falls_room (has_room (Runs a ∷ fs)) v _ k tt
+falls_costly c m a fs o (Some n) v k h = falls_room (has_room (Runs a ∷ fs)) v _ k (falls_first v n _ (Runs a ∷ fs) (called_lines c (text_of c.program a) o) k)
 falls_costly c m a fs o None v k h = falls_effect c v m a fs (effect c.program a o) k h
 
 paid_less : (fuel n l k : ℕ) → fuel ≡ suc n → 2 * fuel + l < k → 2 * n + l + 2 < k
@@ -78,19 +84,24 @@ falls_plain c v fs k m a (Some o) h = falls_instruction c v m a fs o k h
 falls_leaving : (x : Option Word) (fs : List ImageFrame) (v : ImageThread) (k : ℕ) → 2 * v.fuel + length fs < k → Falls k (Goes (after_leaving x fs v))
 falls_leaving x [] v k h = grind (arith, h)
 falls_leaving x (Runs a ∷ fs) v k h = grind (arith, h)
-falls_leaving x (Wraps n args place ∷ fs) v k h = grind (arith, h)
+falls_leaving x (Wraps n args lines old ∷ fs) v k h = grind (arith, h)
 
-falls_perform : (v : ImageThread) (n : ℕ) (post : Bool) (i : ℕ) (args : List Word) (x : Option Word) (source dest : Principal) (k : ℕ) → Falls k (perform v n post i args x source dest)
-falls_perform v n post i args x source dest k = falls_asking v v.fuel (request source (what.Perform n post i (record { args = args; ret = x }) source dest)) k
+falls_action : (has : Bool) (v : ImageThread) (n : ℕ) (post : Bool) (i : ℕ) (args : List Word) (x : Option Word) (source dest : Principal) (k : ℕ) → Falls k (action_line has v n post i args x source dest)
+falls_action true v n post i args x source dest k = falls_asking v v.fuel (request source (what.Perform n post i (record { args = args; ret = x }) source dest)) k
+falls_action false v n post i args x source dest k = tt
 
-falls_post : (b : Bool) (v : ImageThread) (n : ℕ) (args : List Word) (i : ℕ) (x : Option Word) (fs : List ImageFrame) (k : ℕ) → 2 * v.fuel + length fs < k → Falls k (post_line b v n args i x fs)
-falls_post true v n args i x fs k h = falls_perform v n true i args x _ _ k
-falls_post false v n args i x fs k h = falls_leaving x fs (with_shadow (tail v.shadow) v) k h
+falls_return : (v : ImageThread) (x : Option Word) (fs : List ImageFrame) (lines : List Op) (k : ℕ) → 2 * v.fuel + length fs < k → Falls k (leaving_line v x fs lines)
+falls_return v x fs [] k h = tt
+falls_return v x fs (op.Ret r ∷ lines) k h = falls_leaving x fs v k h
+falls_return v x fs (o ∷ lines) k h = tt
 
-falls_line : (c : Code) (v : ImageThread) (n : ℕ) (args : List Word) (place : Place) (fs : List ImageFrame) (k : ℕ) → 2 * v.fuel + length fs < k → Falls k (wrapper_line c v n args place fs)
-falls_line c v n args (AtPre i) fs k h = falls_perform v n false i args None _ _ k
-falls_line c v n args (AtPost i x) fs k h = falls_post (has_action c.program n true i) v n args i x fs k h
-falls_line c v n args place fs k h = tt
+falls_line : (c : Code) (v : ImageThread) (n : ℕ) (args : List Word) (x : Option Word) (fs : List ImageFrame) (lines : List Op) (k : ℕ) → 2 * v.fuel + length fs < k → Falls k (wrapper_line c v n args x fs lines)
+falls_line c v n args x fs [] k h = tt
+falls_line c v n args x fs (op.Pre s i ∷ lines) k h = falls_action (has_action c.program n false i) v n false i args None _ _ k
+falls_line c v n args x fs (op.Post s i ∷ lines) k h = falls_action (has_action c.program n true i) v n true i args x _ _ k
+falls_line c v n args x fs (op.Leave s ∷ lines) k h = falls_return (with_shadow (tail v.shadow) v) x fs lines k h
+falls_line c v n args x fs (op.Ret r ∷ lines) k h = falls_leaving x fs v k h
+falls_line c v n args x fs (o ∷ lines) k h = tt
 
 falls_start : (calls : List ScriptCall) (v : ImageThread) (k : ℕ) → Falls k (start_step calls v)
 falls_start [] v k = tt
@@ -102,13 +113,13 @@ more_frames fuel f fs = grind arith
 falls_frame : (c : Code) (v : ImageThread) (fs : List ImageFrame) → Falls (2 * v.fuel + length fs) (frame_step c v fs)
 falls_frame c v [] = falls_start v.calls v _
 falls_frame c v (Runs a ∷ fs) = falls_code c v fs _ a.code no_marks a (more_frames v.fuel (Runs a) fs)
-falls_frame c v (Wraps n args place ∷ fs) = falls_line c v n args place fs _ (more_frames v.fuel (Wraps n args place) fs)
+falls_frame c v (Wraps n args lines x ∷ fs) = falls_line c v n args x fs lines _ (more_frames v.fuel (Wraps n args lines x) fs)
 
 falls_marked : (c : Code) (m : Option Marks) (v : ImageThread) (fs : List ImageFrame) → Falls (2 * v.fuel + length fs) (marked_frame_step c m v fs)
 falls_marked c None v fs = falls_frame c v fs
 falls_marked c (Some m) v [] = falls_frame c v []
 falls_marked c (Some m) v (Runs a ∷ fs) = falls_plain c v fs _ m a (head_of a.code) (more_frames v.fuel (Runs a) fs)
-falls_marked c (Some m) v (Wraps n args place ∷ fs) = falls_frame c v (Wraps n args place ∷ fs)
+falls_marked c (Some m) v (Wraps n args lines x ∷ fs) = falls_frame c v (Wraps n args lines x ∷ fs)
 
 falls_due : (due : Option Outcome) (v : ImageThread) (s : ImageStep) (k : ℕ) → Falls k s → Falls k (due_or due v s)
 falls_due (Some o) v s k h = tt

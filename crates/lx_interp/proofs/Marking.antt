@@ -1,12 +1,15 @@
 -- The marks of the next instruction are taken, and nothing else changes.
 use Rattle.std.specs.Prelude.{IfSome, IsNone, is_some}
-use Rattle.std.proofs.Common.{◌≡◌, ℕ, zero, suc, Bool, true, false, Option, Some, None, IsSome, List, ◌∷◌, map, refl, sym, ap, ◌∙◌, subst}
+use Rattle.std.proofs.Common.{◌≡◌, ℕ, zero, suc, Bool, true, false, Option, Some, None, IsSome, List, [], ◌∷◌, map, refl, sym, ap, ◌∙◌, subst}
+use Rattle.lx_words.specs.Word.{Word}
 use Rattle.lx_ir.specs.declared.instr.Op.{Op}
+use Rattle.lx_ir.specs.declared.instr.Op.TheVariants as op
 use Rattle.lx_model.specs.declared.request.Outcome.TheVariants.{Trapped}
 use Rattle.lx_model.specs.declared.request.Trap.TheVariants.{Unreachable}
 use Rattle.lx_model.specs.Thread.{Activation}
 use Rattle.lx_model.specs.Effect.{Effect, Moves, Wants, Enters, Calls, Traps, effect, text_of}
-use Rattle.lx_images.specs.Image.{Code, ImageFrame, ImageThread, ImageStep, Goes, Asks, Runs, Wraps, Marks, comes_to, costly_step, due_or, effect_step, has_room, if_paid, if_room, with_frames, wrapped_import}
+use Rattle.lx_images.specs.Image.{Code, ImageFrame, ImageThread, ImageStep, Goes, Asks, Runs, Wraps, Marks, comes_to, costly_step, due_or, effect_step, has_room, if_paid, if_room, first_line, with_frames, wrapped_import, wrapper_args, wrapper_call}
+use Rattle.lx_images.specs.Wrappers.{called_lines}
 use Rattle.lx_image_steps.specs.Marks.{plain_step}
 use Rattle.lx_image_steps.specs.Standing.{head_of}
 use Rattle.lx_frames.specs.declared.frame.Frame.{Frame as KeptFrame}
@@ -23,6 +26,15 @@ room_apart : (b : Bool) (v : ImageThread) (gs : List ImageFrame) (s : ImageStep)
 room_apart true v gs s = refl
 room_apart false v gs s = refl
 
+first_apart : (v : ImageThread) (gs : List ImageFrame) (n : ℕ) (args : List Word) (fs : List ImageFrame) (lines : List Op) → first_line (with_frames gs v) n args fs lines ≡ first_line v n args fs lines
+first_apart v gs n args fs [] = refl
+first_apart v gs n args fs (op.Enter s ∷ lines) = refl
+first_apart v gs n args fs (o ∷ lines) = refl
+
+call_apart : (v : ImageThread) (gs : List ImageFrame) (a : Activation) (fs : List ImageFrame) (n : ℕ) (args : List Word) (lines : List Op) → wrapper_call (with_frames gs v) a fs n args lines ≡ wrapper_call v a fs n args lines
+call_apart v gs a fs n args lines =
+    room_apart (has_room (Runs a ∷ fs)) v gs _ ∙ ap (if_room (has_room (Runs a ∷ fs)) v) (first_apart v gs n args (Runs a ∷ fs) lines)
+
 effect_apart : (c : Code) (v : ImageThread) (gs : List ImageFrame) (m : Marks) (a : Activation) (fs : List ImageFrame) (e : Effect) → effect_step c (with_frames gs v) m a fs e ≡ effect_step c v m a fs e
 effect_apart c v gs m a fs (Moves b) = refl
 effect_apart c v gs m a fs (Wants w) = refl
@@ -31,7 +43,7 @@ effect_apart c v gs m a fs (Calls n args) = room_apart (has_room (Runs a ∷ fs)
 effect_apart c v gs m a fs (Traps trap) = refl
 
 costly_apart : (c : Code) (v : ImageThread) (gs : List ImageFrame) (m : Marks) (a : Activation) (fs : List ImageFrame) (o : Op) (w : Option ℕ) → costly_step c m a fs o w (with_frames gs v) ≡ costly_step c m a fs o w v
-costly_apart c v gs m a fs o (Some n) = room_apart (has_room (Runs a ∷ fs)) v gs _
+costly_apart c v gs m a fs o (Some n) = call_apart v gs a fs n (wrapper_args c a o) (called_lines c (text_of c.program a) o)
 costly_apart c v gs m a fs o None = effect_apart c v gs m a fs (effect c.program a o)
 
 paid_apart : (v : ImageThread) (fuel : ℕ) (gs : List ImageFrame) (go : ImageThread → ImageStep) → ((n : ℕ) → go (with_frames gs (record v { fuel = n })) ≡ go (record v { fuel = n })) →
@@ -47,12 +59,12 @@ plain_apart c v gs fs m a (Some o) =
 
 abbrev pub IsFunction : ImageFrame → Type 0
 IsFunction (Runs a) = Unit {0}
-IsFunction (Wraps n args place) = ⊥
+IsFunction (Wraps n args lines x) = ⊥
 
 frames_apart : (c : Code) (m : Marks) (v : ImageThread) (gs : List ImageFrame) (g : ImageFrame) (fs : List ImageFrame) → IsFunction g →
     marked_frame_step c (Some m) (with_frames gs v) (g ∷ fs) ≡ marked_frame_step c (Some m) v (g ∷ fs)
 frames_apart c m v gs (Runs a) fs h = plain_apart c v gs fs m a (head_of a.code)
-frames_apart c m v gs (Wraps n args place) fs h = absurd h
+frames_apart c m v gs (Wraps n args lines x) fs h = absurd h
 
 same_behind : (c : Code) (v : ImageThread) (f g : ImageFrame) (fs : List ImageFrame) (s : ImageStep) → asking_behind c (with_frames (g ∷ fs) v) s ≡ asking_behind c (with_frames (f ∷ fs) v) s
 same_behind c v f g fs (Goes w) = refl
@@ -78,7 +90,7 @@ marks_taken c m v f g fs due function step =
 
 function_of : (c : Code) (g : KeptFrame) → IsSome (runs g) → IsFunction (frame_of c g)
 function_of c (kept.Runs run) h = tt
-function_of c (kept.Wraps n args place) h = absurd (cc)
+function_of c (kept.Wraps n args wrapper at x) h = absurd (cc)
 
 -- what a frame tells of the marks that are taken from it
 abbrev pub TakesMarks : Code → KeptFrame → KeptFrame → Option Marks → Type 0

@@ -4,6 +4,8 @@ use Rattle.std.specs.Prelude.{slice_get}
 use Rattle.lx_words.specs.Word.{Word}
 use Rattle.lx_caps.specs.declared.Principal.{Principal}
 use Rattle.lx_caps.specs.declared.Principal.TheVariants.{Kernel}
+use Rattle.lx_ir.specs.declared.instr.Op.{Op}
+use Rattle.lx_ir.specs.declared.instr.Op.TheVariants as op
 use Rattle.lx_model.specs.declared.program.ScriptCall.{ScriptCall}
 use Rattle.lx_model.specs.declared.request.Outcome.{Outcome}
 use Rattle.lx_model.specs.declared.request.Outcome.TheVariants.{Budget, Trapped}
@@ -16,19 +18,19 @@ use Rattle.lx_model.specs.declared.request.What.TheVariants as what
 use Rattle.lx_model.specs.Thread.{Ending, activation_behind, has_call}
 use Rattle.lx_model.specs.Effect.{Traps, arrival}
 use Rattle.lx_model.specs.Next.{request, has_action}
-use Rattle.lx_images.specs.Image.{Code, ImageFrame, Runs, Wraps, AtEnter, ImageThread, ImageStep, Goes, Asks, Marks, after_leaving, comes_to, effect_step, frame_step, has_room, if_paid, if_room, post_line, start_step, tail, with_frames, with_shadow}
+use Rattle.lx_images.specs.Image.{Code, ImageFrame, Runs, Wraps, ImageThread, ImageStep, Goes, Asks, Marks, comes_to, effect_step, first_line, frame_step, has_room, if_paid, if_room, start_step, top as top_of, with_frames}
+use Rattle.lx_image_code.specs.Wrappers.{first_op, line_of}
 use Rattle.lx_image_steps.specs.Standing.{run_of}
 use Rattle.lx_image_steps.specs.declared.activation.Activation.{Activation as Running}
 use Rattle.lx_image_steps.specs.declared.effect.Effect.TheVariants as found
-use Rattle.lx_frames.specs.declared.frame.Place.TheVariants as kept_place
 use Rattle.lx_frames.specs.declared.frame.Frame.{Frame as KeptFrame}
 use Rattle.lx_frames.specs.declared.frame.Frame.TheVariants as kept
 use Rattle.lx_frames.specs.declared.stack.FrameStack.{FrameStack}
 use Rattle.lx_interp.specs.declared.runner.Runner.{Runner}
-use Rattle.lx_frames.specs.Frames.{Stack, args_on, arrival_in, changed, frame_of, frames_of, function_on, place_on, running_on, runs}
-use Rattle.lx_frames.specs.Stack.{CanEnter, CanGoOn, HasRoomFor, IsReadyIf, IsRoomier}
-use Rattle.lx_interp.specs.Runner.{HasStayed, HasTaken, action_of, action_on, asker_in, calls_left, effect_in, poorer, taken, thread_of, wrapper_in}
-use Rattle.lx_interp.proofs.Lines.{before_body, behind_body, paid_step, unpaid_step}
+use Rattle.lx_frames.specs.Frames.{Stack, args_on, arrival_in, changed, frame_of, frames_of, function_on, line_on, running_on, runs, value_on}
+use Rattle.lx_frames.specs.Stack.{CanGoOn, HasRoomFor, IsReadyIf, IsRoomier, args_in, lines_in}
+use Rattle.lx_interp.specs.Runner.{HasStayed, HasTaken, action_of, action_on, asked_by, asker_in, calls_left, effect_in, is_enter, poorer, taken, thread_of, wrapper_in}
+use Rattle.lx_interp.proofs.Lines.{acts, no_action, paid_step, unpaid_step}
 
 -- the same step, taken from another state of the same thread
 pub retaken : (c : Code) (old mid new : Runner) (s from : ImageStep) → mid.thread ≡ old.thread → mid.calls ≡ old.calls → mid.endings ≡ old.endings → s ≡ from → HasTaken c mid new from → HasTaken c old new s
@@ -114,7 +116,7 @@ asked_with_room c old new mid q h room e0 e1 e2 e3 e4 e5 e6 e7 =
 
 -- an action
 
-asks_action : (v : ImageThread) (n : ℕ) (args : List Word) (post : Bool) (k : ℕ) (x : Option Word) → action_on v n args post k x ≡ if_paid v (λ w. Asks w (action_of v.shadow n args post k x))
+asks_action : (v : ImageThread) (n : ℕ) (args : List Word) (post : Bool) (k : ℕ) (x : Option Word) → action_on true v n args post k x ≡ if_paid v (λ w. Asks w (action_of v.shadow n args post k x))
 asks_action v n args true k x = refl
 asks_action v n args false k x = refl
 
@@ -123,12 +125,12 @@ performs_ready c r shadow n args true k x h = h
 performs_ready c r shadow n args false k x h = h
 
 pub budget_action : (c : Code) (old new : Runner) (n : ℕ) (args : List Word) (post : Bool) (k : ℕ) (x : Option Word) → old.fuel ≡ 0 → HasTaken c old new (comes_to Budget (thread_of c old)) →
-    HasTaken c old new (action_on (thread_of c old) n args post k x)
+    HasTaken c old new (action_on true (thread_of c old) n args post k x)
 budget_action c old new n args post k x e h = taken_as c old new _ _ (asks_action (thread_of c old) n args post k x) (budget c old new (λ w. Asks w (action_of old.stack.shadow.principals n args post k x)) e h)
 
 pub performs : (c : Code) (old new : Runner) (n : ℕ) (args : List Word) (post : Bool) (k : ℕ) (x : Option Word) → 0 < old.fuel → CanGoOn c old.stack old.stack.top →
     new.thread ≡ old.thread → new.calls ≡ old.calls → new.endings ≡ old.endings → new.fuel ≡ old.fuel - 1 → new.due ≡ old.due → new.stack ≡ old.stack → new.marks ≡ None →
-    new.request ≡ Some (action_of old.stack.shadow.principals n args post k x) → HasTaken c old new (action_on (thread_of c old) n args post k x)
+    new.request ≡ Some (action_of old.stack.shadow.principals n args post k x) → HasTaken c old new (action_on true (thread_of c old) n args post k x)
 performs c old new n args post k x fuel ready e0 e1 e2 e3 e4 e5 e6 e7 =
     let q = action_of old.stack.shadow.principals n args post k x in
     taken_as c old new _ _ (asks_action (thread_of c old) n args post k x)
@@ -140,30 +142,30 @@ performs c old new n args post k x fuel ready e0 e1 e2 e3 e4 e5 e6 e7 =
 pub gives : (c : Code) (m : Marks) (v : ImageThread) (f g : KeptFrame) (fs : List ImageFrame) (w : Word) → IsSome (runs f) → frame_of c g ≡ changed (activation_behind (Some w)) (frame_of c f) →
     effect_in c m v (frame_of c f ∷ fs) (found.Gives w) ≡ Goes (with_frames (frame_of c g ∷ fs) v)
 gives c m v (kept.Runs run) g fs w h e = ap (λ x. Goes (with_frames (x ∷ fs) v)) (sym e)
-gives c m v (kept.Wraps n args place) g fs w h e = absurd (cc)
+gives c m v (kept.Wraps n args wrapper at x) g fs w h e = absurd (cc)
 
 lost_in : (f : ImageFrame) → arrival_in false f ≡ Traps Unreachable
 lost_in (Runs a) = refl
-lost_in (Wraps n args place) = refl
+lost_in (Wraps n args lines x) = refl
 
 pub jumps_nowhere : (c : Code) (m : Marks) (v : ImageThread) (f g : KeptFrame) (fs : List ImageFrame) (k : ℕ) → IsSome (runs f) →
     ((run : Running) → runs f ≡ Some run → arrival c.program (run_of c run) (slice_get (run_of c run).blocks k) ≡ arrival_in false (frame_of c g)) →
     effect_in c m v (frame_of c f ∷ fs) (found.Jumps k) ≡ comes_to (Trapped Unreachable) v
 jumps_nowhere c m v (kept.Runs run) g fs k h e = ap (effect_step c v m (run_of c run) fs) (e run refl ∙ lost_in (frame_of c g))
-jumps_nowhere c m v (kept.Wraps n args place) g fs k h e = absurd (cc)
+jumps_nowhere c m v (kept.Wraps n args wrapper at x) g fs k h e = absurd (cc)
 
 pub traps_on : (c : Code) (m : Marks) (v : ImageThread) (top : Option KeptFrame) (below : Stack) (trap : Trap) → IsSome (running_on top) →
     effect_in c m v (frames_of c top below) (found.Traps trap) ≡ comes_to (Trapped trap) v
 traps_on c m v None below trap h = absurd (cc)
 traps_on c m v (Some (kept.Runs run)) below trap h = refl
-traps_on c m v (Some (kept.Wraps n args place)) below trap h = absurd (cc)
+traps_on c m v (Some (kept.Wraps n args wrapper at x)) below trap h = absurd (cc)
 
 pub wants_asks : (c : Code) (m : Marks) (v : ImageThread) (top : Option KeptFrame) (below : Stack) (w : What) → IsSome (running_on top) → v.frames ≡ frames_of c top below →
     effect_in c m v (frames_of c top below) (found.Wants w) ≡ Asks v (request (asker_in c m v.shadow (frames_of c top below) w) w)
 wants_asks c m v None below w h e = absurd (cc)
 wants_asks c m v (Some (kept.Runs run)) below w h e =
     ap (λ fs. Asks (with_frames fs v) (request (asker_in c m v.shadow (frames_of c (Some (kept.Runs run)) below) w) w)) (sym e)
-wants_asks c m v (Some (kept.Wraps n args place)) below w h e = absurd (cc)
+wants_asks c m v (Some (kept.Wraps n args wrapper at x)) below w h e = absurd (cc)
 
 if_full : (b : Bool) (v : ImageThread) (s : ImageStep) → b ≡ false → if_room b v s ≡ comes_to (Trapped TooDeep) v
 if_full true v s e = absurd (cc)
@@ -177,69 +179,53 @@ pub entry_full : (c : Code) (m : Marks) (v : ImageThread) (top : Option KeptFram
     effect_in c m v (frames_of c top below) (found.Enters w) ≡ comes_to (Trapped TooDeep) v
 entry_full c m v None below w h e = absurd (cc)
 entry_full c m v (Some (kept.Runs run)) below w h e = if_full (has_room (frames_of c (Some (kept.Runs run)) below)) v _ (sym e)
-entry_full c m v (Some (kept.Wraps n args place)) below w h e = absurd (cc)
+entry_full c m v (Some (kept.Wraps n args wrapper at x)) below w h e = absurd (cc)
 
 pub entry_free : (c : Code) (m : Marks) (v : ImageThread) (top : Option KeptFrame) (below : Stack) (w : What) → IsSome (running_on top) → true ≡ has_room (frames_of c top below) →
     effect_in c m v (frames_of c top below) (found.Enters w) ≡ effect_in c m v (frames_of c top below) (found.Wants w)
 entry_free c m v None below w h e = absurd (cc)
 entry_free c m v (Some (kept.Runs run)) below w h e = if_free (has_room (frames_of c (Some (kept.Runs run)) below)) v _ (sym e)
-entry_free c m v (Some (kept.Wraps n args place)) below w h e = absurd (cc)
+entry_free c m v (Some (kept.Wraps n args wrapper at x)) below w h e = absurd (cc)
 
 pub call_full : (c : Code) (m : Marks) (v : ImageThread) (top : Option KeptFrame) (below : Stack) (n : ℕ) (args : List Word) → IsSome (running_on top) → false ≡ has_room (frames_of c top below) →
     effect_in c m v (frames_of c top below) (found.Calls n args) ≡ comes_to (Trapped TooDeep) v
 call_full c m v None below n args h e = absurd (cc)
 call_full c m v (Some (kept.Runs run)) below n args h e = if_full (has_room (frames_of c (Some (kept.Runs run)) below)) v _ (sym e)
-call_full c m v (Some (kept.Wraps k xs place)) below n args h e = absurd (cc)
+call_full c m v (Some (kept.Wraps k xs wrapper at x)) below n args h e = absurd (cc)
 
--- a wrapper behind its last action
+-- a wrapper at a line
 
-pub goes_out : (c : Code) (v : ImageThread) (top : Option KeptFrame) (fs : List ImageFrame) (k : ℕ) (x : Option Word) (b : Bool) → b ≡ has_action c.program (function_on top) true k →
-    post_line (has_action c.program (function_on top) true k) v (function_on top) (args_on top) k x fs ≡ post_line b v (function_on top) (args_on top) k x fs
-goes_out c v top fs k x b e = ap (λ y. post_line y v (function_on top) (args_on top) k x fs) (sym e)
-
-pub counted_behind : (c : Code) (r : FrameStack) (top : Option KeptFrame) (k : ℕ) (x : Option Word) → place_on top ≡ Some (kept_place.Post k x) → k < 4294967295 → CanGoOn c r top
-counted_behind c r None k x e h = tt
-counted_behind c r (Some (kept.Runs run)) k x e h = tt
-counted_behind c r (Some (kept.Wraps n args place)) k x e h =
-    let s : kept_place.Post k x ≡ place = cc in
-    subst (λ p. CanGoOn c r (Some (kept.Wraps n args p))) s h
-
-pub prepared_before : (c : Code) (r : FrameStack) (top : Option KeptFrame) (k : ℕ) → place_on top ≡ Some (kept_place.Pre k) → CanEnter c r (length (args_on top)) 1 → CanGoOn c r top
-prepared_before c r None k e h = tt
-prepared_before c r (Some (kept.Runs run)) k e h = tt
-prepared_before c r (Some (kept.Wraps n args place)) k e h =
-    let s : kept_place.Pre k ≡ place = cc in
-    subst (λ p. CanGoOn c r (Some (kept.Wraps n args p))) s h
-
-pub goes_in : (c : Code) (old mid new : Runner) (k : ℕ) → mid.thread ≡ old.thread → mid.calls ≡ old.calls → mid.endings ≡ old.endings → mid.fuel ≡ old.fuel → mid.due ≡ old.due → IsRoomier c old.stack mid.stack → mid.stack.top ≡ old.stack.top →
-    place_on old.stack.top ≡ Some (kept_place.Pre k) → HasTaken c mid new (action_on (thread_of c mid) (function_on mid.stack.top) (args_on mid.stack.top) false k None) →
+-- the action that its line asks for
+pub goes_to_action : (c : Code) (old mid new : Runner) (post : Bool) (k : ℕ) (x : Option Word) → mid.thread ≡ old.thread → mid.calls ≡ old.calls → mid.endings ≡ old.endings → mid.fuel ≡ old.fuel → mid.due ≡ old.due → IsRoomier c old.stack mid.stack → mid.stack.top ≡ old.stack.top →
+    line_on (frames_of c old.stack.top old.stack.below) ≡ Some (asked_by post k) → true ≡ has_action c.program (function_on old.stack.top) post k → x ≡ value_on mid.stack.top →
+    HasTaken c mid new (action_on true (thread_of c mid) (function_on mid.stack.top) (args_on mid.stack.top) post k x) →
     HasTaken c old new (frame_step c (thread_of c old) (frames_of c old.stack.top old.stack.below))
-goes_in c old mid new k e0 e1 e2 e3 e4 a top place h =
+goes_to_action c old mid new post k x e0 e1 e2 e3 e4 a top line has value h =
     retaken c old mid new _ _ e0 e1 e2
-    (before_body c (thread_of c old) old.stack.top old.stack.below k place
-    ∙ ap (λ v. action_on v (function_on old.stack.top) (args_on old.stack.top) false k None) (sym (same_state c old mid e1 e2 e3 e4 a))
-    ∙ ap (λ (o : Option KeptFrame). action_on (thread_of c mid) (function_on o) (args_on o) false k None) (sym top)) h
+    (acts c (thread_of c old) old.stack.top old.stack.below post k line
+    ∙ ap (λ b. action_on b (thread_of c old) (function_on old.stack.top) (args_on old.stack.top) post k (value_on old.stack.top)) (sym has)
+    ∙ ap (λ v. action_on true v (function_on old.stack.top) (args_on old.stack.top) post k (value_on old.stack.top)) (sym (same_state c old mid e1 e2 e3 e4 a))
+    ∙ ap (λ (o : Option KeptFrame). action_on true (thread_of c mid) (function_on o) (args_on o) post k (value_on o)) (sym top)
+    ∙ ap (action_on true (thread_of c mid) (function_on mid.stack.top) (args_on mid.stack.top) post k) (sym value)) h
 
-pub goes_to_action : (c : Code) (old new : Runner) (k : ℕ) (x : Option Word) → place_on old.stack.top ≡ Some (kept_place.Post k x) → true ≡ has_action c.program (function_on old.stack.top) true k →
-    HasTaken c old new (action_on (thread_of c old) (function_on old.stack.top) (args_on old.stack.top) true k x) → HasTaken c old new (frame_step c (thread_of c old) (frames_of c old.stack.top old.stack.below))
-goes_to_action c old new k x place has h =
-    taken_as c old new _ _ (behind_body c (thread_of c old) old.stack.top old.stack.below k x place ∙ goes_out c (thread_of c old) old.stack.top (map (frame_of c) old.stack.below.frames) k x true has) h
+-- the function has no such action
+pub lacks_action : (c : Code) (old new : Runner) (post : Bool) (k : ℕ) → line_on (frames_of c old.stack.top old.stack.below) ≡ Some (asked_by post k) → false ≡ has_action c.program (function_on old.stack.top) post k →
+    HasTaken c old new (comes_to (Trapped Unreachable) (thread_of c old)) → HasTaken c old new (frame_step c (thread_of c old) (frames_of c old.stack.top old.stack.below))
+lacks_action c old new post k line has h =
+    taken_as c old new _ _
+    (acts c (thread_of c old) old.stack.top old.stack.below post k line
+    ∙ ap (λ b. action_on b (thread_of c old) (function_on old.stack.top) (args_on old.stack.top) post k (value_on old.stack.top)) (sym has)
+    ∙ no_action (thread_of c old) (function_on old.stack.top) (args_on old.stack.top) post k (value_on old.stack.top)) h
 
-pub leaves : (c : Code) (old new : Runner) (k : ℕ) (x : Option Word) → place_on old.stack.top ≡ Some (kept_place.Post k x) → false ≡ has_action c.program (function_on old.stack.top) true k →
-    new.thread ≡ old.thread → new.calls ≡ old.calls → new.endings ≡ old.endings → new.marks ≡ None → new.request ≡ None →
-    thread_of c new ≡ after_leaving x (map (frame_of c) old.stack.below.frames) (with_shadow (tail old.stack.shadow.principals) (thread_of c old)) →
-    HasTaken c old new (frame_step c (thread_of c old) (frames_of c old.stack.top old.stack.below))
-leaves c old new k x place has e0 e1 e2 e3 e4 state =
+-- a step that goes on to this thread
+pub goes_to : (c : Code) (old new : Runner) (s : ImageStep) (v : ImageThread) → s ≡ Goes v → new.thread ≡ old.thread → new.calls ≡ old.calls → new.endings ≡ old.endings → new.marks ≡ None → new.request ≡ None → thread_of c new ≡ v → HasTaken c old new s
+goes_to c old new s v step e0 e1 e2 e3 e4 state =
     record {
       number = e0;
       calls = e1;
       ended = e2;
       marks = e3;
-      is =
-          behind_body c (thread_of c old) old.stack.top old.stack.below k x place
-          ∙ goes_out c (thread_of c old) old.stack.top (map (frame_of c) old.stack.below.frames) k x false has
-          ∙ ap Goes (sym state)
-          ∙ ap (taken (thread_of c new)) (sym e4);
+      is = step ∙ ap Goes (sym state) ∙ ap (taken (thread_of c new)) (sym e4);
       ready = subst (IsReadyIf c new.stack) (sym e4) tt;
     }
 
@@ -257,22 +243,72 @@ pub wrapper_full : (c : Code) (v : ImageThread) (top : Option KeptFrame) (below 
     wrapper_in c v (frames_of c top below) n ≡ comes_to (Trapped TooDeep) v
 wrapper_full c v None below n h e = absurd (cc)
 wrapper_full c v (Some (kept.Runs run)) below n h e = if_full (has_room (frames_of c (Some (kept.Runs run)) below)) v _ (sym e)
-wrapper_full c v (Some (kept.Wraps k xs place)) below n h e = absurd (cc)
+wrapper_full c v (Some (kept.Wraps k xs wrapper at x)) below n h e = absurd (cc)
 
-pub asks_enter : (c : Code) (old new : Runner) (who : Principal) (n : ℕ) (args copy : List Word) → copy ≡ args →
+-- a wrapper that begins with its enter asks for that, and one that begins with another line cannot run
+
+first_asks : (v : ImageThread) (n : ℕ) (args : List Word) (fs : List ImageFrame) (lines : List Op) → is_enter (line_of (first_op lines)) ≡ true →
+    first_line v n args fs lines ≡ Asks (with_frames (Wraps n args lines None ∷ fs) v) (request (top_of v.shadow) (what.Enter (Direct n) args))
+first_asks v n args fs [] e = absurd (cc)
+first_asks v n args fs (op.Enter s ∷ lines) e = refl
+first_asks v n args fs (o ∷ lines) e = absurd (cc)
+
+first_lost : (v : ImageThread) (n : ℕ) (args : List Word) (fs : List ImageFrame) (lines : List Op) → is_enter (line_of (first_op lines)) ≡ false → first_line v n args fs lines ≡ comes_to (Trapped Unreachable) v
+first_lost v n args fs [] e = refl
+first_lost v n args fs (op.Enter s ∷ lines) e = absurd (cc)
+first_lost v n args fs (o ∷ lines) e = refl
+
+pub wrapper_asks : (c : Code) (v : ImageThread) (top : Option KeptFrame) (below : Stack) (n : ℕ) (lines : List Op) → IsSome (running_on top) → true ≡ has_room (frames_of c top below) →
+    lines ≡ lines_in c (frames_of c top below) → is_enter (line_of (first_op lines)) ≡ true →
+    wrapper_in c v (frames_of c top below) n ≡
+    Asks (with_frames (Wraps n (args_in c (frames_of c top below)) lines None ∷ frames_of c top below) v) (request (top_of v.shadow) (what.Enter (Direct n) (args_in c (frames_of c top below))))
+wrapper_asks c v None below n lines h room same e = absurd (cc)
+wrapper_asks c v (Some (kept.Runs run)) below n lines h room same e =
+    if_free (has_room (frames_of c (Some (kept.Runs run)) below)) v _ (sym room)
+    ∙ ap (first_line v n (args_in c (frames_of c (Some (kept.Runs run)) below)) (frames_of c (Some (kept.Runs run)) below)) (sym same)
+    ∙ first_asks v n (args_in c (frames_of c (Some (kept.Runs run)) below)) (frames_of c (Some (kept.Runs run)) below) lines e
+wrapper_asks c v (Some (kept.Wraps k xs wrapper at x)) below n lines h room same e = absurd (cc)
+
+pub wrapper_lost : (c : Code) (v : ImageThread) (top : Option KeptFrame) (below : Stack) (n : ℕ) (lines : List Op) → IsSome (running_on top) → true ≡ has_room (frames_of c top below) →
+    lines ≡ lines_in c (frames_of c top below) → is_enter (line_of (first_op lines)) ≡ false → wrapper_in c v (frames_of c top below) n ≡ comes_to (Trapped Unreachable) v
+wrapper_lost c v None below n lines h room same e = absurd (cc)
+wrapper_lost c v (Some (kept.Runs run)) below n lines h room same e =
+    if_free (has_room (frames_of c (Some (kept.Runs run)) below)) v _ (sym room)
+    ∙ ap (first_line v n (args_in c (frames_of c (Some (kept.Runs run)) below)) (frames_of c (Some (kept.Runs run)) below)) (sym same)
+    ∙ first_lost v n (args_in c (frames_of c (Some (kept.Runs run)) below)) (frames_of c (Some (kept.Runs run)) below) lines e
+wrapper_lost c v (Some (kept.Wraps k xs wrapper at x)) below n lines h room same e = absurd (cc)
+
+pub asks_enter : (c : Code) (old new : Runner) (who : Principal) (n : ℕ) (args copy : List Word) (lines : List Op) → copy ≡ args → who ≡ top_of old.stack.shadow.principals →
     new.thread ≡ old.thread → new.calls ≡ old.calls → new.endings ≡ old.endings → new.fuel ≡ old.fuel - 1 → new.due ≡ old.due → new.marks ≡ None → new.request ≡ Some (request who (what.Enter (Direct n) args)) →
-    frames_of c new.stack.top new.stack.below ≡ Wraps n copy AtEnter ∷ frames_of c old.stack.top old.stack.below → new.stack.shadow ≡ old.stack.shadow → HasRoomFor c new.stack (what.Enter (Direct n) copy) →
-    HasTaken c old new (Asks (with_frames (Wraps n args AtEnter ∷ frames_of c old.stack.top old.stack.below) (poorer (thread_of c old))) (request who (what.Enter (Direct n) args)))
-asks_enter c old new who n args copy same e0 e1 e2 e3 e4 e5 e6 frames shadow ready =
-    let q = request who (what.Enter (Direct n) args) in
-    let state : thread_of c new ≡ with_frames (Wraps n args AtEnter ∷ frames_of c old.stack.top old.stack.below) (poorer (thread_of c old)) =
+    frames_of c new.stack.top new.stack.below ≡ Wraps n copy lines None ∷ frames_of c old.stack.top old.stack.below → new.stack.shadow ≡ old.stack.shadow → HasRoomFor c new.stack (what.Enter (Direct n) copy) →
+    HasTaken c old new (Asks (with_frames (Wraps n args lines None ∷ frames_of c old.stack.top old.stack.below) (poorer (thread_of c old))) (request (top_of old.stack.shadow.principals) (what.Enter (Direct n) args)))
+asks_enter c old new who n args copy lines same asker e0 e1 e2 e3 e4 e5 e6 frames shadow ready =
+    let q = request (top_of old.stack.shadow.principals) (what.Enter (Direct n) args) in
+    let asked : new.request ≡ Some q = e6 ∙ ap (λ w. Some (request w (what.Enter (Direct n) args))) asker in
+    let state : thread_of c new ≡ with_frames (Wraps n args lines None ∷ frames_of c old.stack.top old.stack.below) (poorer (thread_of c old)) =
     thread_is c new _ _ _ _ _ _ (left_same old new e1 e2) (ap (λ v. v.items) e2) e3 e4
-    (frames ∙ ap (λ (xs : List Word). Wraps n xs AtEnter ∷ frames_of c old.stack.top old.stack.below) same) (ap (λ s. s.principals) shadow) in
+    (frames ∙ ap (λ (xs : List Word). Wraps n xs lines None ∷ frames_of c old.stack.top old.stack.below) same) (ap (λ s. s.principals) shadow) in
     record {
       number = e0;
       calls = e1;
       ended = e2;
       marks = e5;
-      is = ap (λ v. taken v (Some q)) (sym state) ∙ ap (taken (thread_of c new)) (sym e6);
-      ready = subst (IsReadyIf c new.stack) (sym e6) (subst (λ (xs : List Word). HasRoomFor c new.stack (what.Enter (Direct n) xs)) same ready);
+      is = ap (λ v. taken v (Some q)) (sym state) ∙ ap (taken (thread_of c new)) (sym asked);
+      ready = subst (IsReadyIf c new.stack) (sym asked) (subst (λ (xs : List Word). HasRoomFor c new.stack (what.Enter (Direct n) xs)) same ready);
     }
+
+-- a wrapper asks for its enter
+abbrev pub calling : ℕ → List Op → ImageThread → List Word → ImageStep
+calling n lines v xs = Asks (with_frames (Wraps n xs lines None ∷ v.frames) (poorer v)) (request (top_of v.shadow) (what.Enter (Direct n) xs))
+
+-- from a state with more room
+pub calls_entering : (c : Code) (old mid new : Runner) (n : ℕ) (args : List Word) (lines : List Op) → mid.thread ≡ old.thread → mid.calls ≡ old.calls → mid.endings ≡ old.endings → mid.fuel ≡ old.fuel → mid.due ≡ old.due → IsRoomier c old.stack mid.stack →
+    args ≡ args_in c (frames_of c old.stack.top old.stack.below) →
+    HasTaken c mid new (Asks (with_frames (Wraps n args lines None ∷ frames_of c mid.stack.top mid.stack.below) (poorer (thread_of c mid))) (request (top_of mid.stack.shadow.principals) (what.Enter (Direct n) args))) →
+    HasTaken c old new
+    (Asks (with_frames (Wraps n (args_in c (frames_of c old.stack.top old.stack.below)) lines None ∷ frames_of c old.stack.top old.stack.below) (poorer (thread_of c old)))
+    (request (top_of old.stack.shadow.principals) (what.Enter (Direct n) (args_in c (frames_of c old.stack.top old.stack.below)))))
+calls_entering c old mid new n args lines e0 e1 e2 e3 e4 a same h =
+    retaken c old mid new _ _ e0 e1 e2
+    (ap (λ (v : ImageThread). calling n lines v (args_in c (frames_of c old.stack.top old.stack.below))) (sym (same_state c old mid e1 e2 e3 e4 a))
+    ∙ ap (calling n lines (thread_of c mid)) (sym same)) h

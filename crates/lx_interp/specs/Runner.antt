@@ -18,9 +18,11 @@ use Rattle.lx_model.specs.Thread.{Activation, has_call}
 use Rattle.lx_model.specs.Effect.{text_of}
 use Rattle.lx_model.specs.Next.{request}
 use Rattle.lx_ir.specs.declared.instr.Op.{Op}
-use Rattle.lx_images.specs.Image.{Code, ImageFrame, Runs, ImageThread, ImageStep, Goes, Asks, ImageAsking, Marks, no_marks, top as top_of, below_top, asker, comes_to, effect_step, costly_step, wrapped_import, wrapper_call, perform, behind_enter, due_or, image_next, image_next_within}
+use Rattle.lx_images.specs.Image.{Code, ImageFrame, Runs, ImageThread, ImageStep, Goes, Asks, ImageAsking, Marks, no_marks, top as top_of, below_top, asker, comes_to, effect_step, costly_step, wrapped_import, wrapper_call, action_line, behind_line, due_or, image_next, image_next_within}
+use Rattle.lx_image_code.specs.declared.line.Line.{Line}
+use Rattle.lx_image_code.specs.declared.line.Line.TheVariants as line
 use Rattle.lx_image_steps.specs.Standing.{head_of}
-use Rattle.lx_image_steps.specs.Marks.{next_args}
+use Rattle.lx_image_steps.specs.Marks.{next_args, next_lines}
 use Rattle.lx_image_steps.specs.Effects.{effect_of}
 use Rattle.lx_image_steps.specs.declared.effect.Effect.{Effect as Found}
 use Rattle.lx_interp.specs.declared.runner.Runner.{Runner}
@@ -196,7 +198,7 @@ instruction_on c m v = instruction_in c m v v.frames
 
 -- by the call of a wrapper
 abbrev pub wrapper_in : Code → ImageThread → List ImageFrame → ℕ → ImageStep
-wrapper_in c v (Runs a ∷ fs) n = wrapper_call v a fs n (next_args c a a.code)
+wrapper_in c v (Runs a ∷ fs) n = wrapper_call v a fs n (next_args c a a.code) (next_lines c a a.code)
 wrapper_in c v fs n = comes_to (Trapped Unreachable) v
 
 -- the same of a thread's own frames
@@ -213,10 +215,25 @@ abbrev pub asker_in : Code → Marks → List Principal → List ImageFrame → 
 asker_in c m shadow (Runs a ∷ fs) w = asker (text_of c.program a) m shadow w
 asker_in c m shadow fs w = Kernel
 
--- what a wrapper on top comes to by the action with this number, before its body or behind it
-abbrev pub action_on : ImageThread → ℕ → List Word → Bool → ℕ → Option Word → ImageStep
-action_on v n args true k x = perform v n true k args x (top_of v.shadow) (below_top v.shadow)
-action_on v n args false k x = perform v n false k args None (below_top v.shadow) (top_of v.shadow)
+-- the line that asks for the action with this number, before the body or behind it
+abbrev pub asked_by : Bool → ℕ → Line
+asked_by true k = line.Post k
+asked_by false k = line.Pre k
+
+-- what a wrapper on top comes to by that line, where the function has such an action or not
+abbrev pub action_on : Bool → ImageThread → ℕ → List Word → Bool → ℕ → Option Word → ImageStep
+action_on has v n args true k x = action_line has v n true k args x (top_of v.shadow) (below_top v.shadow)
+action_on has v n args false k x = action_line has v n false k args None (below_top v.shadow) (top_of v.shadow)
+
+-- a line is the enter
+abbrev pub is_enter : Line → Bool
+is_enter line.Enter = true
+is_enter l = false
+
+-- there is a line, and it is the `ret`
+abbrev pub is_ret : Option Line → Bool
+is_ret (Some line.Ret) = true
+is_ret l = false
 
 -- the request for it
 abbrev pub action_of : List Principal → ℕ → List Word → Bool → ℕ → Option Word → Request
@@ -227,7 +244,7 @@ action_of shadow n args false k x = request (below_top shadow) (what.Perform n f
 
 -- the wrapper of an import behind its enter
 abbrev pub behind_direct : Code → ℕ → Principal → ImageThread → ImageThread
-behind_direct c t q v = record v { shadow = q ∷ v.shadow; frames = behind_enter c t v.frames }
+behind_direct c t q v = record v { shadow = q ∷ v.shadow; frames = behind_line c t v.frames }
 
 -- a way of wrappers
 abbrev pub is_direct : Way → Bool

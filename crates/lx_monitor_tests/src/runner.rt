@@ -11,6 +11,7 @@ use lx_model::program::Program;
 use lx_model::request::{Outcome, Reply, Trap, What};
 use lx_words::{Items, Memory, Names};
 use std::alloc::Global;
+use std::test::Fail;
 
 fn line(op: Op) -> Instr
     ensures { result.op ≡ op }
@@ -83,7 +84,7 @@ fn program_of(alloc: Global, function: Function) -> Result<Program, Memory>
     Ok(program)
 }
 
-fn code_of(alloc: Global) -> Result<Code, Memory> {
+fn code_of(alloc: Global) -> Result<Code, Fail> {
     let function = deep(alloc)?;
     let program = program_of(alloc, function)?;
     let program = owned(alloc, program)?;
@@ -142,7 +143,7 @@ fn endings(code: &Code, alloc: Global) -> Result<(bool, bool), Memory> {
 }
 
 #[test]
-fn a_frame_too_many_traps(rt: HostRuntime) -> Result<(), Memory> {
+fn a_frame_too_many_traps(rt: HostRuntime) -> Result<(), Fail> {
     let alloc = rt.alloc();
     let code = code_of(alloc)?;
     let ended = endings(&code, alloc);

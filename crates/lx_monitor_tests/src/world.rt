@@ -10,6 +10,7 @@ ghost use Rattle.lx_serve.specs.Stands.{StandsForState};
 use crate::common::{call_with, function_with, one_function, owned, part_of};
 use lx_caps::{Cap, CapStore, PlainCaps, Principal};
 use lx_core::{EventFault, World};
+use lx_image_code::CodeFault;
 use lx_interp::Code;
 use lx_model::account::{Account, CallOutcome, ImageCount, Owned};
 use lx_model::program::{Calls, Program};
@@ -71,7 +72,7 @@ fn script(alloc: Global) -> Result<Vec<Calls>, Memory>
 
 /// Its code.
 #[tactic(auto, using(crate::proofs::Programs::silent_within_reach, crate::proofs::Programs::silent_counts, crate::proofs::Programs::no_images))]
-fn code(alloc: Global, program: Arc<Program>) -> Result<Code, Memory>
+fn code(alloc: Global, program: Arc<Program>) -> Result<Code, CodeFault>
     requires { arc_value program ≡ one_silent }
     ensures { IfOk result (λ code. code ≡ silent_code) }
 {

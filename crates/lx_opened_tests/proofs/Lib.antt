@@ -1,4 +1,4 @@
 pub mod Accepting
 pub mod Coded
-pub mod Untyped
+pub mod Typed
 pub mod Worlds

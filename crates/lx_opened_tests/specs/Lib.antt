@@ -1,3 +1,3 @@
 pub mod Coded
 pub mod Opened
-pub mod Untyped
+pub mod Typed

@@ -9,18 +9,19 @@ ghost use Rattle.lx_ir.specs.Verified.{IsVerified};
 ghost use Rattle.lx_link_texts.specs.WellFormed.{IsWellFormed};
 ghost use Rattle.lx_model.specs.Account.{image_count};
 ghost use Rattle.lx_opened_tests.specs.Coded.{IsCoded};
-ghost use Rattle.lx_opened_tests.specs.Untyped.{AreUntyped};
+ghost use Rattle.lx_opened_tests.specs.Typed.{HasTypesOf};
 ghost use Rattle.lx_slot_types.specs.Gets.{below};
 
 use crate::images::image_of_text;
 use lx_annotation_tables::{action_counts, image_counts, reach_laws, sources_of};
 use lx_code::ActionCounts;
-use lx_image_code::Code;
+use lx_image_code::{Code, CodeFault};
 use lx_input::Input;
 use lx_ir::module::Module;
 use lx_ir_verify::Verified;
 use lx_model::account::ImageCount;
 use lx_model::program::{Calls, Program};
+use lx_same_texts::has_same_types;
 use lx_slot_types::Annotated;
 use lx_words::{Items, Memory};
 use std::alloc::Global;
@@ -89,16 +90,16 @@ fn see_verified(image: &Verified)
     let _module = image.module();
 }
 
-/// The code of a program over an image, where neither the image nor the program's first module names types.
-#[tactic(auto, using(crate::proofs::Untyped::within_reach))]
+/// The code of a program over an image that has the types of the program's first module.
+#[tactic(auto, using(crate::proofs::Typed::within_reach))]
 fn code_over(
     alloc: Global,
     program: Arc<Program>,
     image: Verified,
     actions: Vec<ActionCounts>,
-) -> Result<Code, Memory>
+) -> Result<Code, CodeFault>
     requires well_formed { IsWellFormed (arc_value program) }
-    requires untyped { AreUntyped (arc_value program) image }
+    requires typed { HasTypesOf (arc_value program) image }
     requires counted { CountsActions (arc_value program) actions.items }
     ensures { IfOk result (λ code. code ≡ code_of (arc_value program) (image ∷ [])) }
 {
@@ -106,10 +107,10 @@ fn code_over(
     see_verified(&image);
     match alone(alloc, image) {
         Ok(images) => Code::new(alloc, program, images, actions),
-        Err(why) => {
+        Err(_) => {
             drop(program);
             drop(actions);
-            Err(why)
+            Err(CodeFault::Memory)
         }
     }
 }
@@ -120,9 +121,9 @@ fn owned_code(
     program: Program,
     image: Verified,
     actions: Vec<ActionCounts>,
-) -> Result<(Code, Arc<Program>), Memory>
+) -> Result<(Code, Arc<Program>), CodeFault>
     requires well_formed { IsWellFormed program }
-    requires untyped { AreUntyped program image }
+    requires typed { HasTypesOf program image }
     requires counted { CountsActions program actions.items }
     ensures code { IfOk result (λ parts. parts.0 ≡ code_of program (image ∷ [])) }
     ensures same { IfOk result (λ parts. arc_value parts.1 ≡ program) }
@@ -135,19 +136,19 @@ fn owned_code(
                 Err(why)
             }
         },
-        Err(why) => {
+        Err(_) => {
             drop(image);
             drop(actions);
-            Err(why)
+            Err(CodeFault::Memory)
         }
     }
 }
 
-/// An input with the code of its program over an image, where neither the image nor the program's first module names types.
+/// An input with the code of its program over an image that has the types of the program's first module.
 #[tactic(auto, using(crate::proofs::Coded::coded))]
-fn code_of_input(alloc: Global, input: Input, image: Verified) -> Result<Coded, Memory>
+fn code_of_input(alloc: Global, input: Input, image: Verified) -> Result<Coded, CodeFault>
     requires ready { IsReady input }
-    requires untyped { AreUntyped input.program image }
+    requires typed { HasTypesOf input.program image }
     ensures { IfOk result (λ c. IsCoded c.code (arc_value c.program) c.script c.annotated c.counts) }
 {
     let Input {
@@ -176,54 +177,75 @@ fn code_of_input(alloc: Global, input: Input, image: Verified) -> Result<Coded, 
                 Err(why)
             }
         },
-        Err(why) => {
+        Err(_) => {
             drop(program);
             drop(script);
             drop(annotated);
             drop(image);
-            Err(why)
+            Err(CodeFault::Memory)
         }
     }
 }
 
-/// Whether a module names no types.
-#[tactic(auto, using(crate::proofs::Untyped::none_of_none))]
-fn has_no_types(module: &Module) -> bool
-    ensures { IsTrue result → module.now.types ≡ [] }
-{
-    module.types.len() == 0
-}
-
-/// Whether neither the first module of a program nor an image names types.
-#[tactic(auto, using(crate::proofs::Untyped::are_untyped))]
-fn are_untyped(program: &Program, image: &Module) -> bool
-    ensures { IsTrue result → AreUntyped program.now image.now }
+/// Whether an image has the types of the first module of a program.
+#[tactic(auto, using(crate::proofs::Typed::has_types))]
+fn has_types_of(program: &Program, image: &Module) -> bool
+    ensures { IsTrue result → HasTypesOf program.now image.now }
 {
     match program.modules.items.get(0) {
-        Some(entry) => has_no_types(&entry.module) && has_no_types(image),
+        Some(entry) => has_same_types(image, &entry.module),
         None => false,
     }
 }
 
-/// An input with the code of its program over the image that a text says, whatever a checker says of it.
-pub fn code_of_text(alloc: Global, input: Input, text: &str) -> Result<Coded, Fail>
+/// What making the code of an input's program over the image that a text says answers, whatever a checker says of the image.
+fn made_code(alloc: Global, input: Input, text: &str) -> Result<Result<Coded, CodeFault>, Fail>
     requires { IsReady input }
-    ensures { IfOk result (λ c. IsCoded c.code (arc_value c.program) c.script c.annotated c.counts) }
+    ensures { IfOk result (λ made. IfOk made (λ c. IsCoded c.code (arc_value c.program) c.script c.annotated c.counts)) }
 {
     match image_of_text(alloc, text.as_bytes()) {
         Ok(image) => {
-            if are_untyped(&input.program, image.module()) {
-                let coded = code_of_input(alloc, input, image)?;
-                Ok(coded)
+            if has_types_of(&input.program, image.module()) {
+                Ok(code_of_input(alloc, input, image))
             } else {
                 drop(input);
                 drop(image);
-                Err(Fail::new("there are types"))
+                Err(Fail::new("the types differ"))
             }
         }
         Err(why) => {
             drop(input);
             Err(why)
         }
+    }
+}
+
+/// An input with the code of its program over the image that a text says, whatever a checker says of it. The image's wrappers have the
+/// form of one.
+pub fn code_of_text(alloc: Global, input: Input, text: &str) -> Result<Coded, Fail>
+    requires { IsReady input }
+    ensures { IfOk result (λ c. IsCoded c.code (arc_value c.program) c.script c.annotated c.counts) }
+{
+    match made_code(alloc, input, text)? {
+        Ok(coded) => Ok(coded),
+        Err(_) => Err(Fail::new("the code is not made")),
+    }
+}
+
+/// Whether no code is made over the image that a text says, since this function of it is the first that is named as a wrapper and has not
+/// the form of one.
+pub fn is_unmade(alloc: Global, input: Input, text: &str, function: u32) -> Result<bool, Fail>
+    requires { IsReady input }
+{
+    let wanted = CodeFault::Wrapper {
+        module: 0,
+        function,
+    };
+    match made_code(alloc, input, text)? {
+        Ok(coded) => {
+            drop(coded);
+            Ok(false)
+        }
+        Err(why) => Ok(why == wanted),
     }
 }

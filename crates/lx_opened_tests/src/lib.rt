@@ -1,5 +1,5 @@
 //! Tests of runners and worlds of images: for whom a runner asks over images that a checker refuses, which images a program's world is
-//! opened over, and what it does over those that it takes.
+//! opened over, what it does over those that it takes, and what the lines of wrappers do.
 #![tactic(auto)]
 
 #[cfg(test)]
@@ -8,6 +8,8 @@ mod asking;
 mod bare_code;
 #[cfg(test)]
 mod codes;
+#[cfg(test)]
+mod crossings;
 #[cfg(test)]
 mod differing;
 #[cfg(test)]
@@ -26,3 +28,5 @@ mod runs;
 mod spared;
 #[cfg(test)]
 mod texts;
+#[cfg(test)]
+mod wrapper_lines;

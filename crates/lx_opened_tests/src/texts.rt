@@ -47,18 +47,13 @@ thread
 call m:main 0x10060 fuel 100
 ";
 
-/// This kernel.
-pub fn hidden_kernel() -> &'static str {
-    "define i64 @hidden() {
-ret i64 5
-}
-"
-}
-
-/// A case of one module, with the texts of the module and of its image.
+/// A case of one module, with the texts of the kernel and the interface, empty where the case names none, of the module, and of its
+/// image.
 #[derive(Clone, Copy)]
 pub struct Sample {
     pub case: &'static str,
+    pub kernel: &'static str,
+    pub interface: &'static str,
     pub module: &'static str,
     pub image: &'static str,
 }
@@ -67,6 +62,11 @@ pub struct Sample {
 pub fn calls_given() -> Sample {
     Sample {
         case: HIDDEN_CASE,
+        kernel: "define i64 @hidden() {
+ret i64 5
+}
+",
+        interface: "",
         module: "define i64 @main(ptr %f) {
 %r = call i64 %f()
 ret i64 %r
@@ -86,6 +86,8 @@ ret i64 %r
 pub fn stores_seven() -> Sample {
     Sample {
         case: ONE_CASE,
+        kernel: "",
+        interface: "",
         module: "@g = global i32 0
 define i32 @main() {
 store i32 7, ptr @g
@@ -109,6 +111,8 @@ define i32 @main() {
 pub fn stores_past() -> Sample {
     Sample {
         case: ONE_CASE,
+        kernel: "",
+        interface: "",
         module: "@g = global [7 x i8] zeroinitializer
 define void @main() {
 store i64 7, ptr @g
@@ -130,6 +134,8 @@ define void @main() {
 pub fn has_type() -> Sample {
     Sample {
         case: ONE_CASE,
+        kernel: "",
+        interface: "",
         module: "%pair = type { i32, i32 }
 define i32 @main() {
 ret i32 0

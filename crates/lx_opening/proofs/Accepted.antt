@@ -1,4 +1,4 @@
--- The types of checked images of a program's texts are within the limits.
+-- The types of checked images of a program's texts are within the limits, and each of their wrappers has the form of one.
 use Rattle.std.proofs.Common.{◌≡◌, ℕ, ◌<◌, ◌∙◌, sym, subst, Some, List, length, arith}
 use Rattle.std.specs.Prelude.{IsTrue, slice_get}
 use Rattle.std.proofs.lemmas.List.Elements.{All-get_or}
@@ -11,6 +11,9 @@ use Rattle.lx_accepted.specs.Accepted.{AreAccepted, AreOfTexts, IsAcceptedBy, Is
 use Rattle.lx_accepted.specs.Laws.{AcceptedLaws}
 use Rattle.lx_annotation_tables.specs.Laws.{AreSized}
 use Rattle.lx_image_code.specs.Reach.{AreWithinReach, is_sized_image}
+use Rattle.lx_images.specs.WrapperForm.{have_formed_wrappers}
+use Rattle.lx_link_texts.specs.WellFormed.{IsWellFormed}
+use Rattle.lx_simulation.specs.Simulation.{SimulationLaws}
 
 -- an image with a number is accepted
 accepted_at : (p : Program) (images : List Module) (m : ℕ) (x : Module) → AreAccepted p images → slice_get images m ≡ Some x → IsAcceptedBy p.interface x
@@ -32,3 +35,7 @@ pub accepted_reach : AcceptedLaws → AreSized → (p : Program) (images : List 
 accepted_reach laws sized p images count accepted texts m x is =
     subst (λ (types : List NamedType). IsTrue (is_sized_image types x)) (laws.types (module_of p (Some m)) x (text_at p images m x count texts is))
     (sized x (accepted_at p images m x accepted is).verified.lawful)
+
+-- and each of their wrappers has the form of one
+pub accepted_formed : SimulationLaws → AcceptedLaws → (p : Program) (images : List Module) → IsWellFormed p → length images ≡ length p.modules → AreAccepted p images → AreOfTexts p images → IsTrue (have_formed_wrappers images)
+accepted_formed laws accepted_are p images formed count accepted texts = laws.forming.images p images (accepted_are.images p images formed accepted texts) count

@@ -1,4 +1,5 @@
 pub mod Accepted
+pub mod Formed
 pub mod Compared
 pub mod PutBytes
 pub mod Globals

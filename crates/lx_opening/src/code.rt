@@ -1,11 +1,12 @@
 //! The code of a program and of the images of its modules.
-ghost use Rattle.std.specs.Prelude.{◌≡◌, ℕ, IfOk, IsErrOf, length};
+ghost use Rattle.std.specs.Prelude.{◌≡◌, ℕ, IfOk, IsErrOf, IsTrue, length};
 ghost use Rattle.std.specs.Arc.{arc_value};
 ghost use Rattle.lx_accepted.specs.Accepted.{AreAccepted, AreOfTexts};
 ghost use Rattle.lx_annotation_tables.specs.Entries.{all_annotated};
 ghost use Rattle.lx_code.specs.Reach.{CountsActions, IsWithinReach};
 ghost use Rattle.lx_image_code.specs.Code.{code_of};
 ghost use Rattle.lx_image_code.specs.Reach.{AreWithinReach};
+ghost use Rattle.lx_images.specs.WrapperForm.{have_formed_wrappers};
 ghost use Rattle.lx_link_texts.specs.WellFormed.{IsWellFormed};
 ghost use Rattle.lx_opening.specs.Differing.{IsFirstDifferent};
 ghost use Rattle.lx_opening.specs.declared.fault.OpenFault.{OpenFault};
@@ -18,10 +19,11 @@ use lx_accepted::accepted_laws;
 use lx_annotation_tables::{action_counts, reach_laws, sources_of};
 use lx_code::ActionCounts;
 use lx_image_check::Checked;
-use lx_image_code::Code;
+use lx_image_code::{Code, CodeFault};
 use lx_ir_verify::Verified;
 use lx_model::program::Program;
 use lx_serve::Source;
+use lx_simulation::simulation_laws;
 use lx_slot_types::Annotated;
 use lx_words::Memory;
 use std::alloc::Global;
@@ -82,7 +84,9 @@ fn verified_images(alloc: Global, images: Vec<Checked>) -> Result<Vec<Verified>,
     Ok(list)
 }
 
-/// The code of a program and of the images of its modules. Of the program one owner goes in.
+/// The code of a program and of the images of its modules, in which each wrapper has the form of one. Of the program one owner goes
+/// in.
+#[tactic(auto, using(crate::proofs::Formed::never_told))]
 fn image_code(
     alloc: Global,
     program: Arc<Program>,
@@ -91,11 +95,17 @@ fn image_code(
 ) -> Result<Code, Memory>
     requires reach { IsWithinReach (arc_value program) }
     requires images { AreWithinReach (arc_value program) images.items }
+    requires formed { IsTrue (have_formed_wrappers images.items) }
     requires counted { CountsActions (arc_value program) counts.items }
     ensures { IfOk result (λ code. code ≡ code_of (arc_value program) images.items) }
 {
+    simulation_laws();
     match verified_images(alloc, images) {
-        Ok(images) => Code::new(alloc, program, images, counts),
+        Ok(images) => match Code::new(alloc, program, images, counts) {
+            Ok(code) => Ok(code),
+            Err(CodeFault::Memory) => Err(Memory),
+            Err(CodeFault::Wrapper { .. }) => unreachable!(), // each has the form
+        },
         Err(why) => {
             drop(program);
             drop(counts);
@@ -113,6 +123,7 @@ fn reckoned_code(
 ) -> Result<(Code, Annotations), Memory>
     requires reach { IsWithinReach program }
     requires images { AreWithinReach program images.items }
+    requires formed { IsTrue (have_formed_wrappers images.items) }
     requires known { Knows program reckoning.sources.items }
     requires counted { CountsActions program reckoning.counts.items }
     ensures code { IfOk result (λ parts. parts.0 ≡ code_of program images.items) }
@@ -139,7 +150,7 @@ fn reckoned_code(
 }
 
 /// The code of a well-formed program and of images of its modules' texts, and where the program's annotations stand.
-#[tactic(auto, using(crate::proofs::Accepted::accepted_reach))]
+#[tactic(auto, using(crate::proofs::Accepted::accepted_reach, crate::proofs::Accepted::accepted_formed))]
 fn checked_code(
     alloc: Global,
     program: Program,
@@ -158,6 +169,7 @@ fn checked_code(
 {
     reach_laws();
     accepted_laws();
+    simulation_laws();
     match reckoned(alloc, &program, annotated) {
         Ok(reckoning) => reckoned_code(alloc, program, images, reckoning),
         Err(why) => {

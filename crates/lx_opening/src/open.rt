@@ -86,9 +86,10 @@ fn open_annotated<C: CapStore + Drop>(
     }
 }
 
-/// The opening of a script, a list of calls for each thread, over any code, also over images that a checker refuses. `program`
-/// is that of the code, `annotated` has the functions of each of its modules that get a slot type, and `caps` is new. The world
-/// has room in its journal for every event that the fuel of the script allows, and in its store for the end of each call.
+/// The opening of a script, a list of calls for each thread, over any code, also over images that a checker refuses: each wrapper
+/// of a code has the form of one, whichever actions it does, and what runs of a crossing is its lines. `program` is that of the code,
+/// `annotated` has the functions of each of its modules that get a slot type, and `caps` is new. The world has room in its journal for
+/// every event that the fuel of the script allows, and in its store for the end of each call.
 ///
 /// # Errors
 /// Want of memory; more modules or functions of a module than a number of 32 bits counts are that too, and so are more events

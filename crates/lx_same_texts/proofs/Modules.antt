@@ -196,3 +196,7 @@ told a b r e h = module_is a b (sym e ∙ h)
 
 pub tells : (a b : Module) (r : Bool) → r ≡ same_module a b → SameText a b → r ≡ true
 tells a b r e s = e ∙ module_meets a b s
+
+-- so it is of their types alone
+pub types_told : (a b : List NamedType) (r : Bool) → r ≡ same_lists same_named_type a b → r ≡ true → a ≡ b
+types_told a b r e h = lists_are same_named_type named_type_is a b (sym e ∙ h)

@@ -34,3 +34,11 @@ pub fn is_same_text(a: &Module, b: &Module) -> bool
 {
     is_same_module(a, b)
 }
+
+/// Whether two modules have the same types.
+#[tactic(auto, using(crate::proofs::Modules::types_told))]
+pub fn has_same_types(a: &Module, b: &Module) -> bool
+    ensures { IsTrue result → a.now.types ≡ b.now.types }
+{
+    are_same_named_types(a.types.as_slice(), b.types.as_slice())
+}

@@ -1,5 +1,5 @@
 -- A program with the images of its modules is accepted.
-use Rattle.std.proofs.Common.{◌≡◌, ℕ, zero, suc, ◌+◌, ◌<◌, ◌≤◌, Bool, true, false, not, ◌&&◌, List, [], ◌∷◌, ◌++◌, length, map, take, drop, Option, Some, None, ◌⊎◌, inl, inr, refl, sym, subst, ◌∙◌, ap, arith}
+use Rattle.std.proofs.Common.{◌≡◌, ℕ, zero, suc, ◌+◌, ◌<◌, ◌≤◌, Bool, true, false, not, List, [], ◌∷◌, ◌++◌, length, map, take, drop, Option, Some, None, ◌⊎◌, inl, inr, refl, sym, subst, ◌∙◌, ap, arith}
 use Rattle.std.specs.Prelude.{slice_get, option_map, option_and_then, filter, cond, nat_eq, unwrap_or, codes}
 use Rattle.std.specs.List.{list_all, starts_with}
 use Rattle.std.proofs.lemmas.Option.{slice_get-map, slice_get_past}
@@ -24,11 +24,12 @@ use Rattle.lx_model.specs.declared.program.ProgramFunction.{ProgramFunction}
 use Rattle.lx_model.specs.declared.program.ProgramFunction.TheVariants.{Of, Native}
 use Rattle.lx_model.specs.Program.{home_of_entry, function_of_entry, kernel_function, module_of, module_or_empty}
 use Rattle.lx_model.specs.Thread.{code_block_of, routine_of, routine_or_none}
-use Rattle.lx_images.specs.Image.{Code, image_routine, image_of_entry, wrapped_name, out_import}
+use Rattle.lx_images.specs.Code.{Code, image_routine, image_of_entry, wrapped_name, out_import}
+use Rattle.lx_simulation.proofs.Wrapping.{images_wrap, split_at, guarded_names, joined, front, there_is}
 use Rattle.lx_images.specs.Guarded.{bare_of, bare_among, image_block, routine_in_image, guarded_routine, function_spares_well, CallsOutIf, CallsOut, Accepted}
 use Rattle.lx_images.specs.HasImages.{HasImages}
 use Rattle.lx_images.specs.Places.{IsIn}
-use Rattle.lx_simulation.proofs.Elements.{some_is, none_some, true_not, both_first, both_second, all_in, in_flat, in_got, in_map, in_second}
+use Rattle.lx_simulation.proofs.Elements.{some_is, none_some, true_not, all_in, in_flat, in_got, in_map, in_second}
 use Rattle.lx_simulation.proofs.Verifying.{sound}
 use Rattle.lx_simulation.proofs.Imaging.{function_shown}
 
@@ -88,7 +89,7 @@ wrapped_at [] k x e t = cc
 wrapped_at (y ∷ ys) zero x e t = first_wrapped y ys x (is_wrapped y) (some_of e) (ap is_wrapped (some_of e) ∙ t)
 wrapped_at (y ∷ ys) (suc k) x e t = wrapped_cases y ys k x (is_wrapped y) refl (wrapped_at ys k x e t)
 
-all_at : {A : Type 0} (p : A → Bool) (ys : List A) (k : ℕ) (x : A) → list_all p ys ≡ true → slice_get ys k ≡ Some x → p x ≡ true
+pub all_at : {A : Type 0} (p : A → Bool) (ys : List A) (k : ℕ) (x : A) → list_all p ys ≡ true → slice_get ys k ≡ Some x → p x ≡ true
 all_at p [] k x a e = cc
 all_at p (y ∷ ys) zero x a e = grind (arith, a, some_of e)
 all_at p (y ∷ ys) (suc k) x a e = all_at p ys k x (grind (arith, a)) e
@@ -98,16 +99,6 @@ all_at p (y ∷ ys) (suc k) x a e = all_at p ys k x (grind (arith, a)) e
 names_append : (xs ys : List Function) → names_of (xs ++ ys) ≡ names_of xs ++ names_of ys
 names_append [] ys = refl
 names_append (x ∷ xs) ys = ap (λ (ns : List (List ℕ)). x.name ∷ ns) (names_append xs ys)
-
-split_at : {A : Type 0} (n : ℕ) (xs : List A) → take n xs ++ drop n xs ≡ xs
-split_at zero xs = refl
-split_at (suc n) [] = refl
-split_at (suc n) (x ∷ xs) = ap (λ ys. x ∷ ys) (split_at n xs)
-
-guarded_names : (m : Module) (fs gs : List Function) → AreGuarded m fs gs → names_of gs ≡ names_of fs
-guarded_names m [] gs h = ap names_of h
-guarded_names m (f ∷ fs) [] h = absurd h
-guarded_names m (f ∷ fs) (g ∷ gs) h = λ j. h.0.name j ∷ guarded_names m fs gs h.1 j
 
 text_names : (xs : List Function) → map (λ (t : FunctionText). t.name) (map function_text xs) ≡ names_of xs
 text_names [] = refl
@@ -132,16 +123,6 @@ image_names i m x g =
     ∙ (λ j. guarded_names m m.functions (take (length m.functions) x.functions) g.functions j ++ wrapper_names i m x g j))
 
 -- a plain name is no wrapper's
-
-joined : (a b : Bool) → a ≡ true → b ≡ true → (a && b) ≡ true
-joined true true e h = refl
-joined true false e h = true_not (sym h)
-joined false b e h = true_not (sym e)
-
-front : (xs ys name : List ℕ) → starts_with nat_eq name (xs ++ ys) ≡ true → starts_with nat_eq name xs ≡ true
-front [] ys name e = refl
-front (x ∷ xs) ys [] e = e
-front (x ∷ xs) ys (n ∷ name) e = joined (nat_eq x n) (starts_with nat_eq name xs) (both_first (nat_eq x n) (starts_with nat_eq name (xs ++ ys)) e) (front xs ys name (both_second (nat_eq x n) (starts_with nat_eq name (xs ++ ys)) e))
 
 not_longer : (name : List ℕ) (b : Bool) → starts_with nat_eq name (codes "lxfi.out.") ≡ b → not (is_own_name name) ≡ true → not b ≡ true
 not_longer name true e h = ap not (sym (front (codes "lxfi.") (codes "out.") name e)) ∙ h
@@ -245,11 +226,6 @@ guarded_at m (x ∷ fs) [] k f h e = absurd h
 guarded_at m (x ∷ fs) (g ∷ gs) zero f h e = (g, refl, subst (λ (y : Function). IsGuarded m y g) (some_is e) h.0)
 guarded_at m (x ∷ fs) (g ∷ gs) (suc k) f h e = guarded_at m fs gs k f h.1 e
 
-there_is : {A : Type 0} (xs : List A) (k : ℕ) → k < length xs → (x : A) × (slice_get xs k ≡ Some x)
-there_is [] k h = absurd (omega (arith, h))
-there_is (x ∷ xs) zero h = (x, refl)
-there_is (x ∷ xs) (suc k) h = there_is xs k (omega (arith, h))
-
 -- the image function that runs, and what is shown of it
 record Runs (c : Code) (n m : ℕ) (f : Function) : Type 0 where
   image : Function
@@ -321,6 +297,7 @@ pub images_accepted : (c : Code) → HasImages c → Accepted c
 images_accepted c h =
     record {
       routines = λ n. entry_routine c h n (slice_get c.program.functions n) refl;
+      wraps = images_wrap c h;
       wrappers = λ m f. calls_out_at c h m f (slice_get (module_of c.program (Some m)).functions f) refl;
       verified = h.linked.verified;
       slots = h.linked.slots;

@@ -16,8 +16,8 @@ use Rattle.lx_model.specs.declared.request.What.TheVariants as what
 use Rattle.lx_model.specs.Program.{Home, home_or_kernel}
 use Rattle.lx_model.specs.Thread.{CodeBlock, Activation}
 use Rattle.lx_model.specs.Effect.{Effect, Moves, Wants, Enters, Calls, Traps, effect, division, arrival, bits}
-use Rattle.lx_images.specs.Image.{Code, Marks, asker, top}
-use Rattle.lx_images.specs.Stands.{RunsAs}
+use Rattle.lx_simulation.proofs.Counted.{Code, Marks, asker, top}
+use Rattle.lx_simulation.proofs.CountedStands.{RunsAs}
 use Rattle.lx_simulation.proofs.Guarding.{IsCall}
 use Rattle.lx_simulation.proofs.Replies.{IsSimple}
 use Rattle.lx_simulation.proofs.Marking.{marks_for, covered_itself, top_if, store_guarded}

@@ -16,9 +16,9 @@ use Rattle.lx_model.specs.Program.{Home, home_or_kernel}
 use Rattle.lx_model.specs.Thread.{Activation, Crossing, Frame, Ending, Thread}
 use Rattle.lx_model.specs.Effect.{text_of}
 use Rattle.lx_model.specs.Next.{request}
-use Rattle.lx_images.specs.Image.{Code, AtEnter, ImageFrame, Wraps, ImageThread, top}
+use Rattle.lx_simulation.proofs.Counted.{Code, AtEnter, ImageFrame, Wraps, ImageThread, top}
 use Rattle.lx_images.specs.Guarded.{waiting_run, Accepted}
-use Rattle.lx_images.specs.Stands.{under, waiting_frames, shadow_of, RunsAs, Called, InBodyOf, WaitWell}
+use Rattle.lx_simulation.proofs.CountedStands.{under, waiting_frames, shadow_of, RunsAs, Called, InBodyOf, WaitWell}
 use Rattle.lx_ir.specs.declared.types.Scalar.{Scalar}
 use Rattle.lx_ir.specs.declared.instr.Argument.{Argument}
 use Rattle.lx_ir.specs.declared.instr.Callee.TheVariants as callee
@@ -28,12 +28,12 @@ use Rattle.lx_ir.specs.declared.instr.Op.TheVariants as op
 use Rattle.lx_model.specs.Program.{Target, ToNative, ToSlot, ToImport, ToOwn, Nowhere, own, kernel_import, kernel_function, number_of, target_of, target, module_of}
 use Rattle.lx_model.specs.Effect.{Effect, Traps, effect, target_effect, slot_effect, argument_words}
 use Rattle.lx_model.specs.Next.{Asks, effect_step, has_room, if_room}
-use Rattle.lx_images.specs.Image.{ImageStep, Marks, no_marks, asker, costly_step, wrapped_import}
-use Rattle.lx_images.specs.Image.{Asks as ImageAsks, effect_step as image_effect_step, has_room as image_has_room, if_room as image_if_room}
+use Rattle.lx_simulation.proofs.Counted.{ImageStep, Marks, no_marks, asker, costly_step, wrapped_import}
+use Rattle.lx_simulation.proofs.Counted.{Asks as ImageAsks, effect_step as image_effect_step, has_room as image_has_room, if_room as image_if_room}
 use Rattle.lx_images.specs.Guarded.{bare_of, guarded_effect, guarded_op, CallsOutIf, CallsOut}
 use Rattle.lx_image_texts.specs.Marks.{is_wrapped, wrapper_number, callee_if, callee_for}
 use Rattle.lx_images.specs.ImageCode.{stores_in}
-use Rattle.lx_images.specs.Stands.{AsksAlike, StepsAgree}
+use Rattle.lx_simulation.proofs.CountedStands.{AsksAlike, StepsAgree}
 use Rattle.lx_simulation.proofs.Guarding.{IsCall, effect-guarded, called-guarded}
 use Rattle.lx_simulation.proofs.Absorbing.{thread_of, image_thread, frame_of}
 use Rattle.lx_simulation.proofs.Replies.{direct_alike}

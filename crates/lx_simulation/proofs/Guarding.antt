@@ -18,7 +18,7 @@ use Rattle.lx_model.specs.declared.program.Program.{Program}
 use Rattle.lx_model.specs.Program.{Home, Target, ToNative, ToSlot, ToImport, ToOwn, Nowhere, target}
 use Rattle.lx_model.specs.Thread.{CodeBlock, Activation, start_of, Routine, head_destination, behind_head, with_register, activation_behind, first_label, first_code}
 use Rattle.lx_model.specs.Effect.{Moves, effect, division, arrival, jump_effect, code_block_named, target_effect, slot_effect, call_effect, text_of, with_phi, with_phis, without_phis, site_result, call_result, returned_by, returned_at, returned_value}
-use Rattle.lx_images.specs.Image.{Code}
+use Rattle.lx_simulation.proofs.Counted.{Code}
 use Rattle.lx_images.specs.Guarded.{bare_of, guarded_op, guarded_ops, waiting_ops, guarded_block, guarded_routine, guarded_run, waiting_run, guarded_effect}
 
 -- an activation that stands before this code

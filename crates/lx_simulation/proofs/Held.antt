@@ -38,9 +38,9 @@ use Rattle.lx_model.specs.declared.program.ProgramFunction.TheVariants.{Native, 
 use Rattle.lx_model.specs.Program.{Home, home_of_entry, function_of, function_of_entry, module_of}
 use Rattle.lx_model.specs.Thread.{Range, Activation, Stage, Pre, Body, Post, Crossing, Frame, Thread, top_of_stack, code_block_of, routine_of}
 use Rattle.lx_model.specs.Effect.{text_of, types_of, bits}
-use Rattle.lx_images.specs.Image.{Code}
+use Rattle.lx_simulation.proofs.Counted.{Code}
 use Rattle.lx_images.specs.Guarded.{Accepted, bare_of, spares_well, block_spares_well}
-use Rattle.lx_images.specs.Stands.{StageIsBody, InBodyOf, StoreHeld}
+use Rattle.lx_simulation.proofs.CountedStands.{StageIsBody, InBodyOf, StoreHeld}
 use Rattle.lx_images.specs.Kept.{is_kernel, within, KeepsAll, LiesIn, FramesKept, Kept}
 use Rattle.lx_images.specs.Places.{IsIn, HoldsPlace}
 use Rattle.lx_simulation.proofs.Elements.{some_is, none_some, true_not, both_first, both_second, all_in, any_in, in_got, in_map, in_second, in_first, same_numbers}

@@ -35,7 +35,7 @@ use Rattle.lx_model.specs.Act.{or_else, unless, unmapped, Acted}
 use Rattle.lx_model.specs.Enter.{text_of_principal, Running, entered_function, runs_by, runs_in, runs_as, found_nothing, nobody, not_annotated, fits_params, has_signature, decide_target, writer_refusal, written_target, by_writers, slot_writers, slot_signature, decide_slot, decide_enter}
 use Rattle.lx_model.specs.Decide.{decide, decide_write, decide_what, decide_native, decide_alias, outcome_of, result_or_none, action_result, arg, unless_mapped}
 use Rattle.lx_model.specs.Serve.{Served, serving, serve, serve_by, with_entry, grant_what, entering, entering_as, after_native, after_try_lock, after_alloc, with_block, after_alias, with_history, history_or}
-use Rattle.lx_images.specs.Stands.{seen, SameState}
+use Rattle.lx_simulation.proofs.CountedStands.{seen, SameState}
 
 -- with another journal
 abbrev pub rejournaled : List Entry → State → State
@@ -212,7 +212,7 @@ grant-kept p s t q (what.Enter way args) = entering-kept p s q way args (entered
 grant-kept p s t q (what.Native k args) = native-kept s t q (native_call k) args
 grant-kept p s t q _ = refl
 
-by-kept : (p : Program) (s : State) (t : ℕ) (r : Request) (o : Option Outcome) → (serve_by o p s t r).state.journal ≡ s.journal
+pub by-kept : (p : Program) (s : State) (t : ℕ) (r : Request) (o : Option Outcome) → (serve_by o p s t r).state.journal ≡ s.journal
 by-kept p s t r None = grant-kept p s t r.who r.what
 by-kept p s t r (Some o) = refl
 

@@ -30,7 +30,7 @@ use Rattle.lx_model.specs.declared.request.Outcome.TheVariants.{Budget}
 use Rattle.lx_model.specs.Thread.{fresh_thread, has_work}
 use Rattle.lx_model.specs.Next.{Step, Goes, Asks, Asking, step, next_within, next}
 use Rattle.lx_model.specs.World.{World, after_request, event_if, event_of, event, opening, run}
-use Rattle.lx_images.specs.Stands.{Each}
+use Rattle.lx_simulation.proofs.CountedStands.{Each}
 use Rattle.lx_images.specs.Kept.{WorldKept}
 use Rattle.lx_simulation.proofs.Keeping.{true_le, unless_none, served_kept, stacks_from, stacks_to}
 use Rattle.lx_simulation.proofs.KeepingSteps.{step_kept}

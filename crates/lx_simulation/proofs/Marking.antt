@@ -12,7 +12,7 @@ use Rattle.lx_model.specs.declared.program.Program.{Program}
 use Rattle.lx_model.specs.Program.{Home}
 use Rattle.lx_model.specs.Thread.{Activation}
 use Rattle.lx_model.specs.Effect.{text_of}
-use Rattle.lx_images.specs.Image.{Code, ImageFrame, ImageThread, top}
+use Rattle.lx_simulation.proofs.Counted.{Code, ImageFrame, ImageThread, top}
 use Rattle.lx_images.specs.Guarded.{guarded_run, waiting_run}
 use Rattle.std.specs.Prelude.{nat_eq, nat_le, ◌&&◌}
 use Rattle.lx_words.specs.Width.{byte_count}
@@ -21,8 +21,8 @@ use Rattle.lx_ir.specs.declared.instr.Op.{Op}
 use Rattle.lx_ir.specs.declared.instr.Op.TheVariants as op
 use Rattle.lx_ir.specs.Layout.{width_of}
 use Rattle.lx_model.specs.Effect.{bits}
-use Rattle.lx_images.specs.Image.{ImageStep, Marks, no_marks, covered, principal_if, instruction_step, costly_step, wrapped_import}
-use Rattle.lx_images.specs.Image.{if_paid as image_if_paid}
+use Rattle.lx_simulation.proofs.Counted.{ImageStep, Marks, no_marks, covered, principal_if, instruction_step, costly_step, wrapped_import}
+use Rattle.lx_simulation.proofs.Counted.{if_paid as image_if_paid}
 use Rattle.lx_image_texts.specs.Marks.{size_value}
 use Rattle.lx_image_texts.specs.Instrumented.{unless_left}
 use Rattle.lx_images.specs.ImageCode.{stores_in}

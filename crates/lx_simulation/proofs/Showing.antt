@@ -15,7 +15,7 @@ use Rattle.lx_model.specs.World.{World, can_act, event, is_done, is_whole, openi
 use Rattle.lx_images.specs.Image.{Code, ImageThread}
 use Rattle.lx_images.specs.ImageWorld.{ImageWorld, image_event, image_opening, image_run}
 use Rattle.lx_images.specs.Shown.{shown, shown_thread, image_is_whole}
-use Rattle.lx_images.specs.Stands.{SameState, StandsFor, Seen, seen, image_of}
+use Rattle.lx_images.specs.Stands.{SameState, StandsFor, Seen, seen, ThreadStands, ThreadsStand}
 use Rattle.lx_simulation.specs.Images.{code_of}
 
 -- the threads of what was seen of the journal's entries
@@ -27,15 +27,27 @@ pub schedules : (c : Code) (w : World) (v : ImageWorld) → StandsFor c w v → 
 schedules c w v stands =
     threads_seen v.state.journal ∙ (ap (λ (xs : List Seen). map (λ (x : Seen). x.thread) xs) stands.state.journal ∙ sym (threads_seen w.state.journal))
 
+-- a thread without its frames
+abbrev bare : Thread → Thread
+bare t = record { calls = t.calls; ended = t.ended; fuel = t.fuel; due = t.due; frames = [] }
+
+-- image threads show what the threads show that they stand for
+shown_one : (c : Code) (thread : Thread) (v : ImageThread) → ThreadStands c thread v → shown_thread v ≡ bare thread
+shown_one c thread v s = λ j. record { calls = s.calls j; ended = s.ended j; fuel = s.fuel j; due = s.due j; frames = [] }
+
+shown_all : (c : Code) (ts : List Thread) (vs : List ImageThread) → ThreadsStand c ts vs → map shown_thread vs ≡ map bare ts
+shown_all c [] vs e = ap (map shown_thread) e
+shown_all c (t ∷ ts) [] s = absurd s
+shown_all c (t ∷ ts) (v ∷ vs) s = λ j. shown_one c t v s.0 j ∷ shown_all c ts vs s.1 j
+
 -- a thread and the image thread that stands for it have ended the same calls
-outcomes_alike : (c : Code) (n : ℕ) (ts : List Thread)
-    → flat_map thread_outcomes (enumerate_from n (map shown_thread (map (image_of c) ts))) ≡ flat_map thread_outcomes (enumerate_from n ts)
-outcomes_alike c n [] = refl
-outcomes_alike c n (t ∷ ts) = ap (λ rest. thread_outcomes (n, t) ++ rest) (outcomes_alike c (n + 1) ts)
+outcomes_alike : (n : ℕ) (ts : List Thread) → flat_map thread_outcomes (enumerate_from n (map bare ts)) ≡ flat_map thread_outcomes (enumerate_from n ts)
+outcomes_alike n [] = refl
+outcomes_alike n (t ∷ ts) = ap (λ rest. thread_outcomes (n, t) ++ rest) (outcomes_alike (n + 1) ts)
 
 outcomes : (c : Code) (w : World) (v : ImageWorld) → StandsFor c w v → outcomes_of (shown v) ≡ outcomes_of w
 outcomes c w v stands =
-    ap (λ (xs : List ImageThread). flat_map thread_outcomes (enumerate_from 0 (map shown_thread xs))) stands.threads ∙ outcomes_alike c 0 w.threads
+    ap (λ (xs : List Thread). flat_map thread_outcomes (enumerate_from 0 xs)) (shown_all c w.threads v.threads stands.threads) ∙ outcomes_alike 0 w.threads
 
 -- what an account tells of the state besides the schedule
 told : (v w : State) → SameState w v → (record v { journal = w.journal }) ≡ w
@@ -65,24 +77,21 @@ accounts c w v stands =
 
 -- work
 
-works_shown : (c : Code) (x : Option Thread) → works (option_map shown_thread (option_map (image_of c) x)) ≡ works x
-works_shown c None = refl
-works_shown c (Some t) = refl
+works_shown : (x : Option Thread) → works (option_map bare x) ≡ works x
+works_shown None = refl
+works_shown (Some t) = refl
 
 pub acts : (c : Code) (w : World) (v : ImageWorld) → StandsFor c w v → (t : ℕ) → can_act (shown v) t ≡ can_act w t
 acts c w v stands t =
-    ap (λ (xs : List ImageThread). works (slice_get (map shown_thread xs) t)) stands.threads
-    ∙ (ap works (slice_get-map shown_thread (map (image_of c) w.threads) t)
-    ∙ (ap (λ (x : Option ImageThread). works (option_map shown_thread x)) (slice_get-map (image_of c) w.threads t)
-    ∙ works_shown c (slice_get w.threads t)))
+    ap (λ (xs : List Thread). works (slice_get xs t)) (shown_all c w.threads v.threads stands.threads)
+    ∙ (ap works (slice_get-map bare w.threads t) ∙ works_shown (slice_get w.threads t))
 
-any_shown : (c : Code) (ts : List Thread) → list_any has_work (map shown_thread (map (image_of c) ts)) ≡ list_any has_work ts
-any_shown c [] = refl
-any_shown c (t ∷ ts) = ap (λ (b : Bool). has_work t || b) (any_shown c ts)
+any_shown : (ts : List Thread) → list_any has_work (map bare ts) ≡ list_any has_work ts
+any_shown [] = refl
+any_shown (t ∷ ts) = ap (λ (b : Bool). has_work t || b) (any_shown ts)
 
 pub done : (c : Code) (w : World) (v : ImageWorld) → StandsFor c w v → is_done (shown v) ≡ is_done w
-done c w v stands =
-    ap (λ (xs : List ImageThread). not (list_any has_work (map shown_thread xs))) stands.threads ∙ ap not (any_shown c w.threads)
+done c w v stands = ap (λ (xs : List Thread). not (list_any has_work xs)) (shown_all c w.threads v.threads stands.threads) ∙ ap not (any_shown w.threads)
 
 -- schedules
 

@@ -34,10 +34,10 @@ use Rattle.lx_model.specs.Enter.{Running, entered_function, runs_as}
 use Rattle.lx_model.specs.Decide.{decide}
 use Rattle.lx_model.specs.Serve.{serve, serve_by, grant_what, entering, entering_as}
 use Rattle.lx_model.specs.World.{World, event_if, event_of, event, opening, run}
-use Rattle.lx_images.specs.Image.{Code}
-use Rattle.lx_images.specs.ImageWorld.{ImageWorld, image_event, image_opening, image_run}
+use Rattle.lx_simulation.proofs.Counted.{Code}
+use Rattle.lx_simulation.proofs.CountedWorld.{ImageWorld, image_event, image_opening, image_run}
 use Rattle.lx_images.specs.Guarded.{Accepted, SlotCalls}
-use Rattle.lx_images.specs.Stands.{Each, Well, WorldWell, StandsFor, StoresHeld}
+use Rattle.lx_simulation.proofs.CountedStands.{Each, Well, WorldWell, StandsFor, StoresHeld}
 use Rattle.lx_images.specs.Kept.{Kept, WorldKept, AskKept}
 use Rattle.lx_images.specs.Places.{PlacesKept, AllPlaces, WorldPlaces, IsLiveAt, IsLive, IsIn, PlaceKept}
 use Rattle.lx_images.specs.Fitting.{ScriptFits}

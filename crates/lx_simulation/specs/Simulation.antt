@@ -16,13 +16,15 @@ use Rattle.lx_images.specs.ImageWorld.{ImageWorld, image_event, image_opening, i
 use Rattle.lx_images.specs.ImageCode.{Bare, text_op, image_ops}
 use Rattle.lx_images.specs.Guarded.{Accepted, SlotCalls, bare_of}
 use Rattle.lx_images.specs.HasImages.{IsLinked, HasImages}
-use Rattle.lx_images.specs.Stands.{Well, WorldWell, image_of, StepsAgree, StandsFor, StoresHeld}
+use Rattle.lx_images.specs.Stands.{Well, WorldWell, ThreadStands, StepsAgree, StandsFor, StoresHeld}
 use Rattle.lx_images.specs.Fitting.{ScriptFits}
 use Rattle.lx_images.specs.Kept.{WorldKept}
 use Rattle.lx_images.specs.Places.{WorldPlaces}
 use Rattle.lx_images.specs.Lines.{LineLaws}
 use Rattle.lx_simulation.specs.Images.{code_of, AreImages}
 use Rattle.lx_simulation.specs.Showing.{ShowingLaws}
+use Rattle.lx_simulation.specs.Crossing.{CrossingLaws}
+use Rattle.lx_simulation.specs.Forming.{FormingLaws}
 
 -- each store of the images has its guard
 abbrev pub AllGuarded : Code → Type 0
@@ -45,13 +47,17 @@ pub record SimulationLaws : Type 0 where
   pub places : (p : Program) → ((h : Home) → IsVerified (module_of p h)) → SlotCalls p → (script : List (List ScriptCall)) (schedule : List ℕ) → ScriptFits p script → WorldPlaces p (run p schedule (opening p script))
   -- one event: the worlds stand for each other behind it, where what its store needs is held
   pub events : (c : Code) → Accepted c → (t : ℕ) (w : World) (v : ImageWorld) → WorldWell c.program w → StandsFor c w v → StoresHeld c w → StandsFor c (event c.program t w) (image_event c t v)
-  -- one step of a thread is one step of the image thread that stands for it
-  pub steps : (c : Code) → Accepted c → (t : ℕ) (thread : Thread) → Well c.program t thread → StepsAgree c t (step c.program t thread) (image_step c (image_of c thread))
+  -- one step of a thread is one step of each image thread that stands for it
+  pub steps : (c : Code) → Accepted c → (t : ℕ) (thread : Thread) (v : ImageThread) → Well c.program t thread → ThreadStands c thread v → StepsAgree c t (step c.program t thread) (image_step c v)
   -- an image thread comes to a request within its steps, whatever the code
   pub image_asks : (n : ℕ) (c : Code) (v : ImageThread) → 2 * v.fuel + length v.frames < n → image_next_within (suc n) c v ≡ image_next_within n c v
   -- the machine that passes marks and free lines at once does what the machine of lines does
   pub by_lines : LineLaws
   -- what a world of images shows is what the monitor's world shows that it stands for
   pub showing : ShowingLaws
+  -- the wrappers of images do what the annotations say, and no wrapper does what it has no line for
+  pub crossing : CrossingLaws
+  -- and they have the form of wrappers
+  pub forming : FormingLaws
   -- without its marks an image's text is the program's, with the calls of imports to their wrappers
   pub erases : (text : Option Module) (bare : Bare) (os : List Op) → without_marks (image_ops text bare os) ≡ map (text_op text) os

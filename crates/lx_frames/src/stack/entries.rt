@@ -1,18 +1,19 @@
 //! What is entered: functions, and wrappers round them. Nothing here takes memory.
-ghost use Rattle.std.specs.Prelude.{◌≡◌, ◌+◌, ◌<◌, ◌≤◌, ◌∷◌, ◌++◌, List, Some, length, replicate};
+ghost use Rattle.std.specs.Prelude.{◌≡◌, ◌+◌, ◌<◌, ◌≤◌, ◌∷◌, ◌++◌, List, None, Some, length, replicate};
 ghost use Rattle.lx_words.specs.Word.{Word};
 ghost use Rattle.lx_model.specs.declared.request.Way.{Way};
 ghost use Rattle.lx_model.specs.declared.request.What.TheVariants as what;
 ghost use Rattle.lx_model.specs.Thread.{start_of, zero_word};
-ghost use Rattle.lx_images.specs.Image.{AtEnter, Code as Images, Runs, Wraps, after_action, behind_enter, entered_frames, image_routine, shadow_with, stack_top};
-ghost use Rattle.lx_frames.specs.Frames.{IsWrapper, frame_of, frames_of, place_on, placed_on};
-ghost use Rattle.lx_frames.specs.Stack.{CanEnter, CanGoIn, CanGoOn, HasRoomFor, Shows, body_before, line_before};
+ghost use Rattle.lx_images.specs.Image.{Code as Images, Runs, Wraps, behind_line, entered_frames, image_routine, shadow_with, stack_top};
+ghost use Rattle.lx_image_code.specs.Wrappers.{wrapper_lines};
+ghost use Rattle.lx_frames.specs.Frames.{CountsOn, IsWrapper, frame_of, frames_of, is_call, is_call_if, line_on, past_line_on};
+ghost use Rattle.lx_frames.specs.Stack.{CanEnter, CanGoIn, CanGoOn, HasRoomFor, Shows, arrived, body_behind};
 
 use super::FrameStack;
-use crate::frame::{Frame, Place};
+use crate::frame::Frame;
 use crate::registers::fill;
 use lx_caps::Principal;
-use lx_image_code::Code;
+use lx_image_code::{Code, Line, Wrapper};
 use lx_image_steps::Activation;
 use lx_words::{Word, Words};
 use std::mem;
@@ -23,6 +24,13 @@ pub struct Entry {
     pub function: u32,
     pub principal: Principal,
     pub crosses: bool,
+}
+
+// Whether a line is the call of a wrapper.
+fn is_call(line: Line) -> bool
+    ensures { result ≡ is_call line }
+{
+    matches!(line, Line::Call)
 }
 
 impl FrameStack {
@@ -42,17 +50,19 @@ impl FrameStack {
         self.top = Some(frame);
     }
 
-    /// A wrapper stands on the function that calls it, before its enter.
-    pub fn push_wrapper(&mut self, function: u32, args: Words)
+    /// A wrapper stands on the function that calls it, at its first line.
+    pub fn push_wrapper(&mut self, function: u32, args: Words, wrapper: Wrapper)
         requires { 0 < self.old.below.room }
-        ensures frames { (c : Images) → frames_of c self.new.top self.new.below ≡ Wraps function args AtEnter ∷ frames_of c self.old.top self.old.below }
+        ensures frames { (c : Images) → frames_of c self.new.top self.new.below ≡ Wraps function args (wrapper_lines c wrapper) None ∷ frames_of c self.old.top self.old.below }
         ensures shadow { self.new.shadow ≡ self.old.shadow }
         ensures ready { (c : Images) → (way : Way) → CanEnter c self.old (length args) 3 → 0 < self.old.shadow.room → HasRoomFor c self.new (what.Enter way args) }
     {
         self.push(Frame::Wraps {
             function,
             args,
-            place: Place::Enter,
+            wrapper,
+            at: 0,
+            value: None,
         });
     }
 
@@ -101,80 +111,59 @@ impl FrameStack {
         self.run_function(thread, function, registers);
     }
 
-    // The wrapper on top stands at another line.
-    fn stand(&mut self, place: Place)
-        ensures top { self.new.top ≡ placed_on place self.old.top }
+    // The wrapper on top goes past its line.
+    fn pass_line(&mut self)
+        ensures top { CountsOn self.old.top → self.new.top ≡ past_line_on self.old.top }
         ensures below { self.new.below ≡ self.old.below }
         ensures registers { self.new.registers ≡ self.old.registers }
         ensures shadow { self.new.shadow ≡ self.old.shadow }
     {
         if let Some(frame) = &mut self.top {
-            frame.stand(place);
+            frame.pass_line();
         }
     }
 
-    // The wrapper on top goes into its body.
+    // Whether the wrapper on top stands at its call.
+    fn is_at_call(&self, code: &Code) -> bool
+        ensures { result ≡ is_call_if (line_on (frames_of code.now self.now.top self.now.below)) }
+    {
+        match self.line(code) {
+            Some(line) => is_call(line),
+            None => false,
+        }
+    }
+
+    // The wrapper on top goes into its body, behind the line of the call.
+    #[tactic(auto, using(crate::proofs::Arriving::line_more))]
     fn go_into(&mut self, code: &Code, thread: u32)
         requires { IsWrapper self.old.top }
-        ensures frames { CanGoIn code.now self.old self.old.top → frames_of code.now self.new.top self.new.below ≡ body_before code.now thread (frames_of code.now self.old.top self.old.below) }
+        ensures frames { CanGoIn code.now self.old self.old.top → frames_of code.now self.new.top self.new.below ≡ body_behind code.now thread (frames_of code.now self.old.top self.old.below) }
         ensures shadow { self.new.shadow ≡ self.old.shadow }
     {
-        self.stand(Place::Body);
+        self.pass_line();
         let function = self.function();
         let mut registers = self.take_room();
         fill(&mut registers, self.args(), code.locals(function));
         self.run_function(thread, function, registers);
     }
 
-    // The wrapper on top stands before its first action, or goes into its body where there is none. A function on top stays.
-    fn stand_first(&mut self, code: &Code, thread: u32)
-        ensures frames { CanGoIn code.now self.old self.old.top → frames_of code.now self.new.top self.new.below ≡ line_before code.now thread 0 (frames_of code.now self.old.top self.old.below) }
+    // What stands on top has come to its line: a wrapper whose line is the call goes into its body.
+    fn arrive(&mut self, code: &Code, thread: u32)
+        ensures frames { CanGoIn code.now self.old self.old.top → frames_of code.now self.new.top self.new.below ≡ arrived code.now thread (frames_of code.now self.old.top self.old.below) }
         ensures shadow { self.new.shadow ≡ self.old.shadow }
     {
-        if self.place().is_none() {
-            return;
-        }
-        if code.program_code().has_action(self.function(), false, 0) {
-            self.stand(Place::Pre(0));
-        } else {
+        if self.is_at_call(code) {
             self.go_into(code, thread);
         }
     }
 
-    // The wrapper on top stands before the action behind this one, or goes into its body where there is none.
-    fn stand_next(&mut self, code: &Code, thread: u32, index: u32)
-        requires { IsWrapper self.old.top }
-        ensures frames { CanGoIn code.now self.old self.old.top → frames_of code.now self.new.top self.new.below ≡ line_before code.now thread (index + 1) (frames_of code.now self.old.top self.old.below) }
+    /// What stands on top is behind the line that it asked by.
+    pub fn end_line(&mut self, code: &Code, thread: u32)
+        ensures frames { CanGoOn code.now self.old self.old.top → frames_of code.now self.new.top self.new.below ≡ behind_line code.now thread (frames_of code.now self.old.top self.old.below) }
         ensures shadow { self.new.shadow ≡ self.old.shadow }
     {
-        if code.program_code().has_next(self.function(), false, index) {
-            self.stand(Place::Pre(index + 1));
-        } else {
-            self.go_into(code, thread);
-        }
-    }
-
-    // The wrapper on top is behind an action that it asked for at this line.
-    fn go_behind(&mut self, code: &Code, thread: u32, place: Place)
-        requires { place_on self.old.top ≡ Some place }
-        ensures frames { CanGoOn code.now self.old self.old.top → frames_of code.now self.new.top self.new.below ≡ after_action code.now thread (frames_of code.now self.old.top self.old.below) }
-        ensures shadow { self.new.shadow ≡ self.old.shadow }
-    {
-        match place {
-            Place::Pre(index) => self.stand_next(code, thread, index),
-            Place::Post(index, value) => self.stand(Place::Post(index.saturating_add(1), value)),
-            Place::Enter | Place::Body => {}
-        }
-    }
-
-    /// What stands on top is behind an action.
-    pub fn end_action(&mut self, code: &Code, thread: u32)
-        ensures frames { CanGoOn code.now self.old self.old.top → frames_of code.now self.new.top self.new.below ≡ after_action code.now thread (frames_of code.now self.old.top self.old.below) }
-        ensures shadow { self.new.shadow ≡ self.old.shadow }
-    {
-        if let Some(place) = self.place() {
-            self.go_behind(code, thread, place);
-        }
+        self.pass_line();
+        self.arrive(code, thread);
     }
 
     // A principal goes on the others, where a place was made for it.
@@ -198,19 +187,21 @@ impl FrameStack {
             self.push_in_place(Frame::Wraps {
                 function: entry.function,
                 args,
-                place: Place::Enter,
+                wrapper: code.entered_wrapper(entry.function),
+                at: 1, // the request to enter was the first line
+                value: None,
             });
-            self.stand_first(code, thread);
+            self.arrive(code, thread);
         } else {
             self.enter_function(code, thread, entry.function, args.as_slice());
         }
     }
 
-    /// The wrapper on top is behind its enter.
+    /// The wrapper on top is behind its enter, and its principal on the others.
     pub fn enter_wrapped(&mut self, code: &Code, thread: u32, principal: Principal)
-        ensures { CanGoIn code.now self.old self.old.top → 0 < self.old.shadow.room → Shows code.now self.new (behind_enter code.now thread (frames_of code.now self.old.top self.old.below)) (principal ∷ self.old.shadow.principals) }
+        ensures { CanGoOn code.now self.old self.old.top → 0 < self.old.shadow.room → Shows code.now self.new (behind_line code.now thread (frames_of code.now self.old.top self.old.below)) (principal ∷ self.old.shadow.principals) }
     {
         self.cross(principal);
-        self.stand_first(code, thread);
+        self.end_line(code, thread);
     }
 }

@@ -1,8 +1,8 @@
 //! Room for what a reply needs, so that taking it in takes no memory.
-ghost use Rattle.std.specs.Prelude.{◌≡◌, ◌<◌, OnOk};
+ghost use Rattle.std.specs.Prelude.{◌≡◌, ◌<◌, OnOk, true};
 ghost use Rattle.lx_images.specs.Image.{Code as Images};
-ghost use Rattle.lx_frames.specs.Frames.{HasSpaceOn, IsUnwrapped};
-ghost use Rattle.lx_frames.specs.Stack.{CanEnter, HasRoomFor, IsRoomier};
+ghost use Rattle.lx_frames.specs.Frames.{CountsOn, HasSpaceOn, IsUnwrapped, past_line_on};
+ghost use Rattle.lx_frames.specs.Stack.{CanEnter, CanGoOn, HasRoomFor, IsRoomier};
 
 use super::FrameStack;
 use crate::registers::empty_with_room;
@@ -49,6 +49,33 @@ impl FrameStack {
     {
         self.prepare(code, args, frames)?;
         self.shadow.make_room()?;
+        Ok(())
+    }
+
+    // Whether a number counts the lines that the wrapper on top may come to behind an action.
+    fn counts_on(&self) -> bool
+        ensures { result ≡ true → CountsOn (past_line_on self.now.top) }
+    {
+        match &self.top {
+            Some(frame) => frame.counts_on(),
+            None => true,
+        }
+    }
+
+    /// There is what the reply to an action of the wrapper on top needs: behind it the wrapper may go into its body.
+    ///
+    /// # Errors
+    /// Want of memory, which more lines than a number counts are too; the frames and the principals stay.
+    pub fn prepare_line(&mut self, code: &Code) -> Result<(), Memory>
+        ensures prepared { OnOk result (CanGoOn code.now self.new self.new.top) }
+        ensures top { self.new.top ≡ self.old.top }
+        ensures rest { (c : Images) → IsRoomier c self.old self.new }
+    {
+        if !self.counts_on() {
+            return Err(Memory);
+        }
+        let args = self.args().len();
+        self.prepare(code, args, 1)?;
         Ok(())
     }
 

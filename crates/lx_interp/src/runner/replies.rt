@@ -5,9 +5,9 @@ ghost use Rattle.lx_model.specs.Next.{way_address, with_alloca};
 ghost use Rattle.lx_model.specs.Thread.{activation_behind, has_call};
 ghost use Rattle.lx_words.specs.declared.word.Width.TheVariants.{W64};
 ghost use Rattle.lx_words.specs.Word.{word};
-ghost use Rattle.lx_images.specs.Image.{Code as Images, ImageAsking, after_action, after_end, after_entry, after_reply, after_ret, fits_site, image_absorb, on_running, past_instruction, with_due, with_frames};
+ghost use Rattle.lx_images.specs.Image.{Code as Images, ImageAsking, after_end, after_entry, after_reply, after_ret, behind_line, fits_site, image_absorb, on_running, past_instruction, with_due, with_frames};
 ghost use Rattle.lx_frames.specs.Frames.{HasSpaceOn, frames_of};
-ghost use Rattle.lx_frames.specs.Stack.{CanEnter, CanGoIn, CanGoOn, HasRoomFor};
+ghost use Rattle.lx_frames.specs.Stack.{CanEnter, CanGoOn, HasRoomFor};
 ghost use Rattle.lx_interp.specs.Runner.{Becomes, IsAsking, KeepsFuel, StandsFor, behind_direct, calls_left, end_in, events_left, is_direct, may_answer, reply_value, request_of, spends, thread_of};
 
 use super::Runner;
@@ -124,7 +124,7 @@ impl Runner {
 
     // The wrapper on top is behind its enter.
     fn enter_wrapped(&mut self, code: &Code, principal: Principal)
-        ensures becomes { CanGoIn code.now self.old.stack self.old.stack.top → 0 < self.old.stack.shadow.room → Becomes code.now self.old self.new (behind_direct code.now self.old.thread principal (thread_of code.now self.old)) }
+        ensures becomes { CanGoOn code.now self.old.stack self.old.stack.top → 0 < self.old.stack.shadow.room → Becomes code.now self.old self.new (behind_direct code.now self.old.thread principal (thread_of code.now self.old)) }
         ensures rest { KeepsFuel self.old self.new }
     {
         self.stack.enter_wrapped(code, self.thread, principal);
@@ -156,12 +156,12 @@ impl Runner {
         }
     }
 
-    // What stands on top is behind an action.
-    fn end_action(&mut self, code: &Code)
-        ensures becomes { CanGoOn code.now self.old.stack self.old.stack.top → Becomes code.now self.old self.new (with_frames (after_action code.now self.old.thread (frames_of code.now self.old.stack.top self.old.stack.below)) (thread_of code.now self.old)) }
+    // What stands on top is behind the line that asked for an action.
+    fn end_line(&mut self, code: &Code)
+        ensures becomes { CanGoOn code.now self.old.stack self.old.stack.top → Becomes code.now self.old self.new (with_frames (behind_line code.now self.old.thread (frames_of code.now self.old.stack.top self.old.stack.below)) (thread_of code.now self.old)) }
         ensures rest { KeepsFuel self.old self.new }
     {
-        self.stack.end_action(code, self.thread);
+        self.stack.end_line(code, self.thread);
     }
 
     // The function has returned, and is left.
@@ -182,7 +182,7 @@ impl Runner {
         match what {
             What::Alloca { at, size } => self.take_stack_bytes(code, at, size),
             What::Enter { way, args } => self.answer_entry(code, &way, args, reply),
-            What::Perform { .. } => self.end_action(code),
+            What::Perform { .. } => self.end_line(code),
             What::Return { .. } => self.return_from_body(code),
             What::Load { .. }
             | What::Store { .. }

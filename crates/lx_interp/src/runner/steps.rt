@@ -5,7 +5,7 @@ ghost use Rattle.lx_model.specs.declared.request.What.TheVariants as what;
 ghost use Rattle.lx_model.specs.Thread.{first_fuel, has_call};
 ghost use Rattle.lx_images.specs.Image.{Code as Images, ImageAsking, ImageThread, Marks, image_next, start_step};
 ghost use Rattle.lx_images.specs.ImageWorld.{fresh_image_thread};
-ghost use Rattle.lx_frames.specs.Frames.{frames_of, marked_frame_step, place_on, running_on};
+ghost use Rattle.lx_frames.specs.Frames.{frames_of, line_on, marked_frame_step, running_on};
 ghost use Rattle.lx_interp.specs.Runner.{GoesOn, HasStayed, HasTaken, IsAsking, IsMarked, StandsFor, calls_left, events_left, events_of, found_in, instruction_in, instruction_on, marked_step, marks_in, poorer, request_of, steps_before, thread_of, wrapped_in};
 
 use super::Runner;
@@ -190,7 +190,7 @@ impl Runner {
     // A step of the function on top, or the start of a call where no frame is.
     fn run_or_start(&mut self, code: &Code) -> Result<(), Memory>
         requires request { self.old.request ≡ None }
-        requires place { place_on self.old.stack.top ≡ None }
+        requires line { line_on (frames_of code.now self.old.stack.top self.old.stack.below) ≡ None }
         requires marked { IsSome (running_on self.old.stack.top) → IsSome self.old.marks }
         requires work { IsTrue (has_call (calls_left self.old)) }
         ensures steps { OnOk result (HasTaken code.now self.old self.new (marked_frame_step code.now self.old.marks (thread_of code.now self.old) (frames_of code.now self.old.stack.top self.old.stack.below))) }
@@ -215,8 +215,8 @@ impl Runner {
         ensures stays { OnErr result (HasStayed code.now self.old self.new) }
         ensures spares { events_left self.new ≤ events_left self.old }
     {
-        match self.stack.place() {
-            Some(place) => self.go_on(code, place)?,
+        match self.stack.line(code) {
+            Some(line) => self.go_on(code, line)?,
             None => self.run_or_start(code)?,
         }
         Ok(())

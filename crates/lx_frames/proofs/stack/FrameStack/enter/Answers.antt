@@ -14,9 +14,9 @@ returns-then-entry c = λ enter room.
     let e = c.args.entry in
     let a = c.cross.ensures in
     let b = c.push_in_place.ensures in
-    subst (λ (x : Bool). Shows p c.stand_first.new.self (entered_frames p t x e.function c.args.args (frames_of p old.top old.below)) (shadow_with x e.principal old.shadow.principals)) (sym c.if-entry.true)
-    (crosses_into p t old c.cross.new.self c.push_in_place.new.self c.stand_first.new.self e.function c.args.args e.principal enter (a.principals room) a.top a.below a.registers
-    (b.frames p) b.top b.takes b.registers b.shadow c.stand_first.ensures.frames c.stand_first.ensures.shadow)
+    subst (λ (x : Bool). Shows p c.arrive.new.self (entered_frames p t x e.function c.args.args (frames_of p old.top old.below)) (shadow_with x e.principal old.shadow.principals)) (sym c.if-entry.true)
+    (crosses_into p t old c.cross.new.self c.push_in_place.new.self c.arrive.new.self e.function c.args.args c.entered_wrapper.result e.principal enter c.entered_wrapper.ensures (a.principals room) a.top a.below a.registers
+    (b.frames p) b.top b.takes b.registers b.shadow c.arrive.ensures.frames c.arrive.ensures.shadow)
 
 pub returns-else-entry : goal.returns-else-entry
 returns-else-entry c = λ enter room.

@@ -1,9 +1,9 @@
 use Rattle.std.proofs.Common.{Option, sym, ap, ◌∙◌, subst}
-use Rattle.lx_images.specs.Image.{behind_enter}
+use Rattle.lx_images.specs.Image.{behind_line}
 use Rattle.lx_frames.specs.declared.frame.Frame.{Frame as KeptFrame}
 use Rattle.lx_frames.specs.Frames.{Stack, frames_of}
-use Rattle.lx_frames.specs.Stack.{CanGoIn}
-use Rattle.lx_frames.proofs.Entering.{goes_in_same, line_is}
+use Rattle.lx_frames.specs.Stack.{CanGoOn}
+use Rattle.lx_frames.proofs.Entering.{goes_on_same}
 use Rattle.lx_frames.proofs.stack.FrameStack.enter_wrapped.Goals as goal
 
 pub returns : goal.returns
@@ -13,12 +13,11 @@ returns c = λ able room.
     let old = c.args.self.now in
     let a = c.cross.ensures in
     let mid = c.cross.new.self in
-    let ready = subst (CanGoIn p mid) (sym a.top) (goes_in_same p old mid old.top a.below a.registers able) in
+    let ready = subst (CanGoOn p mid) (sym a.top) (goes_on_same p old mid old.top a.below a.registers able) in
     record {
       frames =
-          c.stand_first.ensures.frames ready
-          ∙ line_is p t (frames_of p mid.top mid.below)
-          ∙ ap (λ (o : Option KeptFrame). behind_enter p t (frames_of p o mid.below)) a.top
-          ∙ ap (λ (s : Stack). behind_enter p t (frames_of p old.top s)) a.below;
-      principals = ap (λ s. s.principals) c.stand_first.ensures.shadow ∙ a.principals room;
+          c.end_line.ensures.frames ready
+          ∙ ap (λ (o : Option KeptFrame). behind_line p t (frames_of p o mid.below)) a.top
+          ∙ ap (λ (s : Stack). behind_line p t (frames_of p old.top s)) a.below;
+      principals = ap (λ s. s.principals) c.end_line.ensures.shadow ∙ a.principals room;
     }

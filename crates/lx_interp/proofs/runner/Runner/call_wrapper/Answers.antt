@@ -1,7 +1,7 @@
-use Rattle.std.proofs.lemmas.Result.{err_from_is_err_and}
-use Rattle.std.proofs.Common.{◌≡◌, false, refl, sym, ◌∙◌}
-use Rattle.lx_interp.specs.Runner.{poorer, thread_of}
-use Rattle.lx_interp.proofs.Takings.{roomier_stays, taken_as, wrapper_full}
+use Rattle.std.proofs.Common.{◌≡◌, true, false, sym, ap, ◌∙◌}
+use Rattle.lx_image_code.specs.Wrappers.{wrapper_lines}
+use Rattle.lx_interp.specs.Runner.{is_enter, poorer, thread_of}
+use Rattle.lx_interp.proofs.Takings.{taken_as, wrapper_asks, wrapper_full, wrapper_lost}
 use Rattle.lx_interp.proofs.runner.Runner.call_wrapper.Goals as goal
 
 pub returns-then-not-has_room-clause-steps : goal.returns-then-not-has_room-clause-steps
@@ -12,8 +12,22 @@ returns-then-not-has_room-clause-steps c =
     taken_as p old c.trap.new.self _ _
     (wrapper_full p (poorer (thread_of p old)) old.stack.top old.stack.below c.args.function c.requires.top (sym full ∙ c.has_room.ensures p)) (c.trap.ensures.stops p)
 
-pub returns-in_err-prepare_entry-clause-stays : goal.returns-in_err-prepare_entry-clause-stays
-returns-in_err-prepare_entry-clause-stays c =
+pub returns-then-not-is_enter-clause-steps : goal.returns-then-not-is_enter-clause-steps
+returns-then-not-is_enter-clause-steps c =
     let p = c.args.code.now in
-    let e = err_from_is_err_and c.from_residual-in_err-prepare_entry.result c.from_residual-in_err-prepare_entry.ensures.1 in
-    rw e.1 (roomier_stays p c.args.self.now (record c.args.self.now { stack = c.prepare_entry.new.self; room = c.self-1.given.0 }) c.requires.request refl refl refl refl refl refl refl (c.prepare_entry.ensures.rest p))
+    let old = c.args.self.now in
+    let free : c.has_room.result ≡ true = c.if-not-has_room.false in
+    let other : c.is_enter.result ≡ false = c.if-not-is_enter.true in
+    taken_as p old c.trap-then-not-is_enter.new.self _ _
+    (wrapper_lost p (poorer (thread_of p old)) old.stack.top old.stack.below c.args.function (wrapper_lines p c.called_wrapper-wrapper.result) c.requires.top (sym free ∙ c.has_room.ensures p) c.called_wrapper-wrapper.ensures
+    (sym (c.is_enter.ensures ∙ ap is_enter c.line.ensures) ∙ other)) (c.trap-then-not-is_enter.ensures.stops p)
+
+pub returns-clause-steps : goal.returns-clause-steps
+returns-clause-steps c =
+    let p = c.args.code.now in
+    let old = c.args.self.now in
+    let free : c.has_room.result ≡ true = c.if-not-has_room.false in
+    let first : c.is_enter.result ≡ true = c.if-not-is_enter.false in
+    taken_as p old c.call_entering.new.self _ _
+    (wrapper_asks p (poorer (thread_of p old)) old.stack.top old.stack.below c.args.function (wrapper_lines p c.called_wrapper-wrapper.result) c.requires.top (sym free ∙ c.has_room.ensures p) c.called_wrapper-wrapper.ensures
+    (sym (c.is_enter.ensures ∙ ap is_enter c.line.ensures) ∙ first)) c.in_ok-call_entering.ensures.steps

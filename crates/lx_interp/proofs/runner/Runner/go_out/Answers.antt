@@ -1,16 +1,24 @@
-use Rattle.std.proofs.Common.{true, sym, ap, ◌∙◌}
-use Rattle.lx_model.specs.Next.{has_action}
-use Rattle.lx_interp.proofs.Takings.{counted_behind, goes_to_action}
+use Rattle.std.proofs.Common.{List, map, sym, ap, ◌∙◌}
+use Rattle.lx_caps.specs.declared.Principal.{Principal}
+use Rattle.lx_images.specs.Image.{after_leaving, with_shadow}
+use Rattle.lx_frames.specs.Frames.{frame_of, value_on}
+use Rattle.lx_interp.specs.Runner.{is_ret, thread_of}
+use Rattle.lx_interp.proofs.Lines.{leaves_by, leaves_lost}
+use Rattle.lx_interp.proofs.Takings.{goes_to, taken_as}
 use Rattle.lx_interp.proofs.runner.Runner.go_out.Goals as goal
 
-pub returns-in_ok-perform-clause-steps : goal.returns-in_ok-perform-clause-steps
-returns-in_ok-perform-clause-steps c =
+pub returns-then-is_ret-clause-steps : goal.returns-then-is_ret-clause-steps
+returns-then-is_ret-clause-steps c =
     let p = c.args.code.now in
     let old = c.args.self.now in
-    let has =
-    sym c.if-has_action.true
-    ∙ c.has_action.ensures.has
-    ∙ ap (λ x. has_action x c.function.result true c.args.index) c.program_code.ensures
-    ∙ ap (λ n. has_action p.program n true c.args.index) c.function.ensures in
-    goes_to_action p old c.perform.new.self c.args.index c.args.value.now c.requires.place has
-    (c.in_ok-perform.ensures.steps p (counted_behind p old.stack old.stack.top c.args.index c.args.value.now c.requires.place (c.has_action.ensures.within c.if-has_action.true)))
+    let h = c.leave_wrapper.ensures in
+    let ret = sym (c.is_ret.ensures ∙ ap is_ret c.in_ok-behind.ensures) ∙ c.if-is_ret.true in
+    let popped = ap (λ (qs : List Principal). after_leaving (value_on old.stack.top) (map (frame_of p) old.stack.below.frames) (with_shadow qs (thread_of p old))) c.pop.ensures.rest in
+    goes_to p old c.leave_wrapper.new.self _ _ (leaves_by p (thread_of p old) old.stack.top old.stack.below c.requires.line ret) h.number h.calls h.ended h.marks (h.request ∙ c.requires.request) (h.state ∙ popped)
+
+pub returns-else-is_ret-clause-steps : goal.returns-else-is_ret-clause-steps
+returns-else-is_ret-clause-steps c =
+    let p = c.args.code.now in
+    let old = c.args.self.now in
+    let ret = sym (c.is_ret.ensures ∙ ap is_ret c.in_ok-behind.ensures) ∙ c.if-is_ret.false in
+    taken_as p old c.stop.new.self _ _ (leaves_lost p (thread_of p old) old.stack.top old.stack.below c.requires.line ret) (c.stop.ensures.stops p)
