@@ -1,25 +1,5 @@
 /* A tiny driver: a device with a table of operations, which its kernel calls. */
-typedef unsigned int u32;
-typedef unsigned long u64;
-
-struct device;
-
-struct device_ops {
-    int (*open)(struct device *device);
-    long (*write)(struct device *device, const char *bytes, u64 length);
-    void (*close)(struct device *device);
-};
-
-struct device {
-    const struct device_ops *ops;
-    u32 users;
-    u64 written;
-    char last[8];
-};
-
-extern void *kmalloc(u64 size);
-extern void kfree(void *block);
-extern int device_register(struct device *device);
+#include "../device.h"
 
 static int driver_open(struct device *device)
 {

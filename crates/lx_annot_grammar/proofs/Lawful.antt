@@ -37,7 +37,7 @@ use Rattle.lx_annot_terms.specs.Grammar.{IsItem}
 use Rattle.lx_annot_read.specs.declared.head.Version.{Version}
 use Rattle.lx_annot_read.specs.Interfaces.{iterator_names, slot_names, export_names, known_in, is_typed, with_reftype, with_iterator, with_slot, with_field, with_export, empty}
 use Rattle.lx_annot.specs.Lawful.{Nameable, Declared, IsLawfulAction, IsLawfulBehind, IsLawfulItem, IsLawfulIterator, IsLawfulPrincipal, IsLawfulCallable, IsLawfulSlot, IsLawfulExport, IsNamed, IsLawfulInterface, named_before, named_behind, result_type, types_of, declared_in, same_field}
-use Rattle.lx_annot_grammar.specs.Parts.{IsFurther, IsParam, IsParams, IsSignature, IsItems, Clause, Principal, Pre, Post, IsWho, IsClauses, principals, pres, posts, listed}
+use Rattle.lx_annot_grammar.specs.Parts.{IsFurther, IsParam, IsParams, IsSignature, IsItems, IsAnnotation, Clause, Principal, Pre, Post, IsWho, IsClauses, principals, pres, posts, listed}
 use Rattle.lx_annot_grammar.specs.Statements.{Statement, OfReftype, OfIterator, OfSlot, OfField, OfExport, IsFresh, IsCallable, IsStatement, with_statement, AreStatements, IsInterface}
 use Rattle.lx_annot_grammar.proofs.Named.{expr_named, action_named, no_lend, item_named, known_there}
 use Rattle.lx_annot_grammar.proofs.Grown.{Within, callable_grows, iterator_grows}
@@ -65,7 +65,7 @@ not_known (Some k) bytes name h = cc
 fresh_by : (names : List (List ℕ)) (bytes name : List ℕ) → (number_among names bytes ≡ None) × (bytes ≡ name) → list_any (bytes_eq name) names ≡ false
 fresh_by names bytes name (none, same) = subst (λ b. list_any (bytes_eq b) names ≡ false) same (absent (bytes_eq bytes) names none)
 
-fresh_differs : (names : List (List ℕ)) (kind : TokenKind) (bytes name : List ℕ) → fresh_of names kind bytes ≡ Some name → list_any (bytes_eq name) names ≡ false
+pub fresh_differs : (names : List (List ℕ)) (kind : TokenKind) (bytes name : List ℕ) → fresh_of names kind bytes ≡ Some name → list_any (bytes_eq name) names ≡ false
 fresh_differs names kinds.Word bytes name h = fresh_by names bytes name (not_known (number_among names bytes) bytes name h)
 fresh_differs names kinds.Local bytes name h = cc
 fresh_differs names kinds.Global bytes name h = cc
@@ -76,18 +76,18 @@ fresh_differs names kinds.Mark bytes name h = cc
 
 -- one name more, which differs from all before
 module _ {X : Type 0} (name : X → List ℕ) where
-  abbrev Differ : List X → Type 0
+  abbrev pub Differ : List X → Type 0
   Differ xs = IsDistinct bytes_eq (map name xs)
 
-  differs_more : (xs : List X) (x : X) → Differ xs → list_any (bytes_eq (name x)) (map name xs) ≡ false → Differ (xs ++ x ∷ [])
+  pub differs_more : (xs : List X) (x : X) → Differ xs → list_any (bytes_eq (name x)) (map name xs) ≡ false → Differ (xs ++ x ∷ [])
   differs_more xs x d h = subst (IsDistinct bytes_eq) (sym (map-append name xs (x ∷ []))) (IsDistinct-push bytes_same (map name xs) (name x) d h)
 
-fresh_more : {X : Type 0} (name : X → List ℕ) (xs : List X) (x : X) (ts : List Tok) → IsDistinct bytes_eq (map name xs) → IsFresh (map name xs) (name x) ts → IsDistinct bytes_eq (map name (xs ++ x ∷ []))
+pub fresh_more : {X : Type 0} (name : X → List ℕ) (xs : List X) (x : X) (ts : List Tok) → IsDistinct bytes_eq (map name xs) → IsFresh (map name xs) (name x) ts → IsDistinct bytes_eq (map name (xs ++ x ∷ []))
 fresh_more name xs x ts d (t, h, g) = differs_more name xs x d (fresh_differs (map name xs) t.kind t.bytes (name x) h)
 
 -- Parameters.
 
-abbrev param_name : Parameter → List ℕ
+abbrev pub param_name : Parameter → List ℕ
 param_name p = p.name
 
 param_more : (before : List Parameter) (p : Parameter) (ts : List Tok) → Differ param_name before → IsParam before p ts → Differ param_name (before ++ p ∷ [])
@@ -98,7 +98,7 @@ params_more before [] ts d e = subst (Differ param_name) (sym (append-nil before
 params_more before (p ∷ ps) ts d (f, b, comma, (f1, b1, is, more, w1), w) =
     subst (Differ param_name) (append_assoc before (p ∷ []) ps) (params_more (before ++ p ∷ []) ps b1 (param_more before p f1 d is) more)
 
-none_differ : Differ param_name []
+pub none_differ : Differ param_name []
 unfolding IsDistinct
 none_differ = tt
 
@@ -117,7 +117,7 @@ items_all p known before (x ∷ xs) ts (f, b, mark, (f1, b1, is, more, w1), w) =
     let k = item_named (scope_of_items p) known x f1 is in
     All-cons (IsLawfulItem (length known.reftypes)) x xs (record { condition = k.0; list = k.1 }) (items_all p known (before ++ x ∷ []) xs b1 more)
 
-items_lawful : (p : List ℕ) (known : Known) (items : List Item) (name : List ℕ) (line : ℕ) (ts : List Tok) → IsItems (scope_of_items p) known items ts → IsLawfulIterator (length known.reftypes) (record { name = name; items = items; line = line })
+pub items_lawful : (p : List ℕ) (known : Known) (items : List Item) (name : List ℕ) (line : ℕ) (ts : List Tok) → IsItems (scope_of_items p) known items ts → IsLawfulIterator (length known.reftypes) (record { name = name; items = items; line = line })
 items_lawful p known [] name line ts is = absurd is
 items_lawful p known (x ∷ xs) name line ts (le, (f, b, is, more, w)) =
     let k = item_named (scope_of_items p) known x f is in
@@ -129,7 +129,7 @@ items_lawful p known (x ∷ xs) name line ts (le, (f, b, is, more, w)) =
 
 -- Annotations.
 
-same_result : (t : Ty) → result_of t ≡ result_type t
+pub same_result : (t : Ty) → result_of t ≡ result_type t
 same_result ty.Void = refl
 same_result ty.Bool = refl
 same_result ty.I8 = refl
@@ -148,7 +148,7 @@ module _ (sig : Signature) (known : Known) where
   abbrev may_behind : Nameable
   may_behind = named_behind sig.params sig.ret
 
-  abbrev declared_there : Declared
+  abbrev pub declared_there : Declared
   declared_there = record { reftypes = length known.reftypes; iterators = length known.iterators }
 
   who_lawful : (w : Who) (ts : List Tok) → IsWho (scope_before sig) w ts → IsLawfulPrincipal may_before (Some w)
@@ -182,15 +182,19 @@ module _ (sig : Signature) (known : Known) where
   one_lawful None h = tt
   one_lawful (Some w) h = All-head (λ x. IsLawfulPrincipal may_before (Some x)) w [] h
 
-  callable_lawful : (a : Annotation) (ts : List Tok) → IsCallable known sig a ts → IsLawfulCallable declared_there sig.params sig.ret a
-  callable_lawful a ts (f, b, is, (cs, are, say), w) =
-      let k = clean cs b are in
+  -- clauses over parameters whose names differ
+  pub annotation_lawful : (a : Annotation) (ts : List Tok) → IsDistinct bytes_eq (map (λ (p : Parameter). p.name) sig.params) → IsAnnotation sig known a ts → IsLawfulCallable declared_there sig.params sig.ret a
+  annotation_lawful a ts differ (cs, are, say) =
+      let k = clean cs ts are in
       record {
-        names = signature_differs sig f is;
+        names = differ;
         principal = one_lawful a.principal (subst (All (λ w. IsLawfulPrincipal may_before (Some w))) say.principal k.principals_are);
         pre = subst (All (IsLawfulAction declared_there may_before)) say.pre k.pres_are;
         post = record { written = posts cs; lawful = k.posts_are; whole = sym say.post };
       }
+
+  callable_lawful : (a : Annotation) (ts : List Tok) → IsCallable known sig a ts → IsLawfulCallable declared_there sig.params sig.ret a
+  callable_lawful a ts (f, b, is, says, w) = annotation_lawful a b (signature_differs sig f is) says
 
 -- Fields.
 
@@ -221,13 +225,13 @@ fields_same = record {
   congr = λ x y z h. let k = field_means x y h in ap (λ n. (z.index == n) && bytes_eq z.name x.name) (sym k.0) ∙ ap (λ m. (z.index == y.index) && bytes_eq z.name m) (sym k.1);
 }
 
-abbrev iterator_name : CapIterator → List ℕ
+abbrev pub iterator_name : CapIterator → List ℕ
 iterator_name x = x.name
 
-abbrev slot_name : Slot → List ℕ
+abbrev pub slot_name : Slot → List ℕ
 slot_name x = x.name
 
-abbrev export_name : Export → List ℕ
+abbrev pub export_name : Export → List ℕ
 export_name x = x.name
 
 number_of_iterators : (i : Interface) → length (iterator_names i) ≡ length i.iterators
@@ -235,10 +239,10 @@ number_of_iterators i = length-map i.iterators iterator_name
 
 -- A statement keeps what is lawful.
 
-here_is : (i : Interface) (a : Annotation) (sig : Signature) → IsLawfulCallable (record { reftypes = length i.reftypes; iterators = length (iterator_names i) }) sig.params sig.ret a → IsLawfulCallable (declared_in i) sig.params sig.ret a
+pub here_is : (i : Interface) (a : Annotation) (sig : Signature) → IsLawfulCallable (record { reftypes = length i.reftypes; iterators = length (iterator_names i) }) sig.params sig.ret a → IsLawfulCallable (declared_in i) sig.params sig.ret a
 here_is i a sig is = subst (λ n. IsLawfulCallable (record { reftypes = length i.reftypes; iterators = n }) sig.params sig.ret a) (number_of_iterators i) is
 
-reftype_named : (i : Interface) (name : List ℕ) (ts : List Tok) → IsNamed i → IsFresh i.reftypes name ts → IsNamed (with_reftype i name)
+pub reftype_named : (i : Interface) (name : List ℕ) (ts : List Tok) → IsNamed i → IsFresh i.reftypes name ts → IsNamed (with_reftype i name)
 reftype_named i name ts n (t, h, g) =
     let more : length (i.reftypes ++ name ∷ []) ≡ length i.reftypes + 1 = length-append i.reftypes (name ∷ []) in
     let le : length i.reftypes ≤ length (i.reftypes ++ name ∷ []) = omega (arith, more) in
@@ -255,7 +259,7 @@ reftype_named i name ts n (t, h, g) =
       fields = n.fields;
     }
 
-iterator_named : (i : Interface) (x : CapIterator) (ts : List Tok) → IsNamed i → IsFresh (iterator_names i) x.name ts → IsLawfulIterator (length i.reftypes) x → IsNamed (with_iterator i x)
+pub iterator_named : (i : Interface) (x : CapIterator) (ts : List Tok) → IsNamed i → IsFresh (iterator_names i) x.name ts → IsLawfulIterator (length i.reftypes) x → IsNamed (with_iterator i x)
 iterator_named i x ts n fresh is =
     let more : length (i.iterators ++ x ∷ []) ≡ length i.iterators + 1 = length-append i.iterators (x ∷ []) in
     let within : Within (declared_in i) (declared_in (with_iterator i x)) = record { reftypes = omega arith; iterators = omega (arith, more) } in
@@ -271,7 +275,7 @@ iterator_named i x ts n fresh is =
       fields = n.fields;
     }
 
-slot_named : (i : Interface) (x : Slot) (ts : List Tok) → IsNamed i → IsFresh (slot_names i) x.name ts → IsLawfulSlot (declared_in i) x → IsNamed (with_slot i x)
+pub slot_named : (i : Interface) (x : Slot) (ts : List Tok) → IsNamed i → IsFresh (slot_names i) x.name ts → IsLawfulSlot (declared_in i) x → IsNamed (with_slot i x)
 slot_named i x ts n fresh is =
     let more : length (i.slots ++ x ∷ []) ≡ length i.slots + 1 = length-append i.slots (x ∷ []) in
     record {
@@ -286,7 +290,7 @@ slot_named i x ts n fresh is =
       fields = All-weaker (λ (f : Field). f.slot < length i.slots) (λ (f : Field). f.slot < length (i.slots ++ x ∷ [])) (λ f lt. omega (arith, lt, more)) i.fields n.fields;
     }
 
-export_named : (i : Interface) (x : Export) (ts : List Tok) → IsNamed i → IsFresh (export_names i) x.name ts → IsLawfulExport (declared_in i) x → IsNamed (with_export i x)
+pub export_named : (i : Interface) (x : Export) (ts : List Tok) → IsNamed i → IsFresh (export_names i) x.name ts → IsLawfulExport (declared_in i) x → IsNamed (with_export i x)
 export_named i x ts n fresh is = record {
   reftypes = n.reftypes;
   iterator_names = n.iterator_names;
@@ -299,7 +303,7 @@ export_named i x ts n fresh is = record {
   fields = n.fields;
 }
 
-field_named : (i : Interface) (x : Field) → IsNamed i → is_typed i x.name x.index ≡ false → x.slot < length i.slots → IsNamed (with_field i x)
+pub field_named : (i : Interface) (x : Field) → IsNamed i → is_typed i x.name x.index ≡ false → x.slot < length i.slots → IsNamed (with_field i x)
 field_named i x n new lt = record {
   reftypes = n.reftypes;
   iterator_names = n.iterator_names;
@@ -330,7 +334,7 @@ all_named text v i j [] tokens n (same, e) = subst IsNamed same n
 all_named text v i j (s ∷ ss) tokens n (front, back, stands, are, e) =
     all_named text v (with_statement i s) j ss back (statement_named v i s (toks_of text front) n stands.is) are
 
-none_named : IsNamed empty
+pub none_named : IsNamed empty
 unfolding IsDistinct
 none_named = record {
   reftypes = tt;
@@ -344,7 +348,7 @@ none_named = record {
   fields = All-nil (λ (f : Field). f.slot < 0);
 }
 
-below : (count : ℕ) (body tokens size most : ℕ) → count ≤ 0 + body → body ≤ tokens → tokens ≤ size → size < most → count < most
+pub below : (count : ℕ) (body tokens size most : ℕ) → count ≤ 0 + body → body ≤ tokens → tokens ≤ size → size < most → count < most
 below count body tokens size most a b c d = omega (arith, a, b, c, d)
 
 -- every interface of the grammar is lawful

@@ -51,7 +51,7 @@ items_then scope known items ts us (f, b, is, (t, h, g), w) =
     let end : next_at (codes "}") (t ∷ us) ≡ Ok (tt, us) = next_reads (codes "}") (t ∷ []) us (t, h, refl) in
     ap (items_closed scope known) whole ∙ ap closed_items all ∙ mapped_is (λ (e : Unit {0}). items) (next_at (codes "}") (t ∷ us)) tt us end
 
-body_read : (known : Known) (items : List Item) → Reads (iterator_body_at known) items (IsIteratorBody known items)
+pub body_read : (known : Known) (items : List Item) → Reads (iterator_body_at known) items (IsIteratorBody known items)
 unfolding iterator_body_at
 body_read known items ts us (p, is) =
     bind_reads (next_at (codes "(")) (λ o. param_name_at [] o.1 >>= λ p. next_at (codes ")") p.1 >>= λ c. next_at (codes "{") c.1 >>= λ b. items_closed (scope_of_items p.0) known b.1) tt items _ _ (next_reads (codes "("))
@@ -67,7 +67,7 @@ body_part : (known : Known) (items : List Item) (ts : List Tok) → BodyParts kn
 body_part known items ts (o, (f, b, po, (p, (f1, b1, pp, (c, (f2, b2, pc, (d, (f3, b3, pd, (x, (f4, b4, px, (e, pe, eq), w4)), w3)), w2)), w1)), w)) =
     subst (λ z. IsIteratorBody known z ts) eq (p, (f, b, po, (f1, b1, pp, (f2, b2, pc, (f3, b3, pd, (f4, b4, px, pe, w4), w3), w2), w1), w))
 
-body_found : (known : Known) → Finds (iterator_body_at known) (IsIteratorBody known)
+pub body_found : (known : Known) → Finds (iterator_body_at known) (IsIteratorBody known)
 unfolding iterator_body_at
 body_found known ts us items r =
     let m = bind_finds (next_at (codes "(")) (λ o. param_name_at [] o.1 >>= λ p. next_at (codes ")") p.1 >>= λ c. next_at (codes "{") c.1 >>= λ b. items_closed (scope_of_items p.0) known b.1) (λ (o : Unit {0}). Is (codes "(")) _ (next_finds (codes "("))

@@ -27,22 +27,22 @@ use Rattle.lx_annot_grammar.proofs.StatementLaws.{statement_read, statement_foun
 
 -- Answers.
 
-abbrev Answer : Type 0 → Type 0
+abbrev pub Answer : Type 0 → Type 0
 Answer A = Result A Met
 
-and_ok : {A B : Type 0} (r : Answer A) (f : A → Answer B) (y : B) → (r and_then f) ≡ Ok y → (x : A) × (r ≡ Ok x) × (f x ≡ Ok y)
+pub and_ok : {A B : Type 0} (r : Answer A) (f : A → Answer B) (y : B) → (r and_then f) ≡ Ok y → (x : A) × (r ≡ Ok x) × (f x ≡ Ok y)
 and_ok (Ok x) f y e = (x, refl, e)
 and_ok (Err d) f y e = cc
 
-ok_same : {A : Type 0} (x y : A) (r : Answer A) → r ≡ Ok x → r ≡ Ok y → x ≡ y
+pub ok_same : {A : Type 0} (x y : A) (r : Answer A) → r ≡ Ok x → r ≡ Ok y → x ≡ y
 ok_same x y (Ok z) p q = let a : z ≡ x = cc in let b : z ≡ y = cc in sym a ∙ b
 ok_same x y (Err d) p q = cc
 
-err_same : {A : Type 0} (d e : Met) (r : Answer A) → r ≡ Err d → r ≡ Err e → d ≡ e
+pub err_same : {A : Type 0} (d e : Met) (r : Answer A) → r ≡ Err d → r ≡ Err e → d ≡ e
 err_same d e (Ok z) p q = cc
 err_same d e (Err f) p q = let a : f ≡ d = cc in let b : f ≡ e = cc in sym a ∙ b
 
-apart : {A : Type 0} (x : A) (d : Met) (r : Answer A) → r ≡ Ok x → r ≡ Err d → ⊥
+pub apart : {A : Type 0} (x : A) (d : Met) (r : Answer A) → r ≡ Ok x → r ≡ Err d → ⊥
 apart x d (Ok z) p q = cc
 apart x d (Err f) p q = cc
 
@@ -56,11 +56,11 @@ front_window (suc n) (t ∷ front) back le =
     ap (λ y. t ∷ y) (front_window n front back (omega (arith, le))) ∙ ap (λ k. t ∷ (front ++ take k back)) e
 
 module _ (text : List ℕ) (stop : Option Stop) where
-  abbrev room : List Token → ℕ
+  abbrev pub room : List Token → ℕ
   room front = most_tokens - length front
 
   -- what stands behind a front, as far as it is looked at
-  abbrev further : List Token → List Token → List Tok
+  abbrev pub further : List Token → List Token → List Tok
   further front back = toks_of text (take (room front) back)
 
   seen_front : (front back : List Token) → length front ≤ most_tokens → seen text (front ++ back) ≡ toks_of text front ++ further front back
@@ -75,24 +75,24 @@ module _ (text : List ℕ) (stop : Option Stop) where
       ap (λ k. drop k (front ++ back)) d ∙ drop_at front back (length front) refl
 
   -- what is read of a front of the tokens leaves those behind it
-  limited_read : {A : Type 0} (read : List Tok → Read A) (x : A) (front back : List Token) → length front ≤ most_tokens → read (toks_of text front ++ further front back) ≡ Ok (x, further front back) → limited text stop (front ++ back) (read (seen text (front ++ back))) ≡ Ok (x, back)
+  pub limited_read : {A : Type 0} (read : List Tok → Read A) (x : A) (front back : List Token) → length front ≤ most_tokens → read (toks_of text front ++ further front back) ≡ Ok (x, further front back) → limited text stop (front ++ back) (read (seen text (front ++ back))) ≡ Ok (x, back)
   limited_read read x front back le e =
       ap (λ ts. limited text stop (front ++ back) (read ts)) (seen_front front back le) ∙ ap (limited text stop (front ++ back)) e ∙ ap (λ r. Ok (x, r)) (rest_front front back le)
 
-  limited_ok : {A : Type 0} (tokens : List Token) (x : A) (rest : List Token) (r : Read A) → limited text stop tokens r ≡ Ok (x, rest) → (us : List Tok) × (r ≡ Ok (x, us)) × (rest_behind tokens us ≡ rest)
+  pub limited_ok : {A : Type 0} (tokens : List Token) (x : A) (rest : List Token) (r : Read A) → limited text stop tokens r ≡ Ok (x, rest) → (us : List Tok) × (r ≡ Ok (x, us)) × (rest_behind tokens us ≡ rest)
   limited_ok {A} tokens x rest (Ok p) e =
       let k = ok_same {A = A × List Token} (p.0, rest_behind tokens p.1) (x, rest) (Ok (p.0, rest_behind tokens p.1)) refl e in
       (p.1, ap (λ (q : A × List Token). Ok (q.0, p.1)) k, ap (λ (q : A × List Token). q.1) k)
   limited_ok tokens x rest (Err f) e = cc
 
   -- a front of the tokens that is this
-  record Front (part : Part) (tokens rest : List Token) : Type 0 where
-    front : List Token
-    short : length front ≤ most_tokens
-    is : part (toks_of text front)
-    whole : tokens ≡ front ++ rest
+  pub record Front (part : Part) (tokens rest : List Token) : Type 0 where
+    pub front : List Token
+    pub short : length front ≤ most_tokens
+    pub is : part (toks_of text front)
+    pub whole : tokens ≡ front ++ rest
 
-  front_found : (part : Part) (tokens : List Token) (us ts : List Tok) → part ts → seen text tokens ≡ ts ++ us → Front part tokens (rest_behind tokens us)
+  pub front_found : (part : Part) (tokens : List Token) (us ts : List Tok) → part ts → seen text tokens ≡ ts ++ us → Front part tokens (rest_behind tokens us)
   front_found part tokens us ts p e =
       let a : length (seen text tokens) ≡ length (window tokens) = length-map (window tokens) (tok_of text) in
       let b : length (seen text tokens) ≡ length ts + length us = ap length e ∙ length-append ts us in

@@ -3,3 +3,4 @@ pub mod Bodies
 pub mod Places
 pub mod TokensSay
 pub mod Windows
+pub mod Tabled

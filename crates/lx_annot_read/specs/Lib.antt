@@ -6,3 +6,4 @@ pub mod Faults
 pub mod Texts
 pub mod Aside
 pub mod Draft
+pub mod Parts

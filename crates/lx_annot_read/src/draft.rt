@@ -44,7 +44,7 @@ pub struct Callable {
 }
 
 /// The parameter of an iterator.
-fn param_of_items(alloc: Global, name: &[u8]) -> Result<Parameter, Memory>
+pub fn param_of_items(alloc: Global, name: &[u8]) -> Result<Parameter, Memory>
     ensures { IfOk result (λ p. p ≡ record { name = name.now; ty = Ty.Ptr }) }
 {
     let name = Name::from_bytes(alloc, name)?;
@@ -53,7 +53,7 @@ fn param_of_items(alloc: Global, name: &[u8]) -> Result<Parameter, Memory>
 
 /// The items of an iterator behind its name.
 #[tactic(auto, unfolding(crate::specs::Interfaces::iterator_body_at))]
-fn iterator_body(
+pub fn read_iterator_body(
     alloc: Global,
     known: &Known<'_>,
     reader: &mut Reader<'_>,
@@ -105,7 +105,7 @@ fn struct_name<'a>(reader: &mut Reader<'a>) -> Result<&'a [u8], ReadError>
 }
 
 /// What actions may use in a text of this version.
-fn known<'k>(
+pub fn known<'k>(
     version: Version,
     reftypes: &'k NameTable<'_>,
     iterators: &'k NameTable<'_>,
@@ -120,7 +120,7 @@ fn known<'k>(
 }
 
 /// The interface that declares nothing.
-fn empty(alloc: Global) -> Interface
+pub fn empty_interface(alloc: Global) -> Interface
     ensures { result ≡ empty }
 {
     Interface {
@@ -141,7 +141,7 @@ impl<'a> Draft<'a> {
     {
         Draft {
             version,
-            interface: empty(alloc),
+            interface: empty_interface(alloc),
             reftypes: NameTable::new(alloc),
             iterators: NameTable::new(alloc),
             slots: NameTable::new(alloc),
@@ -182,7 +182,7 @@ impl<'a> Draft<'a> {
     {
         let name = reader.fresh(&self.iterators)?;
         let known = known(self.version, &self.reftypes, &self.iterators);
-        let items = iterator_body(alloc, &known, reader)?;
+        let items = read_iterator_body(alloc, &known, reader)?;
         let owned = Name::from_bytes(alloc, name)?;
         self.iterators.add(name)?;
         let iterator = CapIterator {

@@ -185,7 +185,7 @@ fn last_line(tokens: &[Token]) -> u32
 }
 
 /// The fault where the tokens end.
-fn met_at_end(alloc: Global, tokens: &[Token], stop: Option<Stop>) -> Failure
+pub fn met_at_end(alloc: Global, tokens: &[Token], stop: Option<Stop>) -> Failure
     ensures { IsError (met_at_end tokens.now stop) result }
 {
     match stop {

@@ -18,9 +18,12 @@
 mod draft;
 mod fault;
 mod head;
+mod parts;
 mod said;
 mod text;
 mod typed;
 
-pub use fault::InterfaceFault;
-pub use text::{read_interface, tokens_say_all};
+pub use draft::{empty_interface, read_iterator_body};
+pub use fault::{Failure, InterfaceFault, Kind, Met, lexical, met_at_end};
+pub use parts::{Clauses, Items, Scope, clauses_at, items_at};
+pub use text::{behind, failed, read_interface, tokens_say_all, window};

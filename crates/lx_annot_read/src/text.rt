@@ -19,7 +19,7 @@ use std::alloc::Global;
 
 /// The tokens that a statement may have.
 #[tactic(auto, using(crate::proofs::Windows::all_taken, crate::proofs::Windows::within_window))]
-fn window<'a>(text: &[u8], tokens: &'a [Token]) -> &'a [Token]
+pub fn window<'a>(text: &[u8], tokens: &'a [Token]) -> &'a [Token]
     requires { All (IsWithin text.now) tokens.now }
     ensures is { result.now ≡ window tokens.now }
     ensures within { All (IsWithin text.now) result.now }
@@ -34,7 +34,7 @@ fn window<'a>(text: &[u8], tokens: &'a [Token]) -> &'a [Token]
 }
 
 /// What is met where reading the next tokens fails.
-fn failed(
+pub fn failed(
     alloc: Global,
     text: &[u8],
     stop: Option<Stop>,
@@ -55,7 +55,7 @@ fn failed(
 
 /// The tokens behind the first `count`.
 #[tactic(auto, using(crate::proofs::Windows::within_rest))]
-fn behind<'a>(text: &[u8], tokens: &'a [Token], count: usize) -> &'a [Token]
+pub fn behind<'a>(text: &[u8], tokens: &'a [Token], count: usize) -> &'a [Token]
     requires within { All (IsWithin text.now) tokens.now }
     requires room { count ≤ length tokens.now }
     ensures rest { result.now ≡ drop count tokens.now }

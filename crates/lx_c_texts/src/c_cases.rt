@@ -93,6 +93,77 @@ owns driver.shared call 0x100f0
 owns driver.shared call 0x10100
 owns driver.shared call 0x10110
 owns driver.shared call 0x10120
+---- file examples/device.case
+lxfi case 1
+kernel file examples/driver_kernel.ll
+interface file examples/device.txt
+module driver examples/c/driver.ll
+thread
+call driver:driver_init fuel 1000
+call driver:driver_init fuel 1000
+call kernel:do_open fuel 1000
+call kernel:do_open fuel 1000
+call kernel:users fuel 1000
+call kernel:do_write 12 fuel 1000
+call kernel:last fuel 1000
+call kernel:do_write 3 fuel 1000
+call kernel:last fuel 1000
+call kernel:written fuel 1000
+call kernel:do_close fuel 1000
+call kernel:users fuel 1000
+call kernel:written fuel 1000
+call kernel:do_close fuel 1000
+call kernel:users fuel 1000
+call kernel:written fuel 1000
+call kernel:do_close fuel 1000
+call kernel:users fuel 1000
+---- file examples/device.txt
+lxfi_c 1
+// device.h, by tools/module --prototypes
+// device.h:18
+struct device_ops {
+    int (*open)(struct device *device);
+    long (*write)(struct device *device, const char *bytes, unsigned long length);
+    void (*close)(struct device *device);
+};
+// device.h:33
+void *kmalloc(unsigned long size) post(if (return != 0) transfer(write, return, size));
+// device.h:34
+void kfree(void *block) pre(transfer(write, block, 32));
+// device.h:36
+int device_register(struct device *device);
+---- words run examples/device.case
+---- run examples/device.case
+---- whole
+status 0
+schedule 0*364
+call 0.0 driver:driver_init returned 0
+call 0.1 driver:driver_init returned -16
+call 0.2 kernel:do_open returned 0
+call 0.3 kernel:do_open returned 0
+call 0.4 kernel:users returned 2
+call 0.5 kernel:do_write returned 12
+call 0.6 kernel:last returned 8583909746705986159
+call 0.7 kernel:do_write returned 3
+call 0.8 kernel:last returned 8583909746705982824
+call 0.9 kernel:written returned 15
+call 0.10 kernel:do_close returned
+call 0.11 kernel:users returned 1
+call 0.12 kernel:written returned 15
+call 0.13 kernel:do_close returned
+call 0.14 kernel:users returned 0
+call 0.15 kernel:written returned 0
+call 0.16 kernel:do_close returned
+call 0.17 kernel:users returned 0
+image driver guards 19 checks 0 wrappers 6
+owns driver.shared write 0x2000000+32
+owns driver.shared call 0x10060
+owns driver.shared call 0x10070
+owns driver.shared call 0x10080
+owns driver.shared call 0x100f0
+owns driver.shared call 0x10100
+owns driver.shared call 0x10110
+owns driver.shared call 0x10120
 ---- file examples/manual/c_read.case
 lxfi case 1
 kernel none

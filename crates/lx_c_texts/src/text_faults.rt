@@ -497,5 +497,193 @@ export f : void (ptr p) pre(copy(write, p))
 ---- whole
 status 3
 i.txt:2: interface 5 write
+---- file i.txt
+lxfi_c 1
+int f(void); # x
+---- words run x.case
+---- i.txt:2: cproto 1 0x23
+---- whole
+status 3
+i.txt:2: cproto 1 0x23
+---- file i.txt
+lxfi_c 1
+int f(void); /* x
+---- words run x.case
+---- i.txt:2: cproto 1 0x2f
+---- whole
+status 3
+i.txt:2: cproto 1 0x2f
+---- file i.txt
+lxfi_c 1
+void f(char a[4]);
+---- words run x.case
+---- i.txt:2: cproto 1 0x5b
+---- whole
+status 3
+i.txt:2: cproto 1 0x5b
+---- file i.txt
+lxfi_c 1
+int f(void)
+---- words run x.case
+---- i.txt:2: cproto 2 end
+---- whole
+status 3
+i.txt:2: cproto 2 end
+---- file i.txt
+lxfi_c 1
+int f(int);
+---- words run x.case
+---- i.txt:2: cproto 2 )
+---- whole
+status 3
+i.txt:2: cproto 2 )
+---- file i.txt
+lxfi_c 1
+int f();
+---- words run x.case
+---- i.txt:2: cproto 2 )
+---- whole
+status 3
+i.txt:2: cproto 2 )
+---- file i.txt
+lxfi_c 1
+int f(int shared);
+---- words run x.case
+---- i.txt:2: cproto 2 shared
+---- whole
+status 3
+i.txt:2: cproto 2 shared
+---- file i.txt
+lxfi_c 1
+int f(int a, ...);
+---- words run x.case
+---- i.txt:2: cproto 2 ...
+---- whole
+status 3
+i.txt:2: cproto 2 ...
+---- file i.txt
+lxfi_c 1
+u64 f(void);
+---- words run x.case
+---- i.txt:2: cproto 2 u64
+---- whole
+status 3
+i.txt:2: cproto 2 u64
+---- file i.txt
+lxfi_c 1
+long int f(void);
+---- words run x.case
+---- i.txt:2: cproto 2 f
+---- whole
+status 3
+i.txt:2: cproto 2 f
+---- file i.txt
+lxfi_c 1
+int f(struct s a);
+---- words run x.case
+---- i.txt:2: cproto 2 a
+---- whole
+status 3
+i.txt:2: cproto 2 a
+---- file i.txt
+lxfi_c 1
+struct s { void a; };
+---- words run x.case
+---- i.txt:2: cproto 2 a
+---- whole
+status 3
+i.txt:2: cproto 2 a
+---- file i.txt
+lxfi_c 1
+struct s { struct t { int a; }; };
+---- words run x.case
+---- i.txt:2: cproto 2 {
+---- whole
+status 3
+i.txt:2: cproto 2 {
+---- file i.txt
+lxfi_c 1
+struct s { int a;
+---- words run x.case
+---- i.txt:2: cproto 2 end
+---- whole
+status 3
+i.txt:2: cproto 2 end
+---- file i.txt
+lxfi_c 1
+iterator i(p) { call p };
+---- words run x.case
+---- i.txt:2: cproto 2 ;
+---- whole
+status 3
+i.txt:2: cproto 2 ;
+---- file i.txt
+lxfi_c 1
+void f(void *p) pre(check(ref(d), p));
+reftype d;
+---- words run x.case
+---- i.txt:2: cproto 3 d
+---- whole
+status 3
+i.txt:2: cproto 3 d
+---- file i.txt
+lxfi_c 1
+void f(void) post(copy(call, return));
+---- words run x.case
+---- i.txt:2: cproto 3 return
+---- whole
+status 3
+i.txt:2: cproto 3 return
+---- file i.txt
+lxfi_c 1
+int f(void);
+int f(void);
+---- words run x.case
+---- i.txt:3: cproto 4 f
+---- whole
+status 3
+i.txt:3: cproto 4 f
+---- file i.txt
+lxfi_c 1
+struct s { };
+struct s { };
+---- words run x.case
+---- i.txt:3: cproto 4 s
+---- whole
+status 3
+i.txt:3: cproto 4 s
+---- file i.txt
+lxfi_c 1
+struct s { int a;
+long a; };
+---- words run x.case
+---- i.txt:3: cproto 4 a
+---- whole
+status 3
+i.txt:3: cproto 4 a
+---- file i.txt
+lxfi_c 1
+struct s { int (*f)(void); };
+struct t { int (*f)(void); };
+---- words run x.case
+---- i.txt:3: cproto 4 f
+---- whole
+status 3
+i.txt:3: cproto 4 f
+---- file i.txt
+lxfi_c 1
+void f(void *p) pre(copy(write, p));
+---- words run x.case
+---- i.txt:2: cproto 5 write
+---- whole
+status 3
+i.txt:2: cproto 5 write
+---- file i.txt
+lxfi_c 2
+---- words run x.case
+---- i.txt:1: interface 2 lxfi_c
+---- whole
+status 3
+i.txt:1: interface 2 lxfi_c
 "#
 }

@@ -7,3 +7,4 @@ pub mod Parts
 pub mod Listed
 pub mod Settled
 pub mod OneInput
+pub mod Dialects

@@ -25,7 +25,8 @@ use Rattle.lx_files.specs.declared.line.FaultLine.{FaultLine}
 use Rattle.lx_files.specs.declared.sources.ImageFile.{ImageFile}
 use Rattle.lx_files.specs.declared.sources.Sources.{Sources}
 use Rattle.lx_files.specs.Asked.{Asked}
-use Rattle.lx_files.specs.Faults.{script_line, module_line, interface_line}
+use Rattle.lx_files.specs.Faults.{script_line, module_line}
+use Rattle.lx_files.specs.Dialects.{SaysEither, FirstEither, either_line}
 use Rattle.lx_files.specs.Turns.{Asks, Reads, Tells, Then, Gives}
 use Rattle.lx_files.specs.Inputs.{NumberTurn, WordTurn, ModuleTurn, KernelTurn, InterfaceTurn, ModulesTurn, Before, ScheduleFileTurn, ScheduleTurn, ImageFileTurn, NamedImageTurn, ImageTurn, CaseTurn, BehindCase, BehindWord, BehindKernel, BehindInterface, BehindModules, BehindSchedule, SourcesTurn, sources, module_named, lacks_line, no_module, no_interface, builtin}
 use Rattle.lx_files.specs.Laws.{IsSure, IsOne, EndsAt}
@@ -83,7 +84,7 @@ none_some a e = absurd (cc e)
 -- the turns of a command
 
 module _ (case_sure : IsSure SaysCase FirstCaseFault) (module_sure : IsSure (SaysModule Program) (FirstFault Program)) (image_sure : IsSure (SaysModule Image) (FirstFault Image))
-    (interface_sure : IsSure SaysInterface FirstInterfaceFault) (schedule_sure : IsSure SaysSchedule FirstScheduleFault) (files : List FileText) where
+    (interface_sure : IsSure SaysEither FirstEither) (schedule_sure : IsSure SaysSchedule FirstScheduleFault) (files : List FileText) where
   module_one : (name : List ℕ) → IsOne (ModuleTurn files name)
   module_one name = file_one (SaysModule Program) (FirstFault Program) module_sure (module_line name) files name
 
@@ -102,13 +103,13 @@ module _ (case_sure : IsSure SaysCase FirstCaseFault) (module_sure : IsSure (Say
 
   interface_one : (origin : Origin) → IsOne (InterfaceTurn files origin)
   interface_one origins.None = gives_one no_interface
-  interface_one origins.Builtin = text_one SaysInterface FirstInterfaceFault interface_sure (interface_line builtin) interface_text
-  interface_one (origins.File name) = file_one SaysInterface FirstInterfaceFault interface_sure (interface_line name) files name
+  interface_one origins.Builtin = text_one SaysEither FirstEither interface_sure (either_line builtin) interface_text
+  interface_one (origins.File name) = file_one SaysEither FirstEither interface_sure (either_line name) files name
 
   interface_ends : (origin : Origin) → EndsAt files (InterfaceTurn files origin)
   interface_ends origins.None = gives_ends files no_interface
-  interface_ends origins.Builtin = reads_ends SaysInterface (Tells FirstInterfaceFault (interface_line builtin)) interface_text files
-  interface_ends (origins.File name) = file_ends SaysInterface FirstInterfaceFault interface_sure (interface_line name) files name
+  interface_ends origins.Builtin = reads_ends SaysEither (Tells FirstEither (either_line builtin)) interface_text files
+  interface_ends (origins.File name) = file_ends SaysEither FirstEither interface_sure (either_line name) files name
 
   modules_one : (ms : List CaseModule) → IsOne (ModulesTurn files ms)
   modules_one [] = gives_one []

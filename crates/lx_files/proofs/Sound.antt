@@ -12,6 +12,8 @@ use Rattle.lx_annot.specs.declared.interface.Interface.{Interface}
 use Rattle.lx_annot_read.specs.Texts.{SaysInterface}
 use Rattle.lx_annot.specs.Lawful.{IsLawfulInterface}
 use Rattle.lx_annot_grammar.specs.LawfulLaws.{ReadIsLawful as ReadInterfaceIsLawful}
+use Rattle.lx_cproto.specs.Texts.{SaysPrototypes}
+use Rattle.lx_cproto_grammar.specs.Laws.{ReadIsLawful as ReadPrototypesAreLawful}
 use Rattle.lx_files.specs.Inputs.{no_module, no_interface}
 use Rattle.lx_files.specs.Sound.{IsSoundModule}
 use Rattle.lx_files.specs.Turns.{most_bytes}
@@ -26,6 +28,11 @@ image_lawful lawful text x within says = let short : length text + 1 < 2 ^ 32 = 
 
 pub interface_lawful : ReadInterfaceIsLawful → (text : List ℕ) (i : Interface) → length text ≤ most_bytes → SaysInterface text i → IsLawfulInterface i
 interface_lawful lawful text i within says =
+    let short : length text < 2 ^ 32 = omega (arith, within) in
+    lawful text i short says
+
+pub prototypes_lawful : ReadPrototypesAreLawful → (text : List ℕ) (i : Interface) → length text ≤ most_bytes → SaysPrototypes text i → IsLawfulInterface i
+prototypes_lawful lawful text i within says =
     let short : length text < 2 ^ 32 = omega (arith, within) in
     lawful text i short says
 

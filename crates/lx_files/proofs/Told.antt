@@ -11,14 +11,16 @@ use Rattle.lx_ir_faults.specs.declared.fault.ReadFault.TheVariants as modules
 use Rattle.lx_ir_read.specs.Reading.{ModuleFails, FirstFault}
 use Rattle.lx_annot_read.specs.declared.fault.InterfaceFault.{InterfaceFault}
 use Rattle.lx_annot_read.specs.declared.fault.InterfaceFault.TheVariants as interfaces
-use Rattle.lx_annot_read.specs.Texts.{InterfaceFails, FirstInterfaceFault}
+use Rattle.lx_annot_read.specs.Texts.{SaysInterface, InterfaceFails, FirstInterfaceFault}
+use Rattle.lx_cproto.specs.Texts.{SaysPrototypes, PrototypesFail, FirstPrototypeFault}
 use Rattle.lx_files.specs.declared.line.FaultKind.{FaultKind}
 use Rattle.lx_files.specs.declared.line.FaultKind.TheVariants as kinds
 use Rattle.lx_files.specs.declared.line.FaultLine.{FaultLine}
 use Rattle.lx_files.specs.declared.stop.InputStop.{InputStop}
 use Rattle.lx_files.specs.declared.stop.InputStop.TheVariants as stops
 use Rattle.lx_files.specs.Faults.{IsTold, script_line, module_line, interface_line}
-use Rattle.lx_files.specs.Inputs.{ReadsCase, ReadsModule, ReadsImage, ReadsInterface, ReadsSchedule}
+use Rattle.lx_files.specs.Turns.{Reads, Tells}
+use Rattle.lx_files.specs.Inputs.{ReadsCase, ReadsModule, ReadsImage, ReadsSchedule}
 
 -- a fault that has a line is not want of memory
 
@@ -48,13 +50,21 @@ module_first form text file (modules.OutOfProfile line what) f fails is = fails
 module_first form text file (modules.Twice line what) f fails is = fails
 module_first form text file (modules.Unknown line what) f fails is = fails
 
-interface_first : (text file : List ℕ) (e : InterfaceFault) (f : FaultLine) → InterfaceFails text e → interface_line file e ≡ Some f → FirstInterfaceFault text e
-interface_first text file interfaces.Memory f fails is = absurd (cc)
-interface_first text file (interfaces.Lexical line what) f fails is = fails
-interface_first text file (interfaces.Statement line what) f fails is = fails
-interface_first text file (interfaces.Unknown line what) f fails is = fails
-interface_first text file (interfaces.Twice line what) f fails is = fails
-interface_first text file (interfaces.NeedsSize line what) f fails is = fails
+interface_first : (text : List ℕ) (kind : FaultKind) (file : List ℕ) (e : InterfaceFault) (f : FaultLine) → InterfaceFails text e → interface_line kind file e ≡ Some f → FirstInterfaceFault text e
+interface_first text kind file interfaces.Memory f fails is = absurd (cc)
+interface_first text kind file (interfaces.Lexical line what) f fails is = fails
+interface_first text kind file (interfaces.Statement line what) f fails is = fails
+interface_first text kind file (interfaces.Unknown line what) f fails is = fails
+interface_first text kind file (interfaces.Twice line what) f fails is = fails
+interface_first text kind file (interfaces.NeedsSize line what) f fails is = fails
+
+prototype_first : (text : List ℕ) (kind : FaultKind) (file : List ℕ) (e : InterfaceFault) (f : FaultLine) → PrototypesFail text e → interface_line kind file e ≡ Some f → FirstPrototypeFault text e
+prototype_first text kind file interfaces.Memory f fails is = absurd (cc)
+prototype_first text kind file (interfaces.Lexical line what) f fails is = fails
+prototype_first text kind file (interfaces.Statement line what) f fails is = fails
+prototype_first text kind file (interfaces.Unknown line what) f fails is = fails
+prototype_first text kind file (interfaces.Twice line what) f fails is = fails
+prototype_first text kind file (interfaces.NeedsSize line what) f fails is = fails
 
 -- what the readers fail with is told
 
@@ -78,7 +88,12 @@ image_told file text e stops.Memory fails told = tt
 image_told file text e (stops.Fault f) fails told = (e, module_first Image text file e f fails told, told)
 image_told file text e (stops.Unread name) fails told = absurd told
 
-pub interface_told : (file text : List ℕ) (e : InterfaceFault) (s : InputStop) → InterfaceFails text e → IsTold (interface_line file e) s → ReadsInterface file text (Err s)
-interface_told file text e stops.Memory fails told = tt
-interface_told file text e (stops.Fault f) fails told = (e, interface_first text file e f fails told, told)
-interface_told file text e (stops.Unread name) fails told = absurd told
+pub interface_told : (file text : List ℕ) (kind : FaultKind) (e : InterfaceFault) (s : InputStop) → InterfaceFails text e → IsTold (interface_line kind file e) s → Reads SaysInterface (Tells FirstInterfaceFault (interface_line kind file)) text (Err s)
+interface_told file text kind e stops.Memory fails told = tt
+interface_told file text kind e (stops.Fault f) fails told = (e, interface_first text kind file e f fails told, told)
+interface_told file text kind e (stops.Unread name) fails told = absurd told
+
+pub prototypes_told : (file text : List ℕ) (kind : FaultKind) (e : InterfaceFault) (s : InputStop) → PrototypesFail text e → IsTold (interface_line kind file e) s → Reads SaysPrototypes (Tells FirstPrototypeFault (interface_line kind file)) text (Err s)
+prototypes_told file text kind e stops.Memory fails told = tt
+prototypes_told file text kind e (stops.Fault f) fails told = (e, prototype_first text kind file e f fails told, told)
+prototypes_told file text kind e (stops.Unread name) fails told = absurd told

@@ -40,13 +40,14 @@ module_line file (modules.OutOfProfile line what) = Some (fault_at file kinds.Ir
 module_line file (modules.Twice line what) = Some (fault_at file kinds.Ir 4 line what)
 module_line file (modules.Unknown line what) = Some (fault_at file kinds.Ir 5 line what)
 
-abbrev pub interface_line : List ℕ → InterfaceFault → Option FaultLine
-interface_line file interfaces.Memory = None
-interface_line file (interfaces.Lexical line what) = Some (fault_at file kinds.Interface 1 line what)
-interface_line file (interfaces.Statement line what) = Some (fault_at file kinds.Interface 2 line what)
-interface_line file (interfaces.Unknown line what) = Some (fault_at file kinds.Interface 3 line what)
-interface_line file (interfaces.Twice line what) = Some (fault_at file kinds.Interface 4 line what)
-interface_line file (interfaces.NeedsSize line what) = Some (fault_at file kinds.Interface 5 line what)
+-- the faults of interfaces, in either dialect
+abbrev pub interface_line : FaultKind → List ℕ → InterfaceFault → Option FaultLine
+interface_line kind file interfaces.Memory = None
+interface_line kind file (interfaces.Lexical line what) = Some (fault_at file kind 1 line what)
+interface_line kind file (interfaces.Statement line what) = Some (fault_at file kind 2 line what)
+interface_line kind file (interfaces.Unknown line what) = Some (fault_at file kind 3 line what)
+interface_line kind file (interfaces.Twice line what) = Some (fault_at file kind 4 line what)
+interface_line kind file (interfaces.NeedsSize line what) = Some (fault_at file kind 5 line what)
 
 -- the input ends with this fault, or memory ran out
 abbrev pub IsTold : Option FaultLine → InputStop → Type 0

@@ -13,14 +13,14 @@ use Rattle.lx_ir.specs.declared.module.Module.{Module}
 use Rattle.lx_ir_calls.specs.declared.intrinsics.TextForm.TheVariants.{Program, Image}
 use Rattle.lx_ir_read.specs.Reading.{SaysModule, FirstFault}
 use Rattle.lx_annot.specs.declared.interface.Interface.{Interface}
-use Rattle.lx_annot_read.specs.Texts.{SaysInterface, FirstInterfaceFault}
 use Rattle.lx_files.specs.declared.line.FaultKind.TheVariants as kinds
 use Rattle.lx_files.specs.declared.line.FaultLine.{FaultLine}
 use Rattle.lx_files.specs.declared.stop.InputStop.{InputStop}
 use Rattle.lx_files.specs.declared.sources.ImageFile.{ImageFile}
 use Rattle.lx_files.specs.declared.sources.Sources.{Sources}
 use Rattle.lx_files.specs.Asked.{Asked}
-use Rattle.lx_files.specs.Faults.{fault_at, script_line, module_line, interface_line}
+use Rattle.lx_files.specs.Faults.{fault_at, script_line, module_line}
+use Rattle.lx_files.specs.Dialects.{SaysEither, FirstEither, either_line}
 use Rattle.lx_files.specs.Turns.{Asks, Reads, Tells, Then, Gives}
 
 -- Texts of a file.
@@ -36,7 +36,7 @@ abbrev pub ReadsImage : List ℕ → List ℕ → Result Module InputStop → Ty
 ReadsImage file text answer = Reads (SaysModule Image) (Tells (FirstFault Image) (module_line file)) text answer
 
 abbrev pub ReadsInterface : List ℕ → List ℕ → Result Interface InputStop → Type 0
-ReadsInterface file text answer = Reads SaysInterface (Tells FirstInterfaceFault (interface_line file)) text answer
+ReadsInterface file text answer = Reads SaysEither (Tells FirstEither (either_line file)) text answer
 
 abbrev pub ReadsSchedule : List ℕ → List ℕ → Result (List ℕ) InputStop → Type 0
 ReadsSchedule file text answer = Reads SaysSchedule (Tells FirstScheduleFault (script_line kinds.Schedule file)) text answer

@@ -1,5 +1,6 @@
 pub mod Lines
 pub mod Faults
+pub mod Dialects
 pub mod Turns
 pub mod Names
 pub mod Asked

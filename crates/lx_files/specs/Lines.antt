@@ -9,6 +9,7 @@ abbrev pub kind_text : FaultKind → List ℕ
 kind_text kinds.Case = codes "case"
 kind_text kinds.Ir = codes "ir"
 kind_text kinds.Interface = codes "interface"
+kind_text kinds.Cproto = codes "cproto"
 kind_text kinds.Verify = codes "verify"
 kind_text kinds.Propagate = codes "propagate"
 kind_text kinds.Link = codes "link"

@@ -5,7 +5,10 @@ ghost use Rattle.lx_files.specs.Names.{NamesAreText};
 ghost use Rattle.lx_ir.specs.Lawful.{IsLawful};
 ghost use Rattle.lx_files.specs.Inputs.{ReadsCase, ReadsImage, ReadsInterface, ReadsModule, ReadsSchedule};
 ghost use Rattle.lx_files.specs.Sound.{IsSoundModule};
-ghost use Rattle.lx_files.specs.Turns.{most_bytes};
+ghost use Rattle.lx_files.specs.Turns.{Reads, Tells, most_bytes};
+ghost use Rattle.lx_files.specs.Faults.{interface_line};
+ghost use Rattle.lx_annot_read.specs.Texts.{FirstInterfaceFault, SaysInterface};
+ghost use Rattle.lx_cproto.specs.Texts.{FirstPrototypeFault, SaysPrototypes};
 ghost use Rattle.lx_annot.specs.Lawful.{IsLawfulInterface};
 
 use crate::line::FaultKind;
@@ -13,6 +16,8 @@ use crate::stop::{InputStop, interface_stop, module_stop, script_stop};
 use lx_annot::interface::Interface;
 use lx_annot_grammar::lawful_laws;
 use lx_annot_read::read_interface;
+use lx_cproto::{is_cproto, read_cproto};
+use lx_cproto_grammar::lawful_laws as lawful_prototypes;
 use lx_ir::module::Module;
 use lx_ir_lawful::whole_laws;
 use lx_ir_read::{TextForm, read_module};
@@ -61,17 +66,44 @@ pub fn image_of_text(alloc: Global, file: &[u8], text: &[u8]) -> Result<Module, 
     }
 }
 
-/// The interface that the text of a file says.
+/// The interface that the text of a file says in statements.
 #[tactic(auto, using(crate::proofs::Told::interface_told))]
-pub fn interface_of_text(alloc: Global, file: &[u8], text: &[u8]) -> Result<Interface, InputStop>
+fn statements_of_text(alloc: Global, file: &[u8], text: &[u8]) -> Result<Interface, InputStop>
     requires { length text.now ≤ most_bytes }
-    ensures reads { ReadsInterface file.now text.now result }
+    ensures reads { Reads SaysInterface (Tells FirstInterfaceFault (interface_line FaultKind.Interface file.now)) text.now result }
     ensures lawful { IfOk result IsLawfulInterface }
 {
     lawful_laws();
     match read_interface(alloc, text) {
         Ok(interface) => Ok(interface),
-        Err(fault) => Err(interface_stop(alloc, file, fault)),
+        Err(fault) => Err(interface_stop(alloc, FaultKind::Interface, file, fault)),
+    }
+}
+
+/// The interface that the text of a file says in prototypes.
+#[tactic(auto, using(crate::proofs::Told::prototypes_told))]
+fn prototypes_of_text(alloc: Global, file: &[u8], text: &[u8]) -> Result<Interface, InputStop>
+    requires { length text.now ≤ most_bytes }
+    ensures reads { Reads SaysPrototypes (Tells FirstPrototypeFault (interface_line FaultKind.Cproto file.now)) text.now result }
+    ensures lawful { IfOk result IsLawfulInterface }
+{
+    lawful_prototypes();
+    match read_cproto(alloc, text) {
+        Ok(interface) => Ok(interface),
+        Err(fault) => Err(interface_stop(alloc, FaultKind::Cproto, file, fault)),
+    }
+}
+
+/// The interface that the text of a file says, in the dialect that its first line tells.
+pub fn interface_of_text(alloc: Global, file: &[u8], text: &[u8]) -> Result<Interface, InputStop>
+    requires { length text.now ≤ most_bytes }
+    ensures reads { ReadsInterface file.now text.now result }
+    ensures lawful { IfOk result IsLawfulInterface }
+{
+    if is_cproto(text) {
+        prototypes_of_text(alloc, file, text)
+    } else {
+        statements_of_text(alloc, file, text)
     }
 }
 

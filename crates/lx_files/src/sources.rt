@@ -15,6 +15,7 @@ use crate::turns::{
     word_turn,
 };
 use lx_annot::interface::Interface;
+use lx_cproto_grammar::prototype_laws;
 use lx_ir::module::Module;
 use lx_ir_read::module_laws;
 use lx_outside::Shelf;
@@ -125,4 +126,5 @@ pub fn input_laws()
     one_schedule();
     module_laws();
     one_way();
+    prototype_laws();
 }

@@ -104,10 +104,14 @@ pub fn module_stop(alloc: Global, file: &[u8], fault: ReadFault) -> InputStop
 }
 
 /// The end of the input by the fault of an interface.
-pub fn interface_stop(alloc: Global, file: &[u8], fault: InterfaceFault) -> InputStop
-    ensures { IsTold (interface_line file.now fault) result }
+pub fn interface_stop(
+    alloc: Global,
+    kind: FaultKind,
+    file: &[u8],
+    fault: InterfaceFault,
+) -> InputStop
+    ensures { IsTold (interface_line kind file.now fault) result }
 {
-    let kind = FaultKind::Interface;
     match fault {
         InterfaceFault::Memory => InputStop::Memory,
         InterfaceFault::Lexical { line, what } => fault_at(alloc, file, kind, 1, line, what),

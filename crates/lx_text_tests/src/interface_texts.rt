@@ -3,7 +3,7 @@
 use lx_words::Memory;
 use std::alloc::Global;
 
-fn text_of(alloc: Global, parts: &[&str]) -> Result<Vec<u8>, Memory> {
+pub fn text_of(alloc: Global, parts: &[&str]) -> Result<Vec<u8>, Memory> {
     let mut text = Vec::new(alloc);
     for part in parts {
         text.extend_from_slice(part.as_bytes())?;
@@ -33,7 +33,7 @@ pub fn checked(alloc: Global, expression: &str) -> Result<Vec<u8>, Memory> {
 }
 
 /// Puts a piece of text so many times.
-fn put_times(text: &mut Vec<u8>, piece: &[u8], count: usize) -> Result<(), Memory> {
+pub fn put_times(text: &mut Vec<u8>, piece: &[u8], count: usize) -> Result<(), Memory> {
     for _ in 0..count {
         text.extend_from_slice(piece)?;
     }

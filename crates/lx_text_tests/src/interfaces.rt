@@ -10,7 +10,7 @@ use std::alloc::Global;
 use std::test::Fail;
 
 /// The bytes that a file may have.
-const MOST_BYTES: usize = 1 << 20;
+pub const MOST_BYTES: usize = 1 << 20;
 
 pub fn interface_in(alloc: Global, text: &[u8]) -> Result<Interface, InterfaceFault> {
     if text.len() > MOST_BYTES {
@@ -20,9 +20,10 @@ pub fn interface_in(alloc: Global, text: &[u8]) -> Result<Interface, InterfaceFa
 }
 
 /// A text, and its first fault: the number of its kind, its line, and its words.
-struct Row(&'static [u8], u8, u32, &'static [u8]);
+pub struct Row(pub &'static [u8], pub u8, pub u32, pub &'static [u8]);
 
-fn is_fault(fault: &InterfaceFault, kind: u8, line: u32, what: &[u8]) -> bool {
+/// Whether a fault is of this kind, in this line, with these words.
+pub fn is_fault(fault: &InterfaceFault, kind: u8, line: u32, what: &[u8]) -> bool {
     let (found, at, words) = match fault {
         InterfaceFault::Memory => return false,
         InterfaceFault::Lexical { line, what } => (1, *line, what),

@@ -12,6 +12,12 @@ mod ir_tokens;
 #[cfg(test)]
 mod outside;
 #[cfg(test)]
+mod printed;
+#[cfg(test)]
+mod prototype_texts;
+#[cfg(test)]
+mod prototypes;
+#[cfg(test)]
 mod script;
 #[cfg(test)]
 mod values;

@@ -181,6 +181,16 @@ static OF_AN_INTERFACE: [(TokenKind, u32); 10] = [
     (TokenKind::Mark, 15),
 ];
 
+static OF_PROTOTYPES: [(TokenKind, u32); 7] = [
+    (TokenKind::Word, 1),
+    (TokenKind::Mark, 12),
+    (TokenKind::Number, 13),
+    (TokenKind::Mark, 20),
+    (TokenKind::Local, 27),
+    (TokenKind::Mark, 29),
+    (TokenKind::Mark, 30),
+];
+
 /// Whether a text is split into tokens with these kinds and ends.
 fn splits_so(alloc: Global, expected: &[(TokenKind, u32)]) -> Result<bool, LexFault> {
     let text = b"%a.1-@\"x y\"\"s\\\"c\"d\\0A\"c\"\\\"-5=word7%7:;c";
@@ -195,23 +205,36 @@ fn scans_so(alloc: Global, expected: &[(TokenKind, u32)]) -> Result<bool, Memory
     Ok(are(&found.tokens, expected) && found.stop.is_none())
 }
 
+/// The same of a text of prototypes.
+fn prototypes_scan_so(alloc: Global, expected: &[(TokenKind, u32)]) -> Result<bool, Memory> {
+    let text = b"a/* * /**/<<5//-%b\n-/*\n*/%b&&|";
+    let found = scan(alloc, text, TokenRule::Prototype)?;
+    Ok(are(&found.tokens, expected) && found.stop.is_none())
+}
+
 #[test]
 fn each_token_ends_where_the_next_begins(rt: HostRuntime) -> Result<(), Fail> {
     assert!(rt; splits_so(rt.alloc(), &OF_IR)?);
     assert!(rt; scans_so(rt.alloc(), &OF_AN_INTERFACE)?);
+    assert!(rt; prototypes_scan_so(rt.alloc(), &OF_PROTOTYPES)?);
     Ok(())
 }
 
 /// A text, its rule, and the first byte that begins no token, with its line before it.
 struct Stopped(&'static [u8], TokenRule, u32, u8);
 
-static STOPPED: [Stopped; 6] = [
+static STOPPED: [Stopped; 11] = [
     Stopped(b"a\n\"\n\" \"", TokenRule::Ir, 3, b'"'),
     Stopped(b";\x80\n\n-", TokenRule::Ir, 3, b'-'),
     Stopped(b"%", TokenRule::Ir, 1, b'%'),
     Stopped(b"\n@\"\"", TokenRule::Ir, 2, b'@'),
     Stopped(b"-1\n[", TokenRule::Interface, 2, b'['),
     Stopped(b"#\n=", TokenRule::Interface, 2, b'='),
+    Stopped(b"a\n/*\n", TokenRule::Prototype, 2, b'/'),
+    Stopped(b"a\n/*/", TokenRule::Prototype, 2, b'/'),
+    Stopped(b"// #\n#", TokenRule::Prototype, 2, b'#'),
+    Stopped(b"/* \x80\n*/ / 2", TokenRule::Prototype, 2, b'/'),
+    Stopped(b"a//\n\x00", TokenRule::Prototype, 2, 0),
 ];
 
 fn stops_so(alloc: Global, row: &Stopped) -> bool {

@@ -4,7 +4,7 @@ use Rattle.std.specs.List.{list_all, prefix_len}
 use Rattle.std.specs.Prelude.{◌==◌}
 use Rattle.std.proofs.lemmas.Bool.{cond-true, cond-false, eq-eqb, ne_eqb}
 use Rattle.std.proofs.lemmas.List.{drop_more, drop_all}
-use Rattle.lx_words.specs.Lexemes.{is_nil, ends_quoted, ends_escaped, some_all, is_name, ends_name, is_name_byte, is_escaped, is_interface_mark}
+use Rattle.lx_words.specs.Lexemes.{is_nil, ends_quoted, ends_escaped, some_all, is_name, ends_name, is_name_byte, is_escaped, is_interface_mark, is_line_byte, ends_block, is_slashed}
 use Rattle.lx_words.specs.Longest.{Longest, NoFront, FrontLen}
 use Rattle.std.specs.Option.{option_map}
 
@@ -171,6 +171,26 @@ escaped_empty digits = refl
 
 pub escaped_quote : (digits b : ℕ) (bs : List ℕ) → digits ≡ 0 → b ≡ 34 → ends_escaped digits (b ∷ bs) ≡ is_nil bs
 escaped_quote digits b bs z e = rw z (cond-true (b == 34) _ _ (eq-eqb b 34 e))
+
+-- a comment ends nowhere before its `*/`
+pub block_empty : (starred : Bool) → ends_block starred [] ≡ false
+block_empty starred = refl
+
+pub block_end : (starred : Bool) (b : ℕ) (bs : List ℕ) → starred && b == 47 ≡ true → ends_block starred (b ∷ bs) ≡ is_nil bs
+block_end starred b bs e = cond-true (starred && b == 47) _ _ e
+
+pub block_on : (starred : Bool) (b : ℕ) (bs : List ℕ) → starred && b == 47 ≡ false → ends_block starred (b ∷ bs) ≡ ends_block (b == 42) bs
+block_on starred b bs e = cond-false (starred && b == 47) _ _ e
+
+-- behind the first byte of a comment
+pub slashed_line : (b : ℕ) (bs : List ℕ) → b ≡ 47 → is_slashed (b ∷ bs) ≡ list_all is_line_byte bs
+slashed_line b bs e = cond-true (b == 47) _ _ (eq-eqb b 47 e)
+
+pub slashed_other : (b : ℕ) (bs : List ℕ) → (b ≡ 47 → ⊥) → (b ≡ 42 → ⊥) → is_slashed (b ∷ bs) ≡ false
+slashed_other b bs ne nor = cond-false (b == 47) _ _ (ne_eqb b 47 ne) ∙ ap (λ v. v && ends_block false bs) (ne_eqb b 42 nor)
+
+pub slashed_block : (b : ℕ) (bs : List ℕ) → (b ≡ 47 → ⊥) → b ≡ 42 → is_slashed (b ∷ bs) ≡ ends_block false bs
+slashed_block b bs ne e = cond-false (b == 47) _ _ (ne_eqb b 47 ne) ∙ ap (λ v. v && ends_block false bs) (eq-eqb b 42 e)
 
 -- one byte more than a front
 pub front_step : (f g : List ℕ → Bool) (b : ℕ) (s : List ℕ) (r : Option ℕ) → f [] ≡ false → ((bs : List ℕ) → f (b ∷ bs) ≡ g bs) → FrontLen g s r → FrontLen f (b ∷ s) (option_map (λ n. n + 1) r)

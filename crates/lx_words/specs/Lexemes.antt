@@ -2,7 +2,7 @@
 use Rattle.std.specs.Prelude.{ℕ, zero, suc, List, [], ◌∷◌, Bool, true, false, ◌&&◌, ◌||◌, not, Option, Some, None, nat_le, ◌==◌, if◌then◌else◌}
 use Rattle.std.specs.List.{list_all}
 use Rattle.lx_words.specs.declared.token.TokenRule.{TokenRule}
-use Rattle.lx_words.specs.declared.token.TokenRule.TheVariants.{Ir, Interface}
+use Rattle.lx_words.specs.declared.token.TokenRule.TheVariants.{Ir, Interface, Prototype}
 use Rattle.lx_words.specs.declared.token.Lexeme.{Lexeme}
 use Rattle.lx_words.specs.declared.token.Lexeme.TheVariants.{Space, Comment, Token}
 use Rattle.lx_words.specs.declared.token.TokenKind.TheVariants as kinds
@@ -80,13 +80,25 @@ abbrev pub is_escaped : List ℕ → Bool
 is_escaped [] = false
 is_escaped (b ∷ bs) = b == 34 && ends_escaped 0 bs
 
+-- the byte that alone begins a comment up to the end of the line
 abbrev pub is_comment_mark : TokenRule → ℕ → Bool
 is_comment_mark Ir b = b == 59
 is_comment_mark Interface b = b == 35
+is_comment_mark Prototype b = false
 
 -- any byte but a line feed
 abbrev pub is_line_byte : ℕ → Bool
 is_line_byte b = not (b == 10)
+
+-- behind the `/*` of a comment: bytes up to the first `*/`; starred says whether the byte before is a `*` of them
+abbrev pub ends_block : Bool → List ℕ → Bool
+ends_block starred [] = false
+ends_block starred (b ∷ bs) = if starred && b == 47 then is_nil bs else ends_block (b == 42) bs
+
+-- behind the first `/` of a comment: a second one and the line, or `*` and what follows up to `*/`
+abbrev pub is_slashed : List ℕ → Bool
+is_slashed [] = false
+is_slashed (b ∷ bs) = if b == 47 then list_all is_line_byte bs else b == 42 && ends_block false bs
 
 abbrev pub when : Bool → Lexeme → Option Lexeme
 when test lexeme = if test then Some lexeme else None
@@ -96,15 +108,17 @@ abbrev pub is_interface_mark : ℕ → List ℕ → Bool
 is_interface_mark b [] = b == 58 || b == 40 || b == 41 || b == 123 || b == 125 || b == 44 || b == 59 || b == 43 || b == 45 || b == 42 || b == 38 || b == 124 || b == 94 || b == 60 || b == 62 || b == 33
 is_interface_mark b (c ∷ bs) = is_nil bs && (if c == 61 then b == 61 || b == 33 || b == 60 || b == 62 else b == c && (b == 60 || b == 62 || b == 38 || b == 124))
 
--- the tokens that a byte begins in one of the forms alone
+-- the tokens and comments that a byte begins in some of the forms alone
 unfoldable pub other_lexeme : TokenRule → ℕ → List ℕ → Option Lexeme
 other_lexeme Ir b bs = if b == 64 then when (is_name bs) (Token kinds.Global) else if b == 34 then when (ends_quoted is_text_byte bs) (Token kinds.Text) else if b == 45 then when (some_all is_digit bs) (Token kinds.Number) else when (is_ir_mark b && is_nil bs) (Token kinds.Mark)
 other_lexeme Interface b bs = when (is_interface_mark b bs) (Token kinds.Mark)
+other_lexeme Prototype b bs = if b == 47 then when (is_slashed bs) Comment else when (is_interface_mark b bs) (Token kinds.Mark)
 
 -- a word, or in IR text a byte string
 abbrev pub word_lexeme : TokenRule → ℕ → List ℕ → Option Lexeme
 word_lexeme Ir b bs = if list_all is_word_byte bs then Some (Token kinds.Word) else when (b == 99 && is_escaped bs) (Token kinds.Bytes)
 word_lexeme Interface b bs = when (list_all is_word_byte bs) (Token kinds.Word)
+word_lexeme Prototype b bs = when (list_all is_word_byte bs) (Token kinds.Word)
 
 -- what a first byte and the bytes behind it are, all of them
 unfoldable pub lexeme_behind : TokenRule → ℕ → List ℕ → Option Lexeme

@@ -3,7 +3,7 @@
 ghost use Rattle.std.specs.Prelude.{◌≡◌, ◌==◌, ◌&&◌, ℕ, ◌+◌, ◌≤◌, List, [], ◌∷◌, length, Bool, false, MatchOption, IfSome};
 ghost use Rattle.std.specs.Option.{option_map};
 ghost use Rattle.std.specs.List.{list_all, prefix_len};
-ghost use Rattle.lx_words.specs.Lexemes.{is_nil, is_ir_mark, is_interface_mark, is_comment_mark, is_digit, is_word_byte, is_name_byte, is_line_byte, is_quoted_name_byte, is_text_byte, ends_quoted, ends_escaped, ends_name, is_name, is_escaped, some_all, lexeme_of, lexeme_behind, word_lexeme, other_lexeme};
+ghost use Rattle.lx_words.specs.Lexemes.{is_nil, is_ir_mark, is_interface_mark, is_comment_mark, is_digit, is_word_byte, is_name_byte, is_line_byte, is_quoted_name_byte, is_text_byte, ends_quoted, ends_escaped, ends_name, ends_block, is_name, is_escaped, is_slashed, some_all, lexeme_of, lexeme_behind, word_lexeme, other_lexeme};
 ghost use Rattle.lx_words.specs.Longest.{FrontLen, Front, Begins, NothingBegins, IsInside};
 
 use crate::classes::{
@@ -165,6 +165,41 @@ fn bytes_len(text: &[u8]) -> Option<usize>
     one_more(rest, escaped_len(rest))
 }
 
+/// Whether a byte ends a comment, where the one before it may be a `*`.
+fn closes_block(starred: bool, b: u8) -> bool
+    ensures { result ≡ (starred && b == 47) }
+{
+    starred && b == b'/'
+}
+
+/// How many bytes behind the `/*` of a comment.
+fn block_len(text: &[u8]) -> Option<usize>
+    ensures { FrontLen (ends_block false) text.now result }
+{
+    let mut starred = false;
+    for (i, b) in text.iter().enumerate() {
+        if closes_block(starred, *b) {
+            return Some(i + 1);
+        }
+        starred = *b == b'*';
+    }
+    None
+}
+
+/// How many bytes of a comment behind its first.
+fn slashed_len(text: &[u8]) -> Option<usize>
+    ensures { FrontLen is_slashed text.now result }
+{
+    let (first, rest) = first_and_rest(text)?;
+    if first == b'/' {
+        one_more(rest, Some(line_len(rest)))
+    } else if first == b'*' {
+        one_more(rest, block_len(rest))
+    } else {
+        None
+    }
+}
+
 fn tagged(lexeme: Lexeme, len: Option<usize>) -> Option<(Lexeme, usize)>
     ensures { result ≡ option_map (λ n. (lexeme, n)) len }
 {
@@ -193,7 +228,9 @@ fn word_behind(rule: TokenRule, first: u8, rest: &[u8]) -> Option<(Lexeme, usize
 {
     match rule {
         TokenRule::Ir => ir_word_behind(first, rest),
-        TokenRule::Interface => tagged(Lexeme::Token(TokenKind::Word), Some(word_len(rest))),
+        TokenRule::Interface | TokenRule::Prototype => {
+            tagged(Lexeme::Token(TokenKind::Word), Some(word_len(rest)))
+        }
     }
 }
 
@@ -277,6 +314,16 @@ fn other_behind(rule: TokenRule, first: u8, rest: &[u8]) -> Option<(Lexeme, usiz
                 interface_mark_len(first, rest),
             )
         }
+        TokenRule::Prototype => {
+            if first == b'/' {
+                tagged(Lexeme::Comment, slashed_len(rest))
+            } else {
+                tagged(
+                    Lexeme::Token(TokenKind::Mark),
+                    interface_mark_len(first, rest),
+                )
+            }
+        }
     }
 }
 
@@ -286,6 +333,7 @@ fn begins_comment(rule: TokenRule, first: u8) -> bool
     match rule {
         TokenRule::Ir => first == b';',
         TokenRule::Interface => first == b'#',
+        TokenRule::Prototype => false,
     }
 }
 

@@ -14,6 +14,8 @@ pub enum TokenRule {
     Ir,
     /// Interfaces.
     Interface,
+    /// Interfaces written as annotated C prototypes.
+    Prototype,
 }
 
 /// What a token is.

@@ -14,8 +14,8 @@ use lx_worked_texts::{
     atomic_cases, borrowed_cases, borrower_cases, c_file_cases, end_cases, faulty_cases,
     generated_cases, image_call_cases, image_cases, lent_slot_cases, limit_cases, many_cases,
     memory_cases, nested_cases, own_kernel_cases, packet_cases, plain_cases, principal_cases,
-    replayed_cases, slot_cases, small_files, spared_cases, surface_cases, text_cases, thread_cases,
-    wrapper_cases,
+    prototype_cases, replayed_cases, slot_cases, small_files, spared_cases, surface_cases,
+    text_cases, thread_cases, wrapper_cases,
 };
 use std::test::Fail;
 
@@ -74,11 +74,12 @@ fn cases(number: u32) -> &'static str {
         21 => spared_cases(),
         22 => generated_cases(),
         23 => surface_cases(),
+        24 => prototype_cases(),
         _ => text_cases(),
     }
 }
 
-pub const TABLES: u32 = 25;
+pub const TABLES: u32 = 26;
 
 /// What of a series is written out.
 fn text_of(series: Series) -> &'static str {

@@ -15,6 +15,7 @@ mod loans;
 mod many;
 mod over_kernels;
 mod plain;
+mod prototypes;
 mod replayed;
 mod surfaces;
 
@@ -33,5 +34,6 @@ pub use loans::{end_cases, loan_files, nested_cases, packet_cases};
 pub use many::{many_cases, many_files};
 pub use over_kernels::{memory_cases, own_kernel_cases, principal_cases, slot_cases};
 pub use plain::{faulty_cases, plain_cases};
+pub use prototypes::prototype_cases;
 pub use replayed::replayed_cases;
 pub use surfaces::surface_cases;

@@ -1,0 +1,4 @@
+pub mod Parts
+pub mod Declarations
+pub mod Laws
+pub mod Rows
