@@ -1,0 +1,11 @@
+pub mod Ends
+pub mod Scanned
+pub mod Pieces
+pub mod Named
+pub mod Grown
+pub mod Spelled
+pub mod Expressions
+pub mod Actions
+pub mod Reserved
+pub mod Annotations
+pub mod Signatures

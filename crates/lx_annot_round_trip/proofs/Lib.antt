@@ -1,0 +1,13 @@
+pub mod Lexed
+pub mod StructNames
+pub mod SayableParts
+pub mod Kept
+pub mod Sayable
+pub mod LinesOf
+pub mod Said
+pub mod Lined
+pub mod Walked
+pub mod Whole
+pub mod Columns
+pub mod Lines
+pub mod Again

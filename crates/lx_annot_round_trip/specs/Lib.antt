@@ -1,0 +1,4 @@
+pub mod Sayable
+pub mod SayableLaws
+pub mod Laws
+pub mod Rows

@@ -1,0 +1,3 @@
+pub mod Lexemes
+pub mod Structs
+pub mod Sayable

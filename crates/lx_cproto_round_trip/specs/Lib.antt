@@ -1,0 +1,2 @@
+pub mod SayableLaws
+pub mod Laws
