@@ -1,0 +1,11 @@
+pub mod Local
+pub mod Loops
+pub mod Expressions
+pub mod Lists
+pub mod Clauses
+pub mod Statements
+pub mod Alike
+pub mod Limited
+pub mod Whole
+pub mod Refused
+pub mod Texts
