@@ -5,12 +5,10 @@ use Rattle.lx_caps.specs.declared.Principal.{Principal}
 use Rattle.lx_model.specs.declared.request.Request.{Request}
 use Rattle.lx_model.specs.declared.request.What.{What}
 use Rattle.lx_model.specs.declared.request.What.TheVariants as what
-use Rattle.lx_ir.specs.declared.instr.Op.{Op}
 use Rattle.lx_model.specs.Thread.{behind_head, start_of}
 use Rattle.lx_model.specs.Effect.{returned_value}
 use Rattle.lx_images.specs.Image.{Code, ImageFrame, Runs, Wraps, at_lines, image_routine, stack_top}
 use Rattle.lx_image_code.specs.Tables.{HasLocals}
-use Rattle.lx_image_steps.specs.Marks.{next_args, next_lines}
 use Rattle.lx_frames.specs.declared.frame.Frame.{Frame as KeptFrame}
 use Rattle.lx_frames.specs.declared.frame.Frame.TheVariants as kept
 use Rattle.lx_frames.specs.declared.stack.FrameStack.{FrameStack}
@@ -50,20 +48,10 @@ IsReadyIf c s (Some q) = HasRoomFor c s q.what
 
 -- what stands on top
 
--- the arguments of the call that a function stands at
-abbrev pub args_in : Code → List ImageFrame → List Word
-args_in c (Runs a ∷ fs) = next_args c a a.code
-args_in c fs = []
-
 -- what a function returns, where one runs there
 abbrev pub returned_on : Code → List ImageFrame → Option (Option Word)
 returned_on c (Runs a ∷ fs) = Some (returned_value c.program a)
 returned_on c fs = None
-
--- the lines of the wrapper that a function stands to call
-abbrev pub lines_in : Code → List ImageFrame → List Op
-lines_in c (Runs a ∷ fs) = next_lines c a a.code
-lines_in c fs = []
 
 -- a wrapper that has come to its line: in its body, where that is the call
 abbrev pub arrived : Code → ℕ → List ImageFrame → List ImageFrame

@@ -2,8 +2,7 @@
 ghost use Rattle.std.specs.Prelude.{◌≡◌, ◌≤◌, [], IfOk, IfSome, IsSome, option_copied};
 ghost use Rattle.lx_images.specs.Image.{Code as Images, fits_site, has_room, stack_top};
 ghost use Rattle.lx_frames.specs.Frames.{args_on, frames_of, function_on, high_on, line_behind_on, line_on, running_on, value_on};
-ghost use Rattle.lx_image_code.specs.Wrappers.{wrapper_lines};
-ghost use Rattle.lx_frames.specs.Stack.{args_in, lines_in, returned_on};
+ghost use Rattle.lx_frames.specs.Stack.{returned_on};
 ghost use Rattle.lx_model.specs.Program.{same_result};
 
 mod entries;
@@ -13,11 +12,11 @@ use crate::callers::{Callers, high_of};
 use crate::frame::Frame;
 pub use entries::Entry;
 use lx_caps::stack_start;
-use lx_image_code::{Code, Line, Wrapper};
-use lx_image_steps::{Activation, call_arguments, call_result, called_wrapper, returned};
+use lx_image_code::{Code, Line};
+use lx_image_steps::{Activation, call_result, returned};
 use lx_model::request::Way;
 use lx_shadow::Shadow;
-use lx_words::{Items, Memory, Width, Word, Words};
+use lx_words::{Memory, Width, Word};
 use std::alloc::Global;
 
 /// How many functions of a thread may run at a time. Wrappers do not count.
@@ -110,16 +109,6 @@ impl FrameStack {
         }
     }
 
-    /// The wrapper that the function on top stands to call; one without lines, where no function is there.
-    pub fn called_wrapper(&self, code: &Code) -> Wrapper
-        ensures { wrapper_lines code.now result ≡ lines_in code.now (frames_of code.now self.now.top self.now.below) }
-    {
-        match self.running() {
-            Some(run) => called_wrapper(code, run),
-            None => Wrapper::Missing,
-        }
-    }
-
     /// The number of the function that the wrapper on top wraps, and 0 where no wrapper is there.
     pub fn function(&self) -> u32
         ensures { result ≡ function_on self.now.top }
@@ -146,22 +135,6 @@ impl FrameStack {
         ensures { (c : Images) → result ≡ has_room (frames_of c self.now.top self.now.below) }
     {
         self.below.running() < MOST_RUNNING - 1
-    }
-
-    /// The arguments of the call that the function on top stands at.
-    ///
-    /// # Errors
-    /// Want of memory.
-    pub fn arguments(&self, code: &Code) -> Result<Words, Memory>
-        ensures { IfOk result (λ args. args ≡ args_in code.now (frames_of code.now self.now.top self.now.below)) }
-    {
-        match self.running() {
-            Some(run) => {
-                let args = call_arguments(self.alloc, code, run)?;
-                Ok(args)
-            }
-            None => Ok(Items::new(self.alloc)),
-        }
     }
 
     /// The value that the function on top returns, where one runs there.

@@ -3,3 +3,4 @@ pub mod Effects
 pub mod Parts
 pub mod Phis
 pub mod Marks
+pub mod Next

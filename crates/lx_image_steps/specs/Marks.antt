@@ -1,6 +1,5 @@
 -- Guards and checks, and what they leave for the next instruction.
-use Rattle.std.specs.Prelude.{◌≡◌, ℕ, Bool, false, ◌&&◌, cond, Option, Some, None, List, [], ◌∷◌, IfSome}
-use Rattle.lx_words.specs.Word.{Word}
+use Rattle.std.specs.Prelude.{◌≡◌, ℕ, Bool, false, ◌&&◌, cond, Option, Some, None, List, IfSome}
 use Rattle.lx_ir.specs.declared.instr.Op.{Op}
 use Rattle.lx_ir.specs.declared.instr.Op.TheVariants as op
 use Rattle.lx_model.specs.declared.program.Program.{Program}
@@ -9,8 +8,7 @@ use Rattle.lx_model.specs.declared.request.Trap.TheVariants.{Unreachable}
 use Rattle.lx_model.specs.Thread.{Activation}
 use Rattle.lx_model.specs.Effect.{bits, is_phi, text_of}
 pub use Rattle.lx_image_texts.specs.Marks.{is_mark}
-use Rattle.lx_images.specs.Image.{Code, ImageFrame, ImageStep, ImageThread, Marks, comes_to, costly_step, if_paid, instruction_step, no_marks, wrapped_import, wrapper_args}
-use Rattle.lx_images.specs.Wrappers.{called_lines}
+use Rattle.lx_images.specs.Image.{Code, ImageFrame, ImageStep, ImageThread, Marks, comes_to, costly_step, if_paid, instruction_step, no_marks, wrapped_import}
 use Rattle.lx_image_steps.specs.Standing.{head_of, run_of}
 use Rattle.lx_image_steps.specs.declared.activation.Activation.{Activation as Running}
 
@@ -40,13 +38,3 @@ moved c r place = run_of c (record r { place = place })
 -- the next instruction is neither a guard nor a check
 abbrev pub StandsPlain : Activation → Type 0
 StandsPlain a = IfSome (head_of a.code) (λ o. is_mark o ≡ false)
-
--- the arguments of the call that a function stands at
-abbrev pub next_args : Code → Activation → List Op → List Word
-next_args c a [] = []
-next_args c a (o ∷ os) = wrapper_args c a o
-
--- the lines of the wrapper that a function stands to call
-abbrev pub next_lines : Code → Activation → List Op → List Op
-next_lines c a [] = []
-next_lines c a (o ∷ os) = called_lines c (text_of c.program a) o

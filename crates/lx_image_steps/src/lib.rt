@@ -21,6 +21,5 @@ pub use activation::{Activation, Range};
 pub use askers::asker;
 pub use effect::Effect;
 pub use marks::{Guarded, Marks};
-pub use next::next_effect;
+pub use next::{Step, next_step};
 pub use steps::{call_result, instruction, registers_of, returned};
-pub use wrapped::{call_arguments, called_wrapper, wrapped_call};

@@ -1,13 +1,13 @@
 //! How a running function goes on.
-ghost use Rattle.std.specs.Prelude.{◌≡◌, ℕ, ◌+◌, ◌<◌, ◌≤◌, ◌++◌, Bool, Option, Some, List, IsTrue, IfSome, IfOk, OnOk, OnErr, map, option_copied, option_map, replicate, slice_get, vec_len, vec_capacity};
+ghost use Rattle.std.specs.Prelude.{◌≡◌, ◌+◌, ◌<◌, ◌≤◌, ◌++◌, Some, List, IsTrue, IfSome, IfOk, OnOk, OnErr, map, option_copied, replicate, slice_get, vec_len, vec_capacity};
 ghost use Rattle.lx_ir.specs.declared.instr.Op.{Op};
-ghost use Rattle.lx_model.specs.Thread.{activation_behind, start_of, with_register, zero_word};
+ghost use Rattle.lx_model.specs.Thread.{activation_behind, code_block_of, start_of, with_register, zero_word};
 ghost use Rattle.lx_model.specs.Effect.{arrival, edge_value, is_phi, returned_by, returned_value, site_result, call_result, types_of, with_phis};
 ghost use Rattle.lx_model.specs.Next.{with_alloca, without_allocas};
 ghost use Rattle.lx_words.specs.Word.{Word};
 ghost use Rattle.lx_code.specs.Reach.{is_sized};
 ghost use Rattle.lx_image_steps.specs.Standing.{block_at, front_at, head_of, item_at, phi_at, rest_from, run_of};
-ghost use Rattle.lx_image_code.specs.Jumps.{op_at};
+ghost use Rattle.lx_image_code.specs.Jumps.{IsEdgeAt, op_at};
 ghost use Rattle.lx_image_steps.specs.Effects.{arrived_as};
 ghost use Rattle.lx_image_steps.specs.Phis.{phi_words, with_words};
 ghost use Rattle.std.specs.Prelude.{bytes_eq, find, position};
@@ -18,16 +18,27 @@ use crate::operand::{blank_word, operand};
 use lx_code::width_of;
 use lx_image_code::Code;
 use lx_ir::instr::{Edge, Instr, Op};
+use lx_ir::module::Block;
 use lx_ir_uses::given_by;
 use lx_words::{Memory, Width, Word};
 use std::alloc::Global;
 
-/// The number of a block, and the place of an instruction there.
+/// A jump: the label of the block that it leaves, and the number of the block that it leads to.
 #[derive(Clone, Copy)]
-struct Place {
-    block: usize,
+struct Jump<'a> {
+    from: &'a [u8],
+    to: usize,
+}
+
+/// The place of an instruction in the block that a jump leads to.
+#[derive(Clone, Copy)]
+struct Place<'a> {
+    jump: Jump<'a>,
     place: usize,
 }
+
+/// So many edges are searched as fast as a table is asked.
+const FEW: usize = 8;
 
 /// The most that the part of the stack of a function may end at.
 const MOST_HIGH: u64 = 0x8000_0000_0000_0000;
@@ -82,11 +93,11 @@ pub(crate) fn instrs_of<'a>(code: &'a Code, run: &Activation) -> &'a [Instr]
     }
 }
 
-// The label of the block that runs.
-fn label_of<'a>(code: &'a Code, run: &Activation) -> &'a [u8]
-    ensures { result.now ≡ (block_at (image_routine code.now run.now.function).blocks run.now.block).label }
+// The label of the block with a number.
+fn label_in(blocks: &[Block], number: usize) -> &[u8]
+    ensures { result.now ≡ (block_at (map code_block_of blocks.now) number).label }
 {
-    match code.blocks(run.function).get(run.block) {
+    match blocks.get(number) {
         Some(block) => block.name.as_slice(),
         None => &[],
     }
@@ -149,12 +160,14 @@ fn edge_value(
     code: &Code,
     before: &Activation,
     edges: &[Edge],
+    label: &[u8],
     found: Option<Option<usize>>,
 ) -> Word
-    requires { IfSome found (λ place. place ≡ position (λ e. bytes_eq e.label (run_of code.now before.now).label) edges.now) }
+    requires label { label.now ≡ (run_of code.now before.now).label }
+    requires found { IfSome found (λ place. place ≡ position (λ e. bytes_eq e.label label.now) edges.now) }
     ensures { result ≡ edge_value code.now.program (run_of code.now before.now) edges.now }
 {
-    match edge_from(edges, label_of(code, before), found) {
+    match edge_from(edges, label, found) {
         Some(edge) => operand(code, before, &edge.value),
         None => blank_word(),
     }
@@ -167,20 +180,32 @@ struct PhiWord {
     word: Word,
 }
 
+// The place of the edge by which a jump comes to a phi with so many edges, where a table has it.
+fn edge_in_table(code: &Code, function: u32, at: &Place, count: usize) -> Option<Option<usize>>
+    ensures { IfSome result (λ found. IsEdgeAt (op_at (image_routine code.now function).blocks at.now.jump.to at.now.place) at.now.jump.from.now found) }
+{
+    if count <= FEW {
+        None
+    } else {
+        code.edge(function, at.jump.to, at.place, at.jump.from)
+    }
+}
+
 // The value of an instruction at a place of a block that a jump leads to is added, where it is a phi.
 fn add_phi(
     code: &Code,
     before: &Activation,
-    at: Place,
+    at: Place<'_>,
     op: &Op,
     words: &mut Vec<PhiWord>,
 ) -> Result<(), Memory>
-    requires { op_at (image_routine code.now before.now.function).blocks at.block at.place ≡ Some op.now }
+    requires op { op_at (image_routine code.now before.now.function).blocks at.jump.to at.place ≡ Some op.now }
+    requires label { at.jump.from.now ≡ (run_of code.now before.now).label }
     ensures { OnOk result (words.new.items ≡ words.old.items ++ phi_words code.now.program (run_of code.now before.now) op.now) }
 {
     if let Op::Phi { to, edges, .. } = op {
-        let found = code.edge(before.function, at.block, at.place, label_of(code, before));
-        let word = edge_value(code, before, edges.as_slice(), found);
+        let found = edge_in_table(code, before.function, &at, edges.len());
+        let word = edge_value(code, before, edges.as_slice(), at.jump.from, found);
         words.push(PhiWord {
             register: *to,
             word,
@@ -189,21 +214,22 @@ fn add_phi(
     Ok(())
 }
 
-// The values of the phis of the block with a number, each on the registers as they are before any is given. A block without phis takes
+// The values of the phis of the block that a jump leads to, each on the registers as they are before any is given. A block without phis takes
 // no memory.
 fn phis_of(
     alloc: Global,
     code: &Code,
     before: &Activation,
-    block: usize,
+    jump: Jump<'_>,
     instrs: &[Instr],
 ) -> Result<Vec<PhiWord>, Memory>
-    requires { map (λ i. i.op) instrs.now ≡ (block_at (image_routine code.now before.now.function).blocks block).code }
+    requires instrs { map (λ i. i.op) instrs.now ≡ (block_at (image_routine code.now before.now.function).blocks jump.to).code }
+    requires label { jump.from.now ≡ (run_of code.now before.now).label }
     ensures { IfOk result (λ words. with_words words.items before.now.registers.items ≡ with_phis code.now.program (run_of code.now before.now) (map (λ i. i.op) instrs.now) before.now.registers.items) }
 {
     let mut words = Vec::new(alloc);
     for place in 0..instrs.len() {
-        let at = Place { block, place };
+        let at = Place { jump, place };
         add_phi(code, before, at, &instrs[place].op, &mut words)?;
     }
     Ok(words)
@@ -310,9 +336,14 @@ impl Activation {
         ensures arrives { IfOk result (λ there. arrival code.now.program (run_of code.now self.old) (slice_get (run_of code.now self.old).blocks block) ≡ arrived_as there (run_of code.now self.new)) }
         ensures stays { OnErr result (run_of code.now self.new ≡ run_of code.now self.old) }
     {
-        match code.blocks(self.function).get(block) {
+        let blocks = code.blocks(self.function);
+        match blocks.get(block) {
             Some(found) => {
-                let words = phis_of(alloc, code, self, block, found.instrs.as_slice())?;
+                let jump = Jump {
+                    from: label_in(blocks, self.block),
+                    to: block,
+                };
+                let words = phis_of(alloc, code, self, jump, found.instrs.as_slice())?;
                 give_phis(&mut self.registers, words.as_slice());
                 self.block = block;
                 self.place = 0;

@@ -1,22 +1,28 @@
 -- What stands on top, and the step that it takes.
-use Rattle.std.proofs.Common.{◌≡◌, ℕ, zero, suc, ◌-◌, ◌<◌, Bool, true, false, Option, Some, None, IsSome, List, [], ◌∷◌, drop, map, refl, ap, ◌∙◌, arith}
+use Rattle.std.proofs.Common.{◌≡◌, ℕ, zero, suc, ◌-◌, ◌<◌, Bool, true, false, Option, Some, None, IsSome, List, [], ◌∷◌, drop, map, refl, sym, ap, ◌∙◌, subst, arith}
 use Rattle.lx_words.specs.Word.{Word}
 use Rattle.lx_ir.specs.declared.instr.Op.{Op}
 use Rattle.lx_ir.specs.declared.instr.Op.TheVariants as op
 use Rattle.lx_model.specs.declared.request.Outcome.TheVariants.{Budget, Trapped}
 use Rattle.lx_model.specs.declared.request.Trap.TheVariants.{Unreachable}
 use Rattle.lx_model.specs.Thread.{Activation, behind_head}
+use Rattle.lx_model.specs.Effect.{text_of}
 use Rattle.lx_model.specs.Next.{has_action}
-use Rattle.lx_images.specs.Image.{Code, ImageFrame, ImageThread, ImageStep, Goes, Marks, after_leaving, comes_to, frame_step, if_paid, leaving_line, start_step, tail, with_shadow, wrapper_line}
+use Rattle.lx_images.specs.Image.{Code, ImageFrame, Runs, ImageThread, ImageStep, Goes, Marks, after_leaving, comes_to, costly_step, effect_step, frame_step, if_paid, leaving_line, start_step, tail, with_shadow, wrapped_import, wrapper_call, wrapper_line}
+use Rattle.lx_images.specs.Wrappers.{called_lines}
 use Rattle.lx_image_code.specs.declared.line.Line.{Line}
 use Rattle.lx_image_code.specs.declared.line.Line.TheVariants as line
 use Rattle.lx_image_code.specs.Wrappers.{first_op, line_of, wrapper_lines}
 use Rattle.lx_image_steps.specs.Marks.{plain_step}
+use Rattle.lx_image_steps.specs.Next.{IsNext, IsStep}
+use Rattle.lx_image_steps.specs.declared.activation.Activation.{Activation as Running}
+use Rattle.lx_image_steps.specs.declared.next.Step.{Step}
+use Rattle.lx_image_steps.specs.declared.next.Step.TheVariants as step
 use Rattle.lx_image_steps.specs.Standing.{head_of, run_of}
 use Rattle.lx_frames.specs.declared.frame.Frame.{Frame as KeptFrame}
 use Rattle.lx_frames.specs.declared.frame.Frame.TheVariants as kept
 use Rattle.lx_frames.specs.Frames.{IsUnwrapped, Stack, args_on, frame_of, frames_of, function_on, line_behind_on, line_on, marked_frame_step, running_on, value_on}
-use Rattle.lx_interp.specs.Runner.{action_on, asked_by, costly_or_none, is_ret, instruction_in, marks_in, poorer}
+use Rattle.lx_interp.specs.Runner.{action_on, asked_by, costly_or_none, is_ret, instruction_in, marks_in, next_in, poorer}
 
 -- a step that costs a unit
 pub paid_step : (v : ImageThread) (go : ImageThread → ImageStep) → 0 < v.fuel → if_paid v go ≡ go (poorer v)
@@ -44,6 +50,32 @@ runs_marked c None v top below h r = absurd (cc)
 runs_marked c (Some m) v None below h r = absurd (cc)
 runs_marked c (Some m) v (Some (kept.Runs run)) below h r = plain_paid c v (map (frame_of c) below.frames) m (run_of c run) (head_of (run_of c run).code)
 runs_marked c (Some m) v (Some (kept.Wraps n args wrapper at x)) below h r = absurd (cc)
+
+-- what is found of its next instruction
+
+step_by : (c : Code) (m : Marks) (v : ImageThread) (a : Activation) (fs : List ImageFrame) (o : Op) (s : Step) → IsStep c a o s → costly_step c m a fs o (wrapped_import c (text_of c.program a) o) v ≡ next_in c m v (Runs a ∷ fs) (Some s)
+step_by c m v a fs o (step.Crosses n args wrapper) e =
+    ap (λ k. costly_step c m a fs o k v) e.0
+    ∙ ap (λ xs. wrapper_call v a fs n xs (called_lines c (text_of c.program a) o)) (sym e.1)
+    ∙ ap (wrapper_call v a fs n args) (sym e.2)
+step_by c m v a fs o (step.Does f) e = ap (λ k. costly_step c m a fs o k v) e.0 ∙ ap (effect_step c v m a fs) (sym e.1)
+
+next_by : (c : Code) (m : Marks) (v : ImageThread) (a : Activation) (fs : List ImageFrame) (o : Option Op) (s : Option Step) → IsNext c a o s → costly_or_none c m v a fs o ≡ next_in c m v (Runs a ∷ fs) s
+next_by c m v a fs o None e = ap (costly_or_none c m v a fs) e
+next_by c m v a fs o (Some s) e = ap (costly_or_none c m v a fs) e.1 ∙ step_by c m v a fs e.0 s e.2
+
+pub next_found : (c : Code) (m : Marks) (v : ImageThread) (top : Option KeptFrame) (below : Stack) (run : Running) (s : Option Step) → Some run ≡ running_on top → IsNext c (run_of c run) (head_of (run_of c run).code) s →
+    instruction_in c m v (frames_of c top below) ≡ next_in c m v (frames_of c top below) s
+next_found c m v None below run s e is = absurd (cc)
+next_found c m v (Some (kept.Runs r)) below run s e is =
+    let same : run ≡ r = cc in
+    next_by c m v (run_of c r) (map (frame_of c) below.frames) (head_of (run_of c r).code) s (subst (λ (x : Running). IsNext c (run_of c x) (head_of (run_of c x).code) s) same is)
+next_found c m v (Some (kept.Wraps n args wrapper at x)) below run s e is = absurd (cc)
+
+pub nothing_found : (c : Code) (m : Marks) (v : ImageThread) (top : Option KeptFrame) (below : Stack) → None ≡ running_on top → instruction_in c m v (frames_of c top below) ≡ next_in c m v (frames_of c top below) None
+nothing_found c m v None below e = refl
+nothing_found c m v (Some (kept.Runs r)) below e = absurd (cc)
+nothing_found c m v (Some (kept.Wraps n args wrapper at x)) below e = refl
 
 -- nothing on top
 

@@ -28,7 +28,7 @@ use Rattle.lx_frames.specs.declared.frame.Frame.TheVariants as kept
 use Rattle.lx_frames.specs.declared.stack.FrameStack.{FrameStack}
 use Rattle.lx_interp.specs.declared.runner.Runner.{Runner}
 use Rattle.lx_frames.specs.Frames.{Stack, args_on, arrival_in, changed, frame_of, frames_of, function_on, line_on, running_on, runs, value_on}
-use Rattle.lx_frames.specs.Stack.{CanGoOn, HasRoomFor, IsReadyIf, IsRoomier, args_in, lines_in}
+use Rattle.lx_frames.specs.Stack.{CanGoOn, HasRoomFor, IsReadyIf, IsRoomier}
 use Rattle.lx_interp.specs.Runner.{HasStayed, HasTaken, action_of, action_on, asked_by, asker_in, calls_left, effect_in, is_enter, poorer, taken, thread_of, wrapper_in}
 use Rattle.lx_interp.proofs.Lines.{acts, no_action, paid_step, unpaid_step}
 
@@ -239,11 +239,11 @@ jump_lost c m v top below f g k {there} e h arrives lost =
 
 -- the call of a wrapper
 
-pub wrapper_full : (c : Code) (v : ImageThread) (top : Option KeptFrame) (below : Stack) (n : ℕ) → IsSome (running_on top) → false ≡ has_room (frames_of c top below) →
-    wrapper_in c v (frames_of c top below) n ≡ comes_to (Trapped TooDeep) v
-wrapper_full c v None below n h e = absurd (cc)
-wrapper_full c v (Some (kept.Runs run)) below n h e = if_full (has_room (frames_of c (Some (kept.Runs run)) below)) v _ (sym e)
-wrapper_full c v (Some (kept.Wraps k xs wrapper at x)) below n h e = absurd (cc)
+pub wrapper_full : (c : Code) (v : ImageThread) (top : Option KeptFrame) (below : Stack) (n : ℕ) (args : List Word) (lines : List Op) → IsSome (running_on top) → false ≡ has_room (frames_of c top below) →
+    wrapper_in v (frames_of c top below) n args lines ≡ comes_to (Trapped TooDeep) v
+wrapper_full c v None below n args lines h e = absurd (cc)
+wrapper_full c v (Some (kept.Runs run)) below n args lines h e = if_full (has_room (frames_of c (Some (kept.Runs run)) below)) v _ (sym e)
+wrapper_full c v (Some (kept.Wraps k xs wrapper at x)) below n args lines h e = absurd (cc)
 
 -- a wrapper that begins with its enter asks for that, and one that begins with another line cannot run
 
@@ -258,25 +258,20 @@ first_lost v n args fs [] e = refl
 first_lost v n args fs (op.Enter s ∷ lines) e = absurd (cc)
 first_lost v n args fs (o ∷ lines) e = refl
 
-pub wrapper_asks : (c : Code) (v : ImageThread) (top : Option KeptFrame) (below : Stack) (n : ℕ) (lines : List Op) → IsSome (running_on top) → true ≡ has_room (frames_of c top below) →
-    lines ≡ lines_in c (frames_of c top below) → is_enter (line_of (first_op lines)) ≡ true →
-    wrapper_in c v (frames_of c top below) n ≡
-    Asks (with_frames (Wraps n (args_in c (frames_of c top below)) lines None ∷ frames_of c top below) v) (request (top_of v.shadow) (what.Enter (Direct n) (args_in c (frames_of c top below))))
-wrapper_asks c v None below n lines h room same e = absurd (cc)
-wrapper_asks c v (Some (kept.Runs run)) below n lines h room same e =
-    if_free (has_room (frames_of c (Some (kept.Runs run)) below)) v _ (sym room)
-    ∙ ap (first_line v n (args_in c (frames_of c (Some (kept.Runs run)) below)) (frames_of c (Some (kept.Runs run)) below)) (sym same)
-    ∙ first_asks v n (args_in c (frames_of c (Some (kept.Runs run)) below)) (frames_of c (Some (kept.Runs run)) below) lines e
-wrapper_asks c v (Some (kept.Wraps k xs wrapper at x)) below n lines h room same e = absurd (cc)
+pub wrapper_asks : (c : Code) (v : ImageThread) (top : Option KeptFrame) (below : Stack) (n : ℕ) (args : List Word) (lines : List Op) → IsSome (running_on top) → true ≡ has_room (frames_of c top below) →
+    is_enter (line_of (first_op lines)) ≡ true →
+    wrapper_in v (frames_of c top below) n args lines ≡ Asks (with_frames (Wraps n args lines None ∷ frames_of c top below) v) (request (top_of v.shadow) (what.Enter (Direct n) args))
+wrapper_asks c v None below n args lines h room e = absurd (cc)
+wrapper_asks c v (Some (kept.Runs run)) below n args lines h room e =
+    if_free (has_room (frames_of c (Some (kept.Runs run)) below)) v _ (sym room) ∙ first_asks v n args (frames_of c (Some (kept.Runs run)) below) lines e
+wrapper_asks c v (Some (kept.Wraps k xs wrapper at x)) below n args lines h room e = absurd (cc)
 
-pub wrapper_lost : (c : Code) (v : ImageThread) (top : Option KeptFrame) (below : Stack) (n : ℕ) (lines : List Op) → IsSome (running_on top) → true ≡ has_room (frames_of c top below) →
-    lines ≡ lines_in c (frames_of c top below) → is_enter (line_of (first_op lines)) ≡ false → wrapper_in c v (frames_of c top below) n ≡ comes_to (Trapped Unreachable) v
-wrapper_lost c v None below n lines h room same e = absurd (cc)
-wrapper_lost c v (Some (kept.Runs run)) below n lines h room same e =
-    if_free (has_room (frames_of c (Some (kept.Runs run)) below)) v _ (sym room)
-    ∙ ap (first_line v n (args_in c (frames_of c (Some (kept.Runs run)) below)) (frames_of c (Some (kept.Runs run)) below)) (sym same)
-    ∙ first_lost v n (args_in c (frames_of c (Some (kept.Runs run)) below)) (frames_of c (Some (kept.Runs run)) below) lines e
-wrapper_lost c v (Some (kept.Wraps k xs wrapper at x)) below n lines h room same e = absurd (cc)
+pub wrapper_lost : (c : Code) (v : ImageThread) (top : Option KeptFrame) (below : Stack) (n : ℕ) (args : List Word) (lines : List Op) → IsSome (running_on top) → true ≡ has_room (frames_of c top below) →
+    is_enter (line_of (first_op lines)) ≡ false → wrapper_in v (frames_of c top below) n args lines ≡ comes_to (Trapped Unreachable) v
+wrapper_lost c v None below n args lines h room e = absurd (cc)
+wrapper_lost c v (Some (kept.Runs run)) below n args lines h room e =
+    if_free (has_room (frames_of c (Some (kept.Runs run)) below)) v _ (sym room) ∙ first_lost v n args (frames_of c (Some (kept.Runs run)) below) lines e
+wrapper_lost c v (Some (kept.Wraps k xs wrapper at x)) below n args lines h room e = absurd (cc)
 
 pub asks_enter : (c : Code) (old new : Runner) (who : Principal) (n : ℕ) (args copy : List Word) (lines : List Op) → copy ≡ args → who ≡ top_of old.stack.shadow.principals →
     new.thread ≡ old.thread → new.calls ≡ old.calls → new.endings ≡ old.endings → new.fuel ≡ old.fuel - 1 → new.due ≡ old.due → new.marks ≡ None → new.request ≡ Some (request who (what.Enter (Direct n) args)) →
@@ -298,17 +293,10 @@ asks_enter c old new who n args copy lines same asker e0 e1 e2 e3 e4 e5 e6 frame
     }
 
 -- a wrapper asks for its enter
-abbrev pub calling : ℕ → List Op → ImageThread → List Word → ImageStep
-calling n lines v xs = Asks (with_frames (Wraps n xs lines None ∷ v.frames) (poorer v)) (request (top_of v.shadow) (what.Enter (Direct n) xs))
+abbrev pub calling : ℕ → List Word → List Op → ImageThread → ImageStep
+calling n args lines v = Asks (with_frames (Wraps n args lines None ∷ v.frames) (poorer v)) (request (top_of v.shadow) (what.Enter (Direct n) args))
 
 -- from a state with more room
 pub calls_entering : (c : Code) (old mid new : Runner) (n : ℕ) (args : List Word) (lines : List Op) → mid.thread ≡ old.thread → mid.calls ≡ old.calls → mid.endings ≡ old.endings → mid.fuel ≡ old.fuel → mid.due ≡ old.due → IsRoomier c old.stack mid.stack →
-    args ≡ args_in c (frames_of c old.stack.top old.stack.below) →
-    HasTaken c mid new (Asks (with_frames (Wraps n args lines None ∷ frames_of c mid.stack.top mid.stack.below) (poorer (thread_of c mid))) (request (top_of mid.stack.shadow.principals) (what.Enter (Direct n) args))) →
-    HasTaken c old new
-    (Asks (with_frames (Wraps n (args_in c (frames_of c old.stack.top old.stack.below)) lines None ∷ frames_of c old.stack.top old.stack.below) (poorer (thread_of c old)))
-    (request (top_of old.stack.shadow.principals) (what.Enter (Direct n) (args_in c (frames_of c old.stack.top old.stack.below)))))
-calls_entering c old mid new n args lines e0 e1 e2 e3 e4 a same h =
-    retaken c old mid new _ _ e0 e1 e2
-    (ap (λ (v : ImageThread). calling n lines v (args_in c (frames_of c old.stack.top old.stack.below))) (sym (same_state c old mid e1 e2 e3 e4 a))
-    ∙ ap (calling n lines (thread_of c mid)) (sym same)) h
+    HasTaken c mid new (calling n args lines (thread_of c mid)) → HasTaken c old new (calling n args lines (thread_of c old))
+calls_entering c old mid new n args lines e0 e1 e2 e3 e4 a h = retaken c old mid new _ _ e0 e1 e2 (ap (calling n args lines) (sym (same_state c old mid e1 e2 e3 e4 a))) h

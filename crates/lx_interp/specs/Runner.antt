@@ -1,5 +1,5 @@
 -- What a runner of images is: the thread that it stands for, what it asks, and what may answer it.
-use Rattle.std.specs.Prelude.{◌≡◌, ℕ, suc, ◌+◌, ◌-◌, ◌*◌, ◌≤◌, Bool, true, false, IsTrue, IsSome, Option, Some, None, List, [], ◌∷◌, length, drop, nat_le, option_and_then, ⊤}
+use Rattle.std.specs.Prelude.{◌≡◌, ℕ, suc, ◌+◌, ◌-◌, ◌*◌, ◌≤◌, Bool, true, false, IsTrue, IsSome, Option, Some, None, List, [], ◌∷◌, length, drop, nat_le, ⊤}
 use Rattle.lx_words.specs.Word.{Word}
 use Rattle.lx_caps.specs.declared.Principal.{Principal}
 use Rattle.lx_caps.specs.declared.Principal.TheVariants.{Kernel}
@@ -21,10 +21,12 @@ use Rattle.lx_ir.specs.declared.instr.Op.{Op}
 use Rattle.lx_images.specs.Image.{Code, ImageFrame, Runs, ImageThread, ImageStep, Goes, Asks, ImageAsking, Marks, no_marks, top as top_of, below_top, asker, comes_to, effect_step, costly_step, wrapped_import, wrapper_call, action_line, behind_line, due_or, image_next, image_next_within}
 use Rattle.lx_image_code.specs.declared.line.Line.{Line}
 use Rattle.lx_image_code.specs.declared.line.Line.TheVariants as line
+use Rattle.lx_image_code.specs.Wrappers.{wrapper_lines}
 use Rattle.lx_image_steps.specs.Standing.{head_of}
-use Rattle.lx_image_steps.specs.Marks.{next_args, next_lines}
 use Rattle.lx_image_steps.specs.Effects.{effect_of}
 use Rattle.lx_image_steps.specs.declared.effect.Effect.{Effect as Found}
+use Rattle.lx_image_steps.specs.declared.next.Step.{Step}
+use Rattle.lx_image_steps.specs.declared.next.Step.TheVariants as step
 use Rattle.lx_interp.specs.declared.runner.Runner.{Runner}
 use Rattle.lx_frames.specs.Frames.{frames_of, marked_frame_step, running_on}
 use Rattle.lx_frames.specs.Stack.{IsReadyIf}
@@ -177,11 +179,6 @@ effect_in c m v fs e = comes_to (Trapped Unreachable) v
 abbrev pub effect_on : Code → Marks → ImageThread → Found → ImageStep
 effect_on c m v e = effect_in c m v v.frames e
 
--- by the effect that it has, if it has one
-abbrev pub found_in : Code → Marks → ImageThread → List ImageFrame → Option Found → ImageStep
-found_in c m v fs None = comes_to (Trapped Unreachable) v
-found_in c m v fs (Some e) = effect_in c m v fs e
-
 -- by an instruction, if there is one
 abbrev pub costly_or_none : Code → Marks → ImageThread → Activation → List ImageFrame → Option Op → ImageStep
 costly_or_none c m v a fs None = comes_to (Trapped Unreachable) v
@@ -196,19 +193,20 @@ instruction_in c m v fs = comes_to (Trapped Unreachable) v
 abbrev pub instruction_on : Code → Marks → ImageThread → ImageStep
 instruction_on c m v = instruction_in c m v v.frames
 
--- by the call of a wrapper
-abbrev pub wrapper_in : Code → ImageThread → List ImageFrame → ℕ → ImageStep
-wrapper_in c v (Runs a ∷ fs) n = wrapper_call v a fs n (next_args c a a.code) (next_lines c a a.code)
-wrapper_in c v fs n = comes_to (Trapped Unreachable) v
+-- by the call of the wrapper of a function, with arguments and of these lines
+abbrev pub wrapper_in : ImageThread → List ImageFrame → ℕ → List Word → List Op → ImageStep
+wrapper_in v (Runs a ∷ fs) n args lines = wrapper_call v a fs n args lines
+wrapper_in v fs n args lines = comes_to (Trapped Unreachable) v
 
 -- the same of a thread's own frames
-abbrev pub wrapper_on : Code → ImageThread → ℕ → ImageStep
-wrapper_on c v n = wrapper_in c v v.frames n
+abbrev pub wrapper_on : ImageThread → ℕ → List Word → List Op → ImageStep
+wrapper_on v n args lines = wrapper_in v v.frames n args lines
 
--- the import whose wrapper it stands to call
-abbrev pub wrapped_in : Code → List ImageFrame → Option ℕ
-wrapped_in c (Runs a ∷ fs) = option_and_then (wrapped_import c (text_of c.program a)) (head_of a.code)
-wrapped_in c fs = None
+-- by what is found of its next instruction, if there is one
+abbrev pub next_in : Code → Marks → ImageThread → List ImageFrame → Option Step → ImageStep
+next_in c m v fs None = comes_to (Trapped Unreachable) v
+next_in c m v fs (Some (step.Crosses n args wrapper)) = wrapper_in v fs n args (wrapper_lines c wrapper)
+next_in c m v fs (Some (step.Does e)) = effect_in c m v fs e
 
 -- for whom it makes a request
 abbrev pub asker_in : Code → Marks → List Principal → List ImageFrame → What → Principal

@@ -43,11 +43,10 @@ impl FrameStack {
         ensures registers { self.new.registers ≡ self.old.registers }
         ensures shadow { self.new.shadow ≡ self.old.shadow }
     {
-        match self.top.take() {
+        match mem::replace(&mut self.top, Some(frame)) {
             Some(caller) => self.below.push(caller),
             None => self.below.clear(),
         }
-        self.top = Some(frame);
     }
 
     /// A wrapper stands on the function that calls it, at its first line.

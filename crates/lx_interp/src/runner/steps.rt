@@ -6,7 +6,7 @@ ghost use Rattle.lx_model.specs.Thread.{first_fuel, has_call};
 ghost use Rattle.lx_images.specs.Image.{Code as Images, ImageAsking, ImageThread, Marks, image_next, start_step};
 ghost use Rattle.lx_images.specs.ImageWorld.{fresh_image_thread};
 ghost use Rattle.lx_frames.specs.Frames.{frames_of, line_on, marked_frame_step, running_on};
-ghost use Rattle.lx_interp.specs.Runner.{GoesOn, HasStayed, HasTaken, IsAsking, IsMarked, StandsFor, calls_left, events_left, events_of, found_in, instruction_in, instruction_on, marked_step, marks_in, poorer, request_of, steps_before, thread_of, wrapped_in};
+ghost use Rattle.lx_interp.specs.Runner.{GoesOn, HasStayed, HasTaken, IsAsking, IsMarked, StandsFor, calls_left, events_left, events_of, instruction_in, instruction_on, marked_step, marks_in, next_in, poorer, request_of, steps_before, thread_of};
 
 use super::Runner;
 use super::effects::finishing;
@@ -14,7 +14,7 @@ use crate::ending::Ending;
 use lx_caps::Principal;
 use lx_frames::{FrameStack, copies_of};
 use lx_image_code::Code;
-use lx_image_steps::{Effect, next_effect, wrapped_call};
+use lx_image_steps::{Step, next_step};
 use lx_model::program::{Calls, ScriptCall};
 use lx_model::request::{Outcome, Request, Trap, Way, What};
 use lx_words::{Items, Memory};
@@ -102,45 +102,18 @@ impl Runner {
         Ok(())
     }
 
-    // The import whose wrapper the function stands to call.
-    fn wrapped(&self, code: &Code) -> Option<u32>
-        ensures { result ≡ wrapped_in code.now (frames_of code.now self.now.stack.top self.now.stack.below) }
-    {
-        match self.stack.running() {
-            Some(run) => wrapped_call(code, run),
-            None => None,
-        }
-    }
-
-    // The effect of the next instruction, which calls no wrapper; none, where there is no instruction.
-    fn next_effect(&self, code: &Code) -> Result<Option<Effect>, Memory>
-        ensures { IfOk result (λ e. (m : Marks) → (v : ImageThread) → wrapped_in code.now (frames_of code.now self.now.stack.top self.now.stack.below) ≡ None → instruction_in code.now m v (frames_of code.now self.now.stack.top self.now.stack.below) ≡ found_in code.now m v (frames_of code.now self.now.stack.top self.now.stack.below) e) }
+    // What the next instruction of the function on top does; none, where there is no instruction.
+    #[tactic(auto, using(crate::proofs::Lines::next_found, crate::proofs::Lines::nothing_found))]
+    fn next_step(&self, code: &Code) -> Result<Option<Step>, Memory>
+        ensures { IfOk result (λ s. (m : Marks) → (v : ImageThread) → instruction_in code.now m v (frames_of code.now self.now.stack.top self.now.stack.below) ≡ next_in code.now m v (frames_of code.now self.now.stack.top self.now.stack.below) s) }
     {
         match self.stack.running() {
             Some(run) => {
-                let effect = next_effect(self.alloc, code, run)?;
-                Ok(effect)
+                let step = next_step(self.alloc, code, run)?;
+                Ok(step)
             }
             None => Ok(None),
         }
-    }
-
-    // The function takes its next instruction, which calls no wrapper.
-    fn take_effect(&mut self, code: &Code) -> Result<(), Memory>
-        requires fuel { 0 < self.old.fuel }
-        requires request { self.old.request ≡ None }
-        requires top { IsSome (running_on self.old.stack.top) }
-        requires plain { wrapped_in code.now (frames_of code.now self.old.stack.top self.old.stack.below) ≡ None }
-        ensures steps { OnOk result (HasTaken code.now self.old self.new (instruction_on code.now (marks_in self.old.marks) (poorer (thread_of code.now self.old)))) }
-        ensures stays { OnErr result (HasStayed code.now self.old self.new) }
-        ensures spares { events_left self.new ≤ events_left self.old }
-    {
-        let found = self.next_effect(code)?;
-        match found {
-            Some(effect) => self.apply(code, effect)?,
-            None => self.trap(Trap::Unreachable),
-        }
-        Ok(())
     }
 
     // The function takes its next instruction: the call of a wrapper, or another one.
@@ -152,9 +125,17 @@ impl Runner {
         ensures stays { OnErr result (HasStayed code.now self.old self.new) }
         ensures spares { events_left self.new ≤ events_left self.old }
     {
-        match self.wrapped(code) {
-            Some(import) => self.call_wrapper(code, import)?,
-            None => self.take_effect(code)?,
+        let next = self.next_step(code)?;
+        match next {
+            Some(
+                Step::Crosses {
+                    function,
+                    args,
+                    wrapper,
+                },
+            ) => self.call_wrapper(code, function, args, wrapper)?,
+            Some(Step::Does(effect)) => self.apply(code, effect)?,
+            None => self.trap(Trap::Unreachable),
         }
         Ok(())
     }

@@ -7,7 +7,7 @@ ghost use Rattle.lx_images.specs.Image.{Asks, Code as Images, Wraps, after_leavi
 ghost use Rattle.lx_image_code.specs.declared.line.Line.TheVariants as line;
 ghost use Rattle.lx_image_code.specs.Wrappers.{wrapper_lines};
 ghost use Rattle.lx_frames.specs.Frames.{args_on, frame_of, frames_of, function_on, line_on, running_on, value_on};
-ghost use Rattle.lx_frames.specs.Stack.{CanEnter, CanGoOn, args_in};
+ghost use Rattle.lx_frames.specs.Stack.{CanEnter, CanGoOn};
 ghost use Rattle.lx_interp.specs.Runner.{HasStayed, HasTaken, action_of, action_on, asked_by, events_left, is_enter, is_ret, poorer, thread_of, wrapper_on};
 
 use super::Runner;
@@ -31,18 +31,25 @@ fn is_ret(line: Option<Line>) -> bool
 }
 
 impl Runner {
-    // The request for an action of the wrapper on top, before its body or behind it: from the caller to the callee, or back.
-    fn action(&self, post: bool, index: u32, value: &Option<Word>) -> Result<Request, Memory>
-        ensures { IfOk result (λ q. q ≡ action_of self.now.stack.shadow.principals (function_on self.now.stack.top) (args_on self.now.stack.top) post index value.now) }
+    // A copy of the arguments of the wrapper on top.
+    fn copied_args(&self) -> Result<Words, Memory>
+        ensures { IfOk result (λ args. args ≡ args_on self.now.stack.top) }
     {
-        let args = Items::from_slice(self.alloc, self.stack.args())?;
+        let copy = Items::from_slice(self.alloc, self.stack.args())?;
+        Ok(copy)
+    }
+
+    // The request for an action of the wrapper on top, before its body or behind it: from the caller to the callee, or back.
+    fn action(&self, post: bool, index: u32, args: Words, value: &Option<Word>) -> Request
+        ensures { result ≡ action_of self.now.stack.shadow.principals (function_on self.now.stack.top) args post index value.now }
+    {
         let (callee, caller) = (self.stack.shadow.top(), self.stack.shadow.below_top());
         let (source, dest, ret) = if post {
             (callee, caller, *value)
         } else {
             (caller, callee, None)
         };
-        Ok(Request {
+        Request {
             who: source,
             what: What::Perform {
                 function: self.stack.function(),
@@ -52,7 +59,7 @@ impl Runner {
                 source,
                 dest,
             },
-        })
+        }
     }
 
     // The wrapper on top asks for an action, which costs a unit.
@@ -66,10 +73,10 @@ impl Runner {
             self.stop(&Outcome::Budget);
             return Ok(());
         }
-        let request = self.action(post, index, value)?;
+        let copy = self.copied_args()?;
         self.fuel -= 1; // an action costs a unit
         self.marks = None;
-        self.request = Some(request);
+        self.request = Some(self.action(post, index, copy, value));
         Ok(())
     }
 
@@ -103,14 +110,11 @@ impl Runner {
         ensures marks { self.new.marks ≡ self.old.marks }
         ensures request { self.new.request ≡ self.old.request }
     {
-        match self.stack.below.pop() {
-            Some(mut frame) => {
-                frame.resume(code, value);
-                self.stack.top = Some(frame);
-            }
+        self.stack.top = self.stack.below.pop();
+        match &mut self.stack.top {
+            Some(frame) => frame.resume(code, value),
             None => {
                 self.due = Some(Outcome::Returned(*value));
-                self.stack.top = None;
                 self.stack.shadow.clear();
             }
         }
@@ -200,26 +204,38 @@ impl Runner {
     }
 
     // The function calls a wrapper, which asks to enter what it wraps.
-    fn call_entering(&mut self, code: &Code, function: u32, wrapper: Wrapper) -> Result<(), Memory>
+    fn call_entering(
+        &mut self,
+        code: &Code,
+        function: u32,
+        args: Words,
+        wrapper: Wrapper,
+    ) -> Result<(), Memory>
         requires fuel { 0 < self.old.fuel }
         requires request { self.old.request ≡ None }
-        ensures steps { OnOk result (HasTaken code.now self.old self.new (Asks (with_frames (Wraps function (args_in code.now (frames_of code.now self.old.stack.top self.old.stack.below)) (wrapper_lines code.now wrapper) None ∷ frames_of code.now self.old.stack.top self.old.stack.below) (poorer (thread_of code.now self.old))) (request (top_of self.old.stack.shadow.principals) (what.Enter (Direct function) (args_in code.now (frames_of code.now self.old.stack.top self.old.stack.below)))))) }
+        ensures steps { OnOk result (HasTaken code.now self.old self.new (Asks (with_frames (Wraps function args (wrapper_lines code.now wrapper) None ∷ frames_of code.now self.old.stack.top self.old.stack.below) (poorer (thread_of code.now self.old))) (request (top_of self.old.stack.shadow.principals) (what.Enter (Direct function) args)))) }
         ensures stays { OnErr result (HasStayed code.now self.old self.new) }
         ensures spares { events_left self.new ≤ events_left self.old }
     {
-        let args = self.stack.arguments(code)?;
         let copy = Items::from_slice(self.alloc, args.as_slice())?;
         self.stack.prepare_entry(code, args.len(), 3)?;
         self.ask_enter(function, args, copy, wrapper);
         Ok(())
     }
 
-    /// The function calls the wrapper of an import, which asks to enter it; one that begins with another line cannot run.
-    pub(super) fn call_wrapper(&mut self, code: &Code, function: u32) -> Result<(), Memory>
+    /// The function calls the wrapper of an import with arguments, and that asks to enter the import; one that begins with another line
+    /// cannot run.
+    pub(super) fn call_wrapper(
+        &mut self,
+        code: &Code,
+        function: u32,
+        args: Words,
+        wrapper: Wrapper,
+    ) -> Result<(), Memory>
         requires fuel { 0 < self.old.fuel }
         requires request { self.old.request ≡ None }
         requires top { IsSome (running_on self.old.stack.top) }
-        ensures steps { OnOk result (HasTaken code.now self.old self.new (wrapper_on code.now (poorer (thread_of code.now self.old)) function)) }
+        ensures steps { OnOk result (HasTaken code.now self.old self.new (wrapper_on (poorer (thread_of code.now self.old)) function args (wrapper_lines code.now wrapper))) }
         ensures stays { OnErr result (HasStayed code.now self.old self.new) }
         ensures spares { events_left self.new ≤ events_left self.old }
     {
@@ -227,12 +243,11 @@ impl Runner {
             self.trap(Trap::TooDeep);
             return Ok(());
         }
-        let wrapper = self.stack.called_wrapper(code);
         if !is_enter(code.line(wrapper, 0)) {
             self.trap(Trap::Unreachable);
             return Ok(());
         }
-        self.call_entering(code, function, wrapper)?;
+        self.call_entering(code, function, args, wrapper)?;
         Ok(())
     }
 }

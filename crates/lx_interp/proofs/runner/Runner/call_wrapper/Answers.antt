@@ -10,7 +10,7 @@ returns-then-not-has_room-clause-steps c =
     let old = c.args.self.now in
     let full : c.has_room.result ≡ false = c.if-not-has_room.true in
     taken_as p old c.trap.new.self _ _
-    (wrapper_full p (poorer (thread_of p old)) old.stack.top old.stack.below c.args.function c.requires.top (sym full ∙ c.has_room.ensures p)) (c.trap.ensures.stops p)
+    (wrapper_full p (poorer (thread_of p old)) old.stack.top old.stack.below c.args.function c.args.args (wrapper_lines p c.args.wrapper) c.requires.top (sym full ∙ c.has_room.ensures p)) (c.trap.ensures.stops p)
 
 pub returns-then-not-is_enter-clause-steps : goal.returns-then-not-is_enter-clause-steps
 returns-then-not-is_enter-clause-steps c =
@@ -19,7 +19,7 @@ returns-then-not-is_enter-clause-steps c =
     let free : c.has_room.result ≡ true = c.if-not-has_room.false in
     let other : c.is_enter.result ≡ false = c.if-not-is_enter.true in
     taken_as p old c.trap-then-not-is_enter.new.self _ _
-    (wrapper_lost p (poorer (thread_of p old)) old.stack.top old.stack.below c.args.function (wrapper_lines p c.called_wrapper-wrapper.result) c.requires.top (sym free ∙ c.has_room.ensures p) c.called_wrapper-wrapper.ensures
+    (wrapper_lost p (poorer (thread_of p old)) old.stack.top old.stack.below c.args.function c.args.args (wrapper_lines p c.args.wrapper) c.requires.top (sym free ∙ c.has_room.ensures p)
     (sym (c.is_enter.ensures ∙ ap is_enter c.line.ensures) ∙ other)) (c.trap-then-not-is_enter.ensures.stops p)
 
 pub returns-clause-steps : goal.returns-clause-steps
@@ -29,5 +29,5 @@ returns-clause-steps c =
     let free : c.has_room.result ≡ true = c.if-not-has_room.false in
     let first : c.is_enter.result ≡ true = c.if-not-is_enter.false in
     taken_as p old c.call_entering.new.self _ _
-    (wrapper_asks p (poorer (thread_of p old)) old.stack.top old.stack.below c.args.function (wrapper_lines p c.called_wrapper-wrapper.result) c.requires.top (sym free ∙ c.has_room.ensures p) c.called_wrapper-wrapper.ensures
+    (wrapper_asks p (poorer (thread_of p old)) old.stack.top old.stack.below c.args.function c.args.args (wrapper_lines p c.args.wrapper) c.requires.top (sym free ∙ c.has_room.ensures p)
     (sym (c.is_enter.ensures ∙ ap is_enter c.line.ensures) ∙ first)) c.in_ok-call_entering.ensures.steps
