@@ -86,25 +86,17 @@ same_input p q cs ds ms ns besides e f g =
     ∙ ap (λ (x : List (List ScriptCall)). input q x ms besides) f
     ∙ ap (λ (x : List (List Marked)). input q ds x besides) g
 
--- the same, with these modules
-abbrev pub with_modules : Sources → List Module → Sources
-with_modules s ms = record { case = s.case; kernel = s.kernel; interface = s.interface; modules = ms; besides = s.besides }
-
-module _ (case : List ℕ) (s : Sources) (ms : List Module) (linked : LinkedParts) (p : Program) (script : List (List ScriptCall)) (marks : List (List Marked))
-    (same : ms ≡ s.modules) (linked_is : linked ≡ linked_of (texts_of (with_modules s ms)) s.case) (program_is : p ≡ linked.program) (script_is : script ≡ linked.calls)
-    (marks_are : marks ≡ all_annotated (texts_of s)) where
-  is : linked ≡ linked_of (texts_of s) s.case
-  is = linked_is ∙ ap (λ (xs : List Module). linked_of (texts_of (with_modules s xs)) s.case) same
-
+module _ (case : List ℕ) (s : Sources) (linked : LinkedParts) (p : Program) (script : List (List ScriptCall)) (marks : List (List Marked))
+    (is : linked ≡ linked_of (texts_of s) s.case) (program_is : p ≡ linked.program) (script_is : script ≡ linked.calls) (marks_are : marks ≡ all_annotated (texts_of s)) where
   program_of_texts : p ≡ program_of (texts_of s)
   program_of_texts = program_is ∙ ap (λ (x : LinkedParts). x.program) is
 
   calls_of_script : script ≡ calls_of (program_of (texts_of s)) s.case.threads
   calls_of_script = script_is ∙ ap (λ (x : LinkedParts). x.calls) is
 
-  pub is_input : link_fault (texts_of (with_modules s ms)) s.case ≡ None → LinkTurn case s (Ok (record { program = p; script = script; annotated = marks; besides = s.besides }))
+  pub is_input : link_fault (texts_of s) s.case ≡ None → LinkTurn case s (Ok (record { program = p; script = script; annotated = marks; besides = s.besides }))
   is_input none = (
-    sym (ap (λ (xs : List Module). link_fault (texts_of (with_modules s xs)) s.case) same) ∙ none,
+    none,
     same_input p (program_of (texts_of s)) script (calls_of (program_of (texts_of s)) s.case.threads) marks (all_annotated (texts_of s)) s.besides
         program_of_texts calls_of_script marks_are,
   )

@@ -18,7 +18,7 @@ use Rattle.lx_files.specs.Asked.{Asked}
 use Rattle.lx_files.specs.Turns.{Then, Gives}
 use Rattle.lx_files.specs.Inputs.{SourcesTurn}
 use Rattle.lx_input.specs.declared.input.Input.{Input}
-use Rattle.lx_input.specs.declared.linked.VerifiedTexts.{VerifiedTexts}
+use Rattle.lx_input.specs.declared.linked.VerifiedCase.{VerifiedCase}
 use Rattle.lx_input.specs.Lines.{link_line}
 use Rattle.lx_input.specs.Checks.{Passed, VerifyTurn, PropagateTurn, EachModule}
 
@@ -70,8 +70,8 @@ abbrev pub TextsTurn : Case → Module → List Module → Result Passed InputSt
 TextsTurn c kernel ms answer = Then (VerifyTurn {A = Unit {0}} (origin_name c.kernel) kernel) (λ _. EachModule VerifyTurn c.modules ms) answer
 
 -- what was read, where these of its texts are verified
-abbrev pub sources_by : VerifiedTexts → Besides → Sources
-sources_by t besides = record { case = t.case; kernel = t.kernel; interface = t.interface; modules = t.modules.items; besides = besides }
+abbrev pub sources_by : VerifiedCase → Besides → Sources
+sources_by c besides = record { case = c.case; kernel = c.texts.kernel; interface = c.texts.interface; modules = c.texts.modules.items; besides = besides }
 
 -- what the files of a command come to, where the case has this name, and this is asked for besides
 abbrev pub InputTurn : List FileText → List ℕ → Asked → Result Input InputStop → Type 0

@@ -11,11 +11,10 @@ ghost use Rattle.lx_input.specs.Laws.{HasNoConflict, IsLinkedInput, IsReady, IsV
 use crate::checks::{annotate_modules, verify_module, verify_modules};
 use crate::input::Input;
 use crate::stop::link_stop;
-use lx_annot::interface::Interface;
 use lx_files::{Besides, ImageFile, InputStop, Sources};
 use lx_ir::module::Module;
 use lx_ir_verify::Verified;
-use lx_link::link;
+use lx_link::{VerifiedTexts, link};
 use lx_script::{Case, CaseModule, Origin};
 use lx_slot_types::Annotated;
 use lx_words::Items;
@@ -40,13 +39,11 @@ fn few_threads(case: &Case) -> usize
     case.threads.len()
 }
 
-/// What was read for a case, its kernel and modules verified.
+/// A case, and the texts that were read for it, verified.
 #[derive(Drop)]
-struct VerifiedTexts {
+struct VerifiedCase {
     case: Case,
-    kernel: Verified,
-    interface: Interface,
-    modules: Vec<Verified>,
+    texts: VerifiedTexts,
 }
 
 /// Links what was checked; `name` is the name of the case.
@@ -54,27 +51,23 @@ struct VerifiedTexts {
 fn link_checked(
     alloc: Global,
     name: &[u8],
-    texts: &VerifiedTexts,
+    checked: VerifiedCase,
     annotated: Items<Annotated>,
     besides: Besides,
 ) -> Result<Input, InputStop>
-    requires sound { AreSound (sources_by texts.now besides) }
-    requires annotated { annotated ≡ map (annotated_of texts.now.interface) texts.now.modules.items }
-    requires agree { All (HasNoConflict texts.now.interface) texts.now.modules.items }
-    ensures turn { LinkTurn name.now (sources_by texts.now besides) result }
+    requires sound { AreSound (sources_by checked besides) }
+    requires annotated { annotated ≡ map (annotated_of checked.texts.interface) checked.texts.modules.items }
+    requires agree { All (HasNoConflict checked.texts.interface) checked.texts.modules.items }
+    ensures turn { LinkTurn name.now (sources_by checked besides) result }
     ensures linked { IfOk result IsLinkedInput }
     ensures besides { IfOk result (λ i. i.besides ≡ besides) }
 {
-    let _threads = few_threads(&texts.case);
-    let modules = texts.modules.as_slice();
-    match link(
-        alloc,
-        &texts.kernel,
-        &texts.interface,
-        modules,
-        annotated.as_slice(),
-        &texts.case,
-    ) {
+    let _threads = few_threads(&checked.case);
+    let VerifiedCase { case, texts } = checked;
+    let outcome = link(alloc, texts, annotated.as_slice(), &case);
+    // What was linked no longer needs its case, however it went.
+    drop(case);
+    match outcome {
         Ok(linked) => {
             let (program, script) = linked.into_parts();
             Ok(Input {
@@ -157,18 +150,18 @@ fn verify_image(alloc: Global, input: Input) -> Result<Input, InputStop>
 fn check_linked(
     alloc: Global,
     name: &[u8],
-    texts: &VerifiedTexts,
+    checked: VerifiedCase,
     annotated: Items<Annotated>,
     besides: Besides,
 ) -> Result<Input, InputStop>
-    requires sound { AreSound (sources_by texts.now besides) }
-    requires annotated { annotated ≡ map (annotated_of texts.now.interface) texts.now.modules.items }
-    requires agree { All (HasNoConflict texts.now.interface) texts.now.modules.items }
-    ensures turn { BehindSlots name.now (sources_by texts.now besides) result }
+    requires sound { AreSound (sources_by checked besides) }
+    requires annotated { annotated ≡ map (annotated_of checked.texts.interface) checked.texts.modules.items }
+    requires agree { All (HasNoConflict checked.texts.interface) checked.texts.modules.items }
+    ensures turn { BehindSlots name.now (sources_by checked besides) result }
     ensures ready { IfOk result IsReady }
     ensures besides { IfOk result (λ i. i.besides ≡ besides) }
 {
-    match link_checked(alloc, name, texts, annotated, besides) {
+    match link_checked(alloc, name, checked, annotated, besides) {
         Ok(input) => verify_image(alloc, input),
         Err(why) => Err(why),
     }
@@ -178,22 +171,23 @@ fn check_linked(
 fn check_slots(
     alloc: Global,
     name: &[u8],
-    texts: &VerifiedTexts,
+    checked: VerifiedCase,
     besides: Besides,
 ) -> Result<Input, InputStop>
-    requires sound { AreSound (sources_by texts.now besides) }
-    ensures turn { BehindVerified name.now (sources_by texts.now besides) result }
+    requires sound { AreSound (sources_by checked besides) }
+    ensures turn { BehindVerified name.now (sources_by checked besides) result }
     ensures ready { IfOk result IsReady }
     ensures besides { IfOk result (λ i. i.besides ≡ besides) }
 {
     match annotate_modules(
         alloc,
-        &texts.interface,
-        texts.case.modules.as_slice(),
-        texts.modules.as_slice(),
+        &checked.texts.interface,
+        checked.case.modules.as_slice(),
+        checked.texts.modules.as_slice(),
     ) {
-        Ok(annotated) => check_linked(alloc, name, texts, annotated, besides),
+        Ok(annotated) => check_linked(alloc, name, checked, annotated, besides),
         Err(why) => {
+            drop(checked);
             drop(besides);
             Err(why)
         }
@@ -262,15 +256,11 @@ pub fn check_sources(alloc: Global, name: &[u8], sources: Sources) -> Result<Inp
     match verify_texts(alloc, &case, kernel, modules) {
         Ok((kernel, modules)) => {
             let texts = VerifiedTexts {
-                case,
                 kernel,
                 interface,
                 modules,
             };
-            let input = check_slots(alloc, name, &texts, besides);
-            // One owner drops the texts once, however the check went.
-            drop(texts);
-            input
+            check_slots(alloc, name, VerifiedCase { case, texts }, besides)
         }
         Err(why) => {
             drop(case);

@@ -1,7 +1,6 @@
 -- Lemmas on modules that are named one after another, and on what is linked of them.
-use Rattle.std.proofs.Common.{◌≡◌, ℕ, zero, suc, ◌+◌, ◌<◌, ◌≤◌, None, List, [], ◌∷◌, ◌++◌, length, get_or, take, refl, ap, sym, subst, ◌∙◌, arith}
+use Rattle.std.proofs.Common.{◌≡◌, zero, suc, ◌<◌, ◌≤◌, None, List, [], ◌∷◌, ◌++◌, length, get_or, refl, ap, sym, subst, ◌∙◌, arith}
 use Rattle.std.specs.Prelude.{All}
-use Rattle.std.proofs.lemmas.List.{length-take, take_more}
 use Rattle.std.proofs.lemmas.List.Elements.{All-append}
 use Rattle.lx_ir.specs.declared.module.Module.{Module}
 use Rattle.lx_ir.specs.Lawful.{IsPlain}
@@ -18,21 +17,33 @@ use Rattle.lx_link.specs.declared.linked.LinkedParts.{LinkedParts}
 use Rattle.lx_link.specs.Answers.{AreVerified, link_fault, linked_of, named, named_modules, sources_of}
 use Rattle.lx_link.specs.Laws.{AreWellLinked, CallsFit, IsLinked}
 
-last_named : (ns : List CaseModule) (ms : List Module) (n : CaseModule) (m : Module) → length ns ≡ length ms → named_modules (ns ++ n ∷ []) (ms ++ m ∷ []) ≡ named_modules ns ms ++ named n m ∷ []
-last_named [] [] n m e = refl
-last_named [] (y ∷ ys) n m e = absurd (omega (arith, e))
-last_named (x ∷ xs) [] n m e = absurd (omega (arith, e))
-last_named (x ∷ xs) (y ∷ ys) n m e = ap (λ l. named x y ∷ l) (last_named xs ys n m (omega (arith, e)))
+none_named : (ns : List CaseModule) → named_modules ns [] ≡ []
+none_named [] = refl
+none_named (n ∷ ns) = refl
 
--- one module more
-pub named_more : (ns : List CaseModule) (ms : List Module) (i : ℕ) (n : CaseModule) (m : Module) (old new : List ProgramModule) → length ms ≡ length ns → i < length ms → n ≡ get_or ns i n → m ≡ get_or ms i m
-    → old ≡ named_modules (take i ns) (take i ms) → new ≡ old ++ named n m ∷ [] → new ≡ named_modules (take (i + 1) ns) (take (i + 1) ms)
-named_more ns ms i n m old new many h e d p q =
-    let there : i < length ns = grind (arith, many) in
-    let few : length (take i ns) ≡ length (take i ms) = grind (arith, length-take) in
-    let names : take (i + 1) ns ≡ take i ns ++ n ∷ [] = take_more ns i n there ∙ ap (λ x. take i ns ++ x ∷ []) (sym e) in
-    let modules : take (i + 1) ms ≡ take i ms ++ m ∷ [] = take_more ms i m h ∙ ap (λ x. take i ms ++ x ∷ []) (sym d) in
-    q ∙ ap (λ l. l ++ named n m ∷ []) p ∙ sym (last_named (take i ns) (take i ms) n m few) ∙ (λ j. named_modules (sym names j) (sym modules j))
+-- one module more; names that are left over name nothing
+last_named : (ns : List CaseModule) (ms : List Module) (n : CaseModule) (m : Module) → length ms < length ns → n ≡ get_or ns (length ms) n → named_modules ns (ms ++ m ∷ []) ≡ named_modules ns ms ++ named n m ∷ []
+last_named [] ms n m h e = absurd (omega (arith, h))
+last_named (x ∷ xs) [] n m h e = λ j. named (sym e j) m ∷ none_named xs j
+last_named (x ∷ xs) (y ∷ ys) n m h e = ap (λ l. named x y ∷ l) (last_named xs ys n m (omega (arith, h)) e)
+
+pub named_more : (ns : List CaseModule) (ms : List Module) (n : CaseModule) (m : Module) (old new : List ProgramModule) → length ms < length ns → n ≡ get_or ns (length ms) n
+    → old ≡ named_modules ns ms → new ≡ old ++ named n m ∷ [] → new ≡ named_modules ns (ms ++ m ∷ [])
+named_more ns ms n m old new h e p q = q ∙ ap (λ l. l ++ named n m ∷ []) p ∙ sym (last_named ns ms n m h e)
+
+-- as many are named as there are
+pub many_named : (ns : List CaseModule) (ms : List Module) (list : List ProgramModule) → length ms ≤ length ns → list ≡ named_modules ns ms → length list ≡ length ms
+many_named ns ms list h e = ap length e ∙ many ns ms h
+  where
+    many : (ns : List CaseModule) (ms : List Module) → length ms ≤ length ns → length (named_modules ns ms) ≡ length ms
+    many [] [] h = refl
+    many [] (m ∷ ms) h = absurd (omega (arith, h))
+    many (n ∷ ns) [] h = refl
+    many (n ∷ ns) (m ∷ ms) h = ap (λ k. suc k) (many ns ms (omega (arith, h)))
+
+-- nothing is named yet
+pub unnamed : (ns : List CaseModule) (list : List ProgramModule) → list ≡ [] → (list ≡ named_modules ns []) × AreVerified list
+unnamed ns list e = (e ∙ sym (none_named ns), subst AreVerified (sym e) (λ k d h. absurd (omega (arith, h))))
 
 one : (m : Module) → IsVerified m → (n : CaseModule) → AreVerified (named n m ∷ [])
 one m v n zero d h = v

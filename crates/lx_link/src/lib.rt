@@ -11,10 +11,12 @@ mod linked;
 mod linking;
 mod means;
 mod names;
+mod texts;
 
 pub use fault::LinkFault;
 pub use linked::{Linked, LinkedParts};
 pub use linking::link;
+pub use texts::VerifiedTexts;
 
 /// Sound texts without a fault are linked to a well-formed program, and its calls fit the functions that they name.
 #[tactic(auto, using(crate::proofs::Fitting::well_linked, crate::proofs::Fitting::calls_fit))]

@@ -1,11 +1,10 @@
 //! Linking.
-ghost use Rattle.std.specs.Prelude.{◌≡◌, ◌<◌, ◌≤◌, ◌^◌, ◌++◌, ◌∷◌, ◌⊎◌, [], All, IfOk, None, OnErr, OnOk, Some, length};
+ghost use Rattle.std.specs.Prelude.{◌≡◌, ◌<◌, ◌≤◌, ◌^◌, ◌⊎◌, All, IfOk, None, OnErr, Some, length};
 ghost use Rattle.lx_ir.specs.Lawful.{IsPlain};
-ghost use Rattle.lx_ir.specs.Verified.{IsVerified};
 ghost use Rattle.lx_annot.specs.Lawful.{IsLawfulInterface};
 ghost use Rattle.lx_link_texts.specs.Faults.{Gives, all_annotated, limit_fault, most_functions};
 ghost use Rattle.lx_link_texts.specs.Placing.{HasLimits, program_of};
-ghost use Rattle.lx_link.specs.Answers.{AreVerified, IsFaultOr, IsWanted, Stops, StopsOr, link_fault, linked_of, named, named_modules, source_fault, sources_of};
+ghost use Rattle.lx_link.specs.Answers.{IsFaultOr, IsWanted, Stops, StopsOr, link_fault, linked_of, named_modules, source_fault, sources_of};
 ghost use Rattle.lx_link.specs.Calls.{calls_of, script_fault};
 
 use crate::calls::check_script;
@@ -13,17 +12,15 @@ use crate::fault::LinkFault;
 use crate::link_laws;
 use crate::linked::{Linked, LinkedParts};
 use crate::means::Means;
-use lx_annot::interface::Interface;
-use lx_ir_verify::Verified;
+use crate::texts::VerifiedTexts;
 use lx_link_texts::fault::Found;
 use lx_link_texts::sources::Sources;
 use lx_link_texts::{check_limits, check_texts};
-use lx_model::program::{Calls, Program, ProgramModule};
+use lx_model::program::{Calls, Program};
 use lx_name_tables::ProgramNames;
-use lx_script::{Case, CaseModule};
+use lx_script::Case;
 use lx_slot_types::Annotated;
-use lx_text_copies::{copied_interface, copied_module};
-use lx_words::{Items, Memory, Name};
+use lx_words::{Items, Memory};
 use std::alloc::Global;
 
 /// The fault that is answered for one that was found, or want of memory for its names.
@@ -145,88 +142,31 @@ fn link_sources<M: Means>(
     Ok(LinkedParts { program, calls })
 }
 
-fn push_module(
-    alloc: Global,
-    list: &mut Items<ProgramModule>,
-    name: &CaseModule,
-    verified: &Verified,
-) -> Result<(), Memory>
-    ensures list { OnOk result (list.new ≡ list.old ++ named name.now verified.now ∷ []) }
-    ensures verified { OnOk result (IsVerified verified.now) }
-{
-    let name = Name::from_bytes(alloc, name.name.as_slice())?;
-    let module = copied_module(alloc, verified.module())?;
-    list.push(ProgramModule { name, module })?;
-    Ok(())
-}
-
-/// Copies of the modules, with the names that the case gives them.
-#[tactic(auto, using(crate::proofs::Modules::named_more, crate::proofs::Modules::verified_more))]
-fn named_modules(
-    alloc: Global,
-    names: &[CaseModule],
-    modules: &[Verified],
-) -> Result<Items<ProgramModule>, Memory>
-    requires { length modules.now ≡ length names.now }
-    ensures list { IfOk result (λ list. list ≡ named_modules names.now modules.now) }
-    ensures verified { IfOk result AreVerified }
-{
-    let mut list = Items::new(alloc);
-    for i in 0..modules.len() {
-        push_module(alloc, &mut list, &names[i], &modules[i])?;
-    }
-    Ok(list)
-}
-
-/// Copies of the texts, with the names that the case gives the modules.
-pub fn copied_sources(
-    alloc: Global,
-    kernel: &Verified,
-    interface: &Interface,
-    names: &[CaseModule],
-    modules: &[Verified],
-) -> Result<Sources, Memory>
-    requires { length modules.now ≡ length names.now }
-    ensures sources { IfOk result (λ sources. sources ≡ sources_of kernel.now interface.now (named_modules names.now modules.now)) }
-    ensures verified { IfOk result (λ sources. IsVerified sources.kernel × AreVerified sources.modules) }
-{
-    let modules = named_modules(alloc, names, modules)?;
-    let kernel = copied_module(alloc, kernel.module())?;
-    let interface = copied_interface(alloc, interface)?;
-    Ok(Sources {
-        kernel,
-        interface,
-        modules,
-    })
-}
-
 /// Links over any means.
 #[tactic(auto, using(crate::proofs::Passes::lacked, crate::proofs::Passes::either_wanted, crate::proofs::Modules::is_linked))]
 fn link_by<M: Means>(
     means: &M,
-    kernel: &Verified,
-    interface: &Interface,
-    modules: &[Verified],
+    texts: VerifiedTexts,
     annotated: &[Annotated],
     case: &Case,
 ) -> Result<Linked, LinkFault>
-    requires modules { length modules.now ≡ length case.now.modules }
-    requires kernel_plain { IsPlain kernel.now }
-    requires modules_plain { All IsPlain modules.now }
-    requires interface { IsLawfulInterface interface.now }
-    requires annotated { annotated.now ≡ all_annotated (sources_of kernel.now interface.now (named_modules case.now.modules modules.now)) }
-    ensures fault { StopsOr (M.unnamed means.now ⊎ M.lacks means.now) case.now (link_fault (sources_of kernel.now interface.now (named_modules case.now.modules modules.now)) case.now) result }
-    ensures ok { IfOk result (λ linked. linked ≡ linked_of (sources_of kernel.now interface.now (named_modules case.now.modules modules.now)) case.now) }
+    requires modules { length texts.modules.items ≡ length case.now.modules }
+    requires kernel_plain { IsPlain texts.kernel }
+    requires modules_plain { All IsPlain texts.modules.items }
+    requires interface { IsLawfulInterface texts.interface }
+    requires annotated { annotated.now ≡ all_annotated (sources_of texts.kernel texts.interface (named_modules case.now.modules texts.modules.items)) }
+    ensures fault { StopsOr (M.unnamed means.now ⊎ M.lacks means.now) case.now (link_fault (sources_of texts.kernel texts.interface (named_modules case.now.modules texts.modules.items)) case.now) result }
+    ensures ok { IfOk result (λ linked. linked ≡ linked_of (sources_of texts.kernel texts.interface (named_modules case.now.modules texts.modules.items)) case.now) }
 {
     lx_link_texts::text_laws();
     link_laws();
-    let sources = means.sources(kernel, interface, case.modules.as_slice(), modules)?;
+    let sources = means.sources(texts, case.modules.as_slice())?;
     let parts = link_sources(means, case, sources, annotated)?;
     Ok(Linked::new(parts))
 }
 
-/// Links a kernel, an interface and the modules of a case, and gives the calls of the case by numbers and words. The program
-/// has copies of them, which take memory and time linear in the texts. There are as many modules as the case has, in its
+/// Links a kernel, an interface and the modules of a case, and gives the calls of the case by numbers and words. The texts are
+/// taken, and stand in the program; where it comes to a fault, they are gone. There are as many modules as the case has, in its
 /// order, and `annotated` has for each the functions that have a slot type.
 ///
 /// # Errors
@@ -235,25 +175,24 @@ fn link_by<M: Means>(
 /// another signature (3); an import of a module that the kernel lacks (1), that is not exported (2) or that has another
 /// signature (3); an annotated function with another signature than its slot type (3); too many functions or bytes of
 /// globals (4); a call whose target or whose argument's name is missing (1), or whose arguments do not fit (3).
-/// `Memory` where there was not enough: for the copies of the texts, for the names in the fault, or, where neither the texts
-/// nor the limits have a fault, for what is linked. Behind the copies, all faults but those of calls are found without memory.
+/// `Memory` where there was not enough: for the names of the modules, for the names in the fault, or, where neither the texts
+/// nor the limits have a fault, for what is linked. Behind the names of the modules, all faults but those of calls are found
+/// without memory.
 #[tactic(auto, using(crate::proofs::Passes::any_want))]
 pub fn link(
     alloc: Global,
-    kernel: &Verified,
-    interface: &Interface,
-    modules: &[Verified],
+    texts: VerifiedTexts,
     annotated: &[Annotated],
     case: &Case,
 ) -> Result<Linked, LinkFault>
-    requires modules { length modules.now ≡ length case.now.modules }
-    requires kernel_plain { IsPlain kernel.now }
-    requires modules_plain { All IsPlain modules.now }
-    requires interface { IsLawfulInterface interface.now }
-    requires annotated { annotated.now ≡ all_annotated (sources_of kernel.now interface.now (named_modules case.now.modules modules.now)) }
-    ensures fault { Stops case.now (link_fault (sources_of kernel.now interface.now (named_modules case.now.modules modules.now)) case.now) result }
-    ensures ok { IfOk result (λ linked. linked ≡ linked_of (sources_of kernel.now interface.now (named_modules case.now.modules modules.now)) case.now) }
+    requires modules { length texts.modules.items ≡ length case.now.modules }
+    requires kernel_plain { IsPlain texts.kernel }
+    requires modules_plain { All IsPlain texts.modules.items }
+    requires interface { IsLawfulInterface texts.interface }
+    requires annotated { annotated.now ≡ all_annotated (sources_of texts.kernel texts.interface (named_modules case.now.modules texts.modules.items)) }
+    ensures fault { Stops case.now (link_fault (sources_of texts.kernel texts.interface (named_modules case.now.modules texts.modules.items)) case.now) result }
+    ensures ok { IfOk result (λ linked. linked ≡ linked_of (sources_of texts.kernel texts.interface (named_modules case.now.modules texts.modules.items)) case.now) }
 {
-    let linked = link_by(&alloc, kernel, interface, modules, annotated, case)?;
+    let linked = link_by(&alloc, texts, annotated, case)?;
     Ok(linked)
 }

@@ -9,9 +9,7 @@ ghost use Rattle.lx_link.specs.Calls.{calls_of};
 use crate::answers::answered;
 use crate::calls::resolve;
 use crate::fault::LinkFault;
-use crate::linking::copied_sources;
-use lx_annot::interface::Interface;
-use lx_ir_verify::Verified;
+use crate::texts::{VerifiedTexts, named_sources};
 use lx_link_texts::fault::Found;
 use lx_link_texts::sources::Sources;
 use lx_link_texts::{functions_of, globals_of};
@@ -27,7 +25,7 @@ pub trait Means {
     /// There was no memory for the names of a fault.
     ghost unnamed: { Self → Type 0 };
 
-    /// There was no memory for copies, tables or calls.
+    /// There was no memory for names of modules, tables or calls.
     ghost lacks: { Self → Type 0 };
 
     /// The fault that is answered for one that was found.
@@ -35,16 +33,10 @@ pub trait Means {
         ensures ok { IfOk result (λ fault. fault ≡ answered case.now found.now) }
         ensures err { OnErr result (unnamed self.now) };
 
-    /// Copies of the texts, with the names that the case gives the modules.
-    fn sources(
-        &self,
-        kernel: &Verified,
-        interface: &Interface,
-        names: &[CaseModule],
-        modules: &[Verified],
-    ) -> Result<Sources, Memory>
-        requires { length modules.now ≡ length names.now }
-        ensures sources { IfOk result (λ sources. sources ≡ sources_of kernel.now interface.now (named_modules names.now modules.now)) }
+    /// The texts, with the names that the case gives the modules.
+    fn sources(&self, texts: VerifiedTexts, names: &[CaseModule]) -> Result<Sources, Memory>
+        requires { length texts.modules.items ≡ length names.now }
+        ensures sources { IfOk result (λ sources. sources ≡ sources_of texts.kernel texts.interface (named_modules names.now texts.modules.items)) }
         ensures verified { IfOk result (λ sources. IsVerified sources.kernel × AreVerified sources.modules) }
         ensures err { OnErr result (lacks self.now) };
 
@@ -86,14 +78,8 @@ impl Means for Global {
         Ok(fault)
     }
 
-    fn sources(
-        &self,
-        kernel: &Verified,
-        interface: &Interface,
-        names: &[CaseModule],
-        modules: &[Verified],
-    ) -> Result<Sources, Memory> {
-        let sources = copied_sources(*self, kernel, interface, names, modules)?;
+    fn sources(&self, texts: VerifiedTexts, names: &[CaseModule]) -> Result<Sources, Memory> {
+        let sources = named_sources(*self, texts, names)?;
         Ok(sources)
     }
 
