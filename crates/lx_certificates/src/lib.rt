@@ -21,10 +21,11 @@ mod spans;
 mod told;
 
 pub use check::check_cert;
+pub use givers::{Gifts, Piece, Sought, count_of, first_of};
 pub use laws::{certificate_laws, need_laws, standing_laws, worked_certificates};
 use lx_caps::{Atom, Cap, Principal};
 use lx_words::Items;
-pub use make::cert_for;
+pub use make::{Cutting, atom_at, cert_for, number_if, part_of};
 pub use needs::certs_for;
 pub use told::{is_told, told_acts, told_laws};
 

@@ -56,7 +56,7 @@ fn address_at(cap: Cap, place: u64) -> Result<u64, Memory>
 }
 
 /// Atoms of a capability from one place to before another, and the act that gave them.
-fn part_of(cap: Cap, from: u64, end: u64, act: usize) -> Result<Part, Memory>
+pub fn part_of(cap: Cap, from: u64, end: u64, act: usize) -> Result<Part, Memory>
     requires { from ≤ end }
     ensures { IfOk result (λ p. p ≡ record { low = first_of cap + from; size = end - from; act = act }) }
 {
@@ -93,7 +93,7 @@ fn push_part(
 
 /// The parts of a capability whose atoms were all given, or the place of the first one that was not.
 #[derive(Drop)]
-enum Cutting {
+pub enum Cutting {
     Parts(Parts),
     Lack(u64),
 }
@@ -114,7 +114,7 @@ fn cut(alloc: Global, acts: &[Act], sought: Sought) -> Result<Cutting, Memory>
 }
 
 /// An atom of the capability by its place.
-fn atom_at(cap: Cap, place: u64) -> Result<Atom, Memory>
+pub fn atom_at(cap: Cap, place: u64) -> Result<Atom, Memory>
     ensures { IfOk result (λ x. x ≡ nth_atom cap place) }
 {
     match cap {
@@ -127,7 +127,8 @@ fn atom_at(cap: Cap, place: u64) -> Result<Atom, Memory>
     }
 }
 
-fn number_if(found: Option<usize>) -> Result<Option<u32>, Memory>
+/// The number of an act that was found, where one was.
+pub fn number_if(found: Option<usize>) -> Result<Option<u32>, Memory>
     ensures { IfOk result (λ n. same_number n found ≡ true) }
 {
     match found {
