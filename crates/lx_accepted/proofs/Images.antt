@@ -10,12 +10,12 @@ use Rattle.lx_annot.specs.declared.interface.Interface.{Interface}
 use Rattle.lx_propagate.specs.Slots.{annotated_of, conflict_of}
 use Rattle.lx_image_texts.specs.Guards.{function_text, Guards}
 use Rattle.lx_image_texts.specs.Programs.{program_of}
-use Rattle.lx_image_texts.specs.Instrumented.{leaves_spared, GuardsBut}
+use Rattle.lx_image_texts.specs.Instrumented.{leaves_none, leaves_spared, GuardsBut}
 use Rattle.lx_image_texts.specs.WrapperText.{wrappers_of}
 use Rattle.lx_image_texts.proofs.Closed.{lawful_closed}
 use Rattle.lx_image_texts.proofs.Erasing.{some_same, none_some, names_of, is_program_name, guarded_names, plain_functions}
 use Rattle.lx_image_texts.proofs.Exact.{is_exact}
-use Rattle.lx_image_texts.proofs.Images.{spared_guards}
+use Rattle.lx_image_texts.proofs.Images.{full_guards, spared_guards}
 use Rattle.lx_image_texts.proofs.SlotTypes.{Half, half_of, half_annotated, agrees_back, still_agrees}
 use Rattle.lx_same_texts.specs.SameText.{SameText}
 use Rattle.lx_model.specs.declared.program.Program.{Program}
@@ -78,8 +78,14 @@ accepted_images p images w a t m few =
 
 -- what the instrumenter makes
 
-pub made : (i : Interface) (m x : Module) → IsVerified m → IsPlain m → conflict_of i m ≡ None → IsVerified x → GuardsBut (leaves_spared m) i m x → IsAcceptedBy i x × IsImageOfText m x
-made i m x verified plain agrees image g =
+image_is : (i : Interface) (m x : Module) → IsVerified m → IsVerified x → Guards i m x → IsAcceptedBy i x × IsImageOfText m x
+image_is i m x verified image g =
     let exact = is_exact i x image.lawful image.no_fault in
-    let only = exact.only m (record { image = spared_guards i m x plain agrees g; closed = lawful_closed m verified.lawful }) in
+    let only = exact.only m (record { image = g; closed = lawful_closed m verified.lawful }) in
     (record { verified = image; no_fault = only.0 }, record { types = g.types; globals = g.globals; functions = (exact.yes only.0).1 ∙ sym only.1 })
+
+pub made : (i : Interface) (m x : Module) → IsVerified m → IsPlain m → conflict_of i m ≡ None → IsVerified x → GuardsBut (leaves_spared m) i m x → IsAcceptedBy i x × IsImageOfText m x
+made i m x verified plain agrees image g = image_is i m x verified image (spared_guards i m x plain agrees g)
+
+pub made_full : (i : Interface) (m x : Module) → IsVerified m → IsPlain m → conflict_of i m ≡ None → IsVerified x → GuardsBut leaves_none i m x → IsAcceptedBy i x × IsImageOfText m x
+made_full i m x verified plain agrees image g = image_is i m x verified image (full_guards i m x plain agrees g)

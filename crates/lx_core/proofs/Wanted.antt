@@ -1,14 +1,19 @@
 -- Where there is room, what serves no request but those that take memory wants any.
-use Rattle.std.proofs.Common.{◌≡◌, ℕ, zero, suc, ◌*◌, ◌<◌, ◌≤◌, Bool, true, false, IsTrue, Option, Some, List, [], ◌∷◌, length, refl, ap, ◌∙◌, arith}
-use Rattle.std.specs.Prelude.{slice_set, slice_index_or}
+use Rattle.std.proofs.Common.{◌≡◌, ℕ, zero, suc, ◌*◌, ◌<◌, ◌≤◌, Bool, true, false, IsTrue, Option, Some, List, [], ◌∷◌, length, refl, sym, ap, ◌∙◌, arith}
+use Rattle.std.specs.Prelude.{option_map, slice_set, slice_index_or}
 use Rattle.std.specs.List.{sum_by}
 use Rattle.std.proofs.lemmas.List.Sums.{sum_by-cons}
 use Rattle.lx_model.specs.declared.program.ScriptCall.{ScriptCall}
 use Rattle.lx_model.specs.declared.request.Request.{Request}
 use Rattle.lx_model.specs.Thread.{has_call}
 use Rattle.lx_interp.specs.declared.runner.Runner.{Runner}
-use Rattle.lx_interp.specs.Runner.{calls_left, events_left, request_of, unpaid_events}
-use Rattle.lx_core.specs.Wants.{asked_at, may_want}
+use Rattle.lx_images.specs.Image.{Code, ImageThread, image_next}
+use Rattle.lx_images.specs.ImageWorld.{ImageWorld}
+use Rattle.lx_interp.specs.Runner.{calls_left, events_left, request_of, unpaid_events, IsAsking}
+use Rattle.lx_core.specs.Wants.{asked_at, image_asks, may_want}
+use Rattle.lx_core.specs.Worlds.{AllStand, StandsFor}
+use Rattle.lx_core.proofs.Standing.{standing}
+use Rattle.lx_core.proofs.Turns.{has_work_of}
 
 -- what cannot be where the test holds does not pass it
 pub denied : (b : Bool) → (b ≡ true → false ≡ true) → b ≡ false
@@ -62,3 +67,11 @@ asked_after (y ∷ ys) (suc k) after there = asked_after ys k after (omega arith
 -- a request that takes memory may want it
 pub wants_asked : (asked : Option Request) (q : Request) → asked ≡ Some q → may_want (Some q) ≡ true → may_want asked ≡ true
 wants_asked asked q is h = ap may_want is ∙ h
+
+-- a runner that asks what its thread asks next, put in its place
+pub asks_next : (c : Code) (t : ℕ) (w : ImageWorld) (rs new : List Runner) (r after : Runner) → AllStand c 0 rs w.threads → r ≡ slice_index_or rs t r → t < length rs → new ≡ slice_set rs t after
+    → IsTrue (has_call (calls_left r)) → ((x : ImageThread) → StandsFor c t r x → IsTrue (has_call x.calls) → IsAsking c t after (image_next c x))
+    → asked_at new t ≡ image_asks c t w
+asks_next c t w rs new r after all is there set work asks =
+    let at = standing c 0 t t rs w.threads r all (omega arith) there is in
+    ap (λ ys. asked_at ys t) set ∙ asked_after rs t after there ∙ (asks at.0 at.2 (has_work_of c t r at.0 at.2 work)).request ∙ sym (ap (option_map (λ x. (image_next c x).request)) at.1)

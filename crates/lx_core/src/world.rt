@@ -15,6 +15,7 @@ use crate::turn::turn;
 use lx_caps::CapStore;
 use lx_interp::{Code, Runner};
 use lx_model::program::{Calls, Program};
+use lx_model::request::Request;
 use lx_serve::SharedPart;
 use lx_words::Memory;
 use std::alloc::Global;
@@ -98,7 +99,7 @@ fn are_done(runners: &[Runner]) -> bool
 }
 
 impl<C: CapStore + Drop> World<C> {
-    ghost use Rattle.std.specs.Prelude.{◌≡◌, ◌<◌, ◌↔◌, ℕ, false, true, ◌≤◌, OnOk, OnErr, IfOk, IsErrOf, length};
+    ghost use Rattle.std.specs.Prelude.{◌≡◌, ◌<◌, ◌↔◌, ℕ, false, true, ◌≤◌, OnOk, OnErr, IfOk, IsErrOf, length, option_copied};
     ghost use Rattle.lx_images.specs.Image.{Code};
     ghost use Rattle.lx_images.specs.ImageWorld.{ImageWorld, image_event, image_opening};
     ghost use Rattle.lx_images.specs.Shown.{shown};
@@ -106,7 +107,7 @@ impl<C: CapStore + Drop> World<C> {
     ghost use Rattle.lx_model.specs.Account.{schedule_of};
     ghost use Rattle.lx_model.specs.Opening.{opening_state};
     ghost use Rattle.lx_core.specs.Parts.{AreParts};
-    ghost use Rattle.lx_core.specs.Wants.{asked_at, may_want};
+    ghost use Rattle.lx_core.specs.Wants.{asked_at, asked_of, image_asks, may_want};
     ghost use Rattle.lx_core.specs.Worlds.{HasEndsRoom, HasRoom, StandsForWorld, code_of, program_of, events_in, is_idle_at, script_events};
     ghost use Rattle.lx_serve.specs.Room.{journal_room};
     ghost use Rattle.lx_serve.specs.Stands.{StandsForState};
@@ -202,6 +203,46 @@ impl<C: CapStore + Drop> World<C> {
             thread,
         )?;
         Ok(())
+    }
+
+    /// Takes the register steps of a thread that are due before its next request, and nothing else: behind them [`World::request`] gives
+    /// what the thread asks, and its next event serves just that.
+    ///
+    /// # Errors
+    /// `NoWork` as in [`World::event`]. After `Memory` the steps are still due, as far as they have not gone on.
+    pub fn local(&mut self, thread: u32) -> Result<(), EventFault>
+        ensures stands { (c : Code) (v : ImageWorld) → StandsForWorld C.stands c self.old v → StandsForWorld C.stands c self.new v }
+        ensures asks { OnOk result ((c : Code) (v : ImageWorld) → StandsForWorld C.stands c self.old v → asked_of self.new thread ≡ image_asks c thread v) }
+        ensures no_work { (c : Code) (v : ImageWorld) → StandsForWorld C.stands c self.old v → IsErrOf result (EventFault.NoWork thread) ↔ (can_act (shown v) thread ≡ false) }
+        ensures number { (n : ℕ) → IsErrOf result (EventFault.NoWork n) → n ≡ thread }
+        ensures unchanged { IsErrOf result (EventFault.NoWork thread) → self.new ≡ self.old }
+        ensures code { code_of self.new ≡ code_of self.old }
+        ensures room { HasRoom self.old → HasRoom self.new }
+        ensures ends { HasEndsRoom C.spare self.old → HasEndsRoom C.spare self.new }
+    {
+        let place = thread as usize;
+        if self.is_idle(place) {
+            return Err(EventFault::NoWork { thread });
+        }
+        self.runners.at(thread).local(&self.code)?;
+        Ok(())
+    }
+
+    /// What a thread asks; nothing, where register steps are due or no call is left.
+    pub fn request(&self, thread: u32) -> Option<&Request>
+        ensures { option_copied result ≡ asked_of self.now thread }
+    {
+        match self.runners.list.get(thread as usize) {
+            Some(runner) => runner.request(),
+            None => None,
+        }
+    }
+
+    /// What all threads share.
+    pub fn shared(&self) -> &SharedPart<C>
+        ensures { (c : Code) (v : ImageWorld) → StandsForWorld C.stands c self.now v → StandsForState C.stands c.program result.now v.state }
+    {
+        &self.shared
     }
 
     /// Whether no thread has a call left.

@@ -223,8 +223,11 @@ fn verified_image(m: &Module, annotated: &Annotated, image: Module) -> Result<Ve
     }
 }
 
-/// What [`instrument_full`] makes of a module that stands in no `Verified`.
-fn instrument_module_full(
+/// What [`instrument_full`] makes of a module that is known to be verified and that stands elsewhere, as those of a linked program do.
+///
+/// # Errors
+/// Those of [`instrument_full`].
+pub fn instrument_module_full(
     alloc: Global,
     i: &Interface,
     m: &Module,

@@ -11,4 +11,4 @@ mod marks;
 mod numbers;
 mod room;
 
-pub use image::{instrument, instrument_full, instrument_module};
+pub use image::{instrument, instrument_full, instrument_module, instrument_module_full};

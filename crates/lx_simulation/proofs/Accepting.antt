@@ -55,7 +55,7 @@ record IsImage (m i : Module) : Type 0 where
 
 -- lists
 
-got_take : {A : Type 0} (xs : List A) (n k : ℕ) → k < n → slice_get (take n xs) k ≡ slice_get xs k
+pub got_take : {A : Type 0} (xs : List A) (n k : ℕ) → k < n → slice_get (take n xs) k ≡ slice_get xs k
 got_take [] zero k h = absurd (omega (arith, h))
 got_take [] (suc n) k h = refl
 got_take (x ∷ xs) zero k h = absurd (omega (arith, h))
@@ -142,7 +142,7 @@ image_of_guards i m x g = record { others = names_of (in_wrappers i m); names = 
 
 -- wrappers
 
-image_got : (c : Code) (m : ℕ) (i : Module) (f : ℕ) → slice_get c.images m ≡ Some i → option_and_then (λ (x : Module). slice_get x.functions f) (slice_get c.images m) ≡ slice_get i.functions f
+pub image_got : (c : Code) (m : ℕ) (i : Module) (f : ℕ) → slice_get c.images m ≡ Some i → option_and_then (λ (x : Module). slice_get x.functions f) (slice_get c.images m) ≡ slice_get i.functions f
 image_got c m i f e = ap (λ (x : Option Module). option_and_then (λ (y : Module). slice_get y.functions f) x) e
 
 named_at : (fs : List Function) (k : ℕ) (x : List ℕ) → slice_get (names_of fs) k ≡ Some x → (f : Function) × (slice_get fs k ≡ Some f) × (f.name ≡ x)
@@ -204,10 +204,10 @@ calls_out c h m f g false t less e =
     out_import_at c m im.0 f w.0 im.1 w.1
     ∙ ap (option_and_then (kernel_function c.program)) (wraps_none w.0 g w.2 (all_at has_plain_name (module_of c.program (Some m)).functions f g (plain_names (module_of c.program (Some m)) im.2.plain) e))
 
-no_module : (p : Program) (m f : ℕ) (g : Function) → length p.modules ≤ m → slice_get (module_of p (Some m)).functions f ≡ Some g → ⊥
+pub no_module : (p : Program) (m f : ℕ) (g : Function) → length p.modules ≤ m → slice_get (module_of p (Some m)).functions f ≡ Some g → ⊥
 no_module p m f g l e = none_some (sym (ap (λ (x : Option ProgramModule). slice_get (module_or_empty x).functions f) (slice_get_past p.modules m l)) ∙ e)
 
-below_or_past : (k n : ℕ) → (k < n) ⊎ (n ≤ k)
+pub below_or_past : (k n : ℕ) → (k < n) ⊎ (n ≤ k)
 below_or_past k n = grind arith
 
 calls_out_at : (c : Code) → HasImages c → (m f : ℕ) (g : Option Function) → slice_get (module_of c.program (Some m)).functions f ≡ g → CallsOut c m f g

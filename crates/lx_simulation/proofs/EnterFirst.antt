@@ -1,5 +1,5 @@
 -- In every code that runs a wrapper that is called begins with its enter, since it has the form of one.
-use Rattle.std.proofs.Common.{◌≡◌, ℕ, Bool, true, false, ◌&&◌, List, [], ◌∷◌, Option, Some, None, length, refl, sym, ap, ◌∙◌}
+use Rattle.std.proofs.Common.{◌≡◌, ℕ, Bool, true, false, List, [], ◌∷◌, Option, Some, None, length, refl, sym, ap, ◌∙◌}
 use Rattle.std.specs.Prelude.{if◌then◌else◌, slice_get, option_and_then, nat_eq, drop}
 use Rattle.std.specs.List.{starts_with}
 use Rattle.lx_ir.specs.declared.module.Function.{Function}
@@ -16,7 +16,7 @@ use Rattle.lx_images.specs.Wrappers.{lines_of, called_lines}
 use Rattle.lx_images.specs.WrapperForm.{is_wrapper, wraps_named, is_one_block, is_formed_by, is_formed_as, is_formed, first_named, has_name, has_formed_wrappers, have_formed_wrappers}
 use Rattle.lx_images.specs.Lines.{EnterFirst}
 use Rattle.lx_simulation.proofs.Accepting.{all_at}
-use Rattle.lx_simulation.proofs.Elements.{both_first, both_second}
+use Rattle.lx_simulation.proofs.Elements.{both_second}
 
 -- the lines begin with an enter
 abbrev Enters : List Op → Type 0

@@ -67,7 +67,7 @@ store_shown m f bare ty x y os is rest false eb spared e sh = (
 )
 
 -- any other instruction
-abbrev NoStore : Op → Type 0
+abbrev pub NoStore : Op → Type 0
 NoStore (op.Store ty x y) = ⊥
 NoStore o = Unit {0}
 
@@ -83,7 +83,7 @@ other_stores m (op.Call to ret (callee.Register r) args) rest n = refl
 other_stores m (op.Call to ret (callee.Symbol s) args) rest n = refl
 other_stores m o rest n = refl
 
-other_bare : (m : Module) (o : Op) (rest : List Op) (k : ℕ) → NoStore o → bare_in false (mark_of o ++ (image_op m o ∷ rest)) k ≡ bare_in false rest k
+pub other_bare : (m : Module) (o : Op) (rest : List Op) (k : ℕ) → NoStore o → bare_in false (mark_of o ++ (image_op m o ∷ rest)) k ≡ bare_in false rest k
 other_bare m (op.Store ty x y) rest k n = absurd n
 other_bare m (op.Call to ret (callee.Register r) args) rest k n = refl
 other_bare m (op.Call to ret (callee.Symbol s) args) rest k n = refl
@@ -157,11 +157,11 @@ same_bytes (x ∷ xs) = grind (arith, same_bytes xs)
 other_name : (names : List (List ℕ)) (x y : List ℕ) → is_distinct (y ∷ names) ≡ true → IsIn x names → bytes_eq y x ≡ false
 other_name names x y d i = not_any (bytes_eq y x) (list_any (bytes_eq y) names) (λ e. any_of (bytes_eq y) names x i e) (both_first (not (list_any (bytes_eq y) names)) (is_distinct names) d)
 
-found_here : (c : Block) (cs : List Block) (label : List ℕ) (b : Bool) → bytes_eq c.name label ≡ b → b ≡ true → code_block_named (map code_block_of (c ∷ cs)) label ≡ Some (code_block_of c)
+pub found_here : (c : Block) (cs : List Block) (label : List ℕ) (b : Bool) → bytes_eq c.name label ≡ b → b ≡ true → code_block_named (map code_block_of (c ∷ cs)) label ≡ Some (code_block_of c)
 found_here c cs label true e t = grind (arith, e)
 found_here c cs label false e t = true_not (sym t)
 
-found_later : (c : Block) (cs : List Block) (label : List ℕ) → bytes_eq c.name label ≡ false → code_block_named (map code_block_of (c ∷ cs)) label ≡ code_block_named (map code_block_of cs) label
+pub found_later : (c : Block) (cs : List Block) (label : List ℕ) → bytes_eq c.name label ≡ false → code_block_named (map code_block_of (c ∷ cs)) label ≡ code_block_named (map code_block_of cs) label
 found_later c cs label e = grind (arith, e)
 
 named : (cs : List Block) (c : Block) → is_distinct (map name_of_block cs) ≡ true → IsIn c cs → code_block_named (map code_block_of cs) c.name ≡ Some (code_block_of c)

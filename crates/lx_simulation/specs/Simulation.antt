@@ -1,17 +1,19 @@
 -- Accepted images run as their programs do under the monitor.
-use Rattle.std.specs.Prelude.{◌≡◌, ℕ, suc, ◌+◌, ◌*◌, ◌<◌, ◌≤◌, false, Option, List, length, map}
+use Rattle.std.specs.Prelude.{◌≡◌, ℕ, suc, ◌+◌, ◌*◌, ◌<◌, ◌≤◌, false, Option, Some, List, length, map, slice_get}
+use Rattle.lx_ir.specs.declared.module.Function.{Function}
 use Rattle.lx_ir.specs.declared.module.Module.{Module}
 use Rattle.lx_ir.specs.declared.instr.Op.{Op}
 use Rattle.lx_ir.specs.Verified.{IsVerified}
 use Rattle.lx_image_texts.specs.Marks.{without_marks}
 use Rattle.lx_link_texts.specs.WellFormed.{IsWellFormed, FitsCalls}
 use Rattle.lx_model.specs.declared.program.Program.{Program}
+use Rattle.lx_model.specs.declared.program.ProgramFunction.TheVariants.{Of}
 use Rattle.lx_model.specs.declared.program.ScriptCall.{ScriptCall}
 use Rattle.lx_model.specs.Program.{Home, module_of}
 use Rattle.lx_model.specs.Thread.{Thread}
-use Rattle.lx_model.specs.Next.{step}
+use Rattle.lx_model.specs.Next.{step, next}
 use Rattle.lx_model.specs.World.{World, event, opening, run}
-use Rattle.lx_images.specs.Image.{Code, ImageThread, image_step, image_next_within}
+use Rattle.lx_images.specs.Image.{Code, ImageThread, image_step, image_next_within, image_next}
 use Rattle.lx_images.specs.ImageWorld.{ImageWorld, image_event, image_opening, image_run}
 use Rattle.lx_images.specs.ImageCode.{Bare, text_op, image_ops}
 use Rattle.lx_images.specs.Guarded.{Accepted, SlotCalls, bare_of}
@@ -21,14 +23,15 @@ use Rattle.lx_images.specs.Fitting.{ScriptFits}
 use Rattle.lx_images.specs.Kept.{WorldKept}
 use Rattle.lx_images.specs.Places.{WorldPlaces}
 use Rattle.lx_images.specs.Lines.{LineLaws}
-use Rattle.lx_simulation.specs.Images.{code_of, AreImages}
+use Rattle.lx_simulation.specs.Images.{code_of, AreImages, AreFullImages}
 use Rattle.lx_simulation.specs.Showing.{ShowingLaws}
 use Rattle.lx_simulation.specs.Crossing.{CrossingLaws}
 use Rattle.lx_simulation.specs.Forming.{FormingLaws}
 
--- each store of the images has its guard
+-- each store of a module's function has its guard in the images; the kernel's have none
 abbrev pub AllGuarded : Code → Type 0
-AllGuarded c = (n : ℕ) (label : List ℕ) (k : ℕ) → bare_of c n label k ≡ false
+AllGuarded c =
+    (n m k : ℕ) (f : Function) → slice_get c.program.functions n ≡ Some (Of (Some m) k) → slice_get (module_of c.program (Some m)).functions k ≡ Some f → (label : List ℕ) (j : ℕ) → bare_of c n label j ≡ false
 
 pub record SimulationLaws : Type 0 where
   -- whatever the schedule, the world of a well-formed program's images stands for the monitor's world of the program
@@ -41,7 +44,13 @@ pub record SimulationLaws : Type 0 where
   pub runs : (c : Code) → Accepted c → (script : List (List ScriptCall)) (schedule : List ℕ) → length script ≤ 16 → ScriptFits c.program script → StandsFor c (run c.program schedule (opening c.program script)) (image_run c schedule (image_opening c script))
   -- where each store has its guard, so it does whatever the calls are
   pub guarded_runs : (c : Code) → Accepted c → AllGuarded c → (script : List (List ScriptCall)) (schedule : List ℕ) → StandsFor c (run c.program schedule (opening c.program script)) (image_run c schedule (image_opening c script))
-  -- and whatever the schedule, each function of a module keeps the bytes that it has on the stack
+  -- and what an image thread asks for next is asked for the monitor's principal too
+  pub asks : (c : Code) → Accepted c → AllGuarded c → (t : ℕ) (thread : Thread) (v : ImageThread) → Well c.program t thread → ThreadStands c thread v → (image_next c v).request ≡ (next c.program t thread).request
+  -- so it is of each thread at each point of a run
+  pub asked_in_runs : (c : Code) → Accepted c → AllGuarded c → (script : List (List ScriptCall)) (schedule : List ℕ) (t : ℕ) (thread : Thread) (v : ImageThread) → slice_get (run c.program schedule (opening c.program script)).threads t ≡ Some thread → slice_get (image_run c schedule (image_opening c script)).threads t ≡ Some v → (image_next c v).request ≡ (next c.program t thread).request
+  -- images that are made with all guards have each store's
+  pub guarded : (p : Program) (images : List Module) → AreFullImages p images → AllGuarded (code_of p images)
+  -- whatever the schedule, each function of a module keeps the bytes that it has on the stack
   pub keeps : (p : Program) (script : List (List ScriptCall)) (schedule : List ℕ) → length script ≤ 16 → WorldKept (run p schedule (opening p script))
   -- and each register of an alloca of a module's function holds the place of its bytes, once it is assigned
   pub places : (p : Program) → ((h : Home) → IsVerified (module_of p h)) → SlotCalls p → (script : List (List ScriptCall)) (schedule : List ℕ) → ScriptFits p script → WorldPlaces p (run p schedule (opening p script))

@@ -2,7 +2,7 @@
 ghost use Rattle.std.specs.Prelude.{◌≡◌, ◌↔◌, ◌+◌, ◌^◌, ◌<◌, ◌≤◌, ◌∷◌, [], false, true, IsTrue};
 ghost use Rattle.lx_caps.specs.declared.Act.TheVariants.{Zero};
 ghost use Rattle.lx_caps.specs.declared.Principal.{Principal};
-ghost use Rattle.lx_caps.specs.History.{History};
+ghost use Rattle.lx_caps.specs.History.{History, without_zeros};
 ghost use Rattle.lx_caps.specs.Regions.{mapped};
 ghost use Rattle.lx_caps.specs.Writers.{is_slot_writer};
 ghost use Rattle.lx_writer_sets.specs.Sets.{IsNextWriter};
@@ -123,6 +123,13 @@ impl<C: CapStore + Drop> Recorded<C> {
             caps,
             sets: WriterSets::new(alloc),
         }
+    }
+
+    /// The store of capabilities. It stands for the history without its zeros.
+    pub fn store(&self) -> &C
+        ensures { (h : History) → ⟦<Recorded<C> as CapStore>⟧.stands self.now h → C.stands result.now (without_zeros h) }
+    {
+        &self.caps
     }
 
     /// Who wrote where.

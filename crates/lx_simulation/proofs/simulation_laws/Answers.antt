@@ -13,6 +13,8 @@ use Rattle.lx_simulation.proofs.Linking.{linked}
 use Rattle.lx_simulation.proofs.Accepting.{images_accepted}
 use Rattle.lx_simulation.proofs.SparedRuns.{run_stands, run_places}
 use Rattle.lx_simulation.proofs.Guarded.{guarded_run_agrees}
+use Rattle.lx_simulation.proofs.FullImages.{all_guarded}
+use Rattle.lx_simulation.proofs.Asking.{asks_same, asks_in_run}
 use Rattle.lx_simulation.proofs.KeepingRuns.{run_kept}
 use Rattle.lx_simulation.proofs.Agreeing.{steps_agree, events_agree, runs_agree}
 use Rattle.lx_simulation.proofs.ImageAsking.{image_next_within-stable}
@@ -31,7 +33,10 @@ returns c = record {
   linked = linked;
   images_are = images_accepted;
   runs = λ code acc script schedule few fits. runs_agree code acc script schedule (run_stands c.model_laws.ensures c.history_laws.ensures c.loan_laws.ensures code acc script schedule few fits);
-  guarded_runs = λ code acc all script schedule. runs_agree code acc script schedule (guarded_run_agrees c.model_laws.ensures code acc all script schedule);
+  guarded_runs = λ code acc all script schedule. runs_agree code acc script schedule (guarded_run_agrees c.model_laws.ensures code acc all script schedule).1;
+  asks = asks_same c.model_laws.ensures;
+  asked_in_runs = asks_in_run c.model_laws.ensures;
+  guarded = all_guarded;
   keeps = run_kept;
   places = run_places;
   events = events_agree c.model_laws.ensures;
