@@ -1,0 +1,2 @@
+pub mod True
+pub mod Allowing
