@@ -24,6 +24,7 @@ mod refusal_cases;
 mod refused;
 mod ring;
 mod text_faults;
+mod why_cases;
 mod word_cases;
 
 pub use annotation_cases::annotation_cases_table;
@@ -48,4 +49,5 @@ pub use refusal_cases::refusal_cases_table;
 pub use refused::refused_table;
 pub use ring::ring_text;
 pub use text_faults::text_faults_table;
+pub use why_cases::why_cases_table;
 pub use word_cases::word_cases_table;

@@ -12,8 +12,8 @@ use Rattle.lx_input.specs.declared.input.Input.{Input}
 use Rattle.lx_input.specs.Laws.{OneInput, MissingFilesEnd}
 use Rattle.lx_input.specs.Files.ImageFile.{ImageFile}
 use Rattle.lx_runs.specs.Reports.{IsAsked}
-use Rattle.lx_cli.specs.Answer.{IsBroken, IsReportOf, IsAccepted, IsRefusedBy, HasProgram, MadeBy, BrokenBy, RefusedBy, EndedBy, HasEnded, accepted_line, unread_line}
-use Rattle.lx_cli.specs.Command.{Command, Run, Replay, Instrument, Check, Generate, Surface, CommandTurn, ComesTo, IsRun, IsGenerated, asked_of, case_of, command_of, files_by, files_of}
+use Rattle.lx_cli.specs.Answer.{IsBroken, IsReportOf, IsWhyOf, IsAccepted, IsRefusedBy, HasProgram, MadeBy, BrokenBy, RefusedBy, EndedBy, HasEnded, accepted_line, unread_line}
+use Rattle.lx_cli.specs.Command.{Command, Run, Replay, Instrument, Check, Generate, Surface, Why, CommandTurn, ComesTo, IsRun, IsGenerated, asked_of, case_of, command_of, files_by, files_of}
 use Rattle.lx_cli.specs.declared.answer.Answer.{Answer}
 use Rattle.lx_cli.specs.declared.answer.Answer.TheVariants as answer
 use Rattle.lx_cli.specs.Rows.{NoNewFault, answer_text, status_of}
@@ -50,6 +50,14 @@ report_is_whole i returned text entry r (asked, some, at) =
     let unbroken = whole_unbroken i.program asked (opening i.program i.script) whole in
     absurd cc
 
+-- so are certificates
+why_is_whole : (i : Input) (text : List ℕ) (entry : ℕ) → IsWhyOf i text → IsBroken i entry → ⊥
+why_is_whole i text entry (asked, some, why) (other, there, at) =
+    let same : other ≡ asked = cc (some, there) in
+    let whole : is_whole i.program other (opening i.program i.script) ≡ true = rw same why.whole in
+    let unbroken = whole_unbroken i.program other (opening i.program i.script) whole in
+    absurd cc
+
 -- what a command makes of its input keeps the other ends from it
 
 made_not_broken : (o : Option Command) (i : Input) (well : Bool) (text : List ℕ) (entry : ℕ) → MadeBy o i well text → BrokenBy o i entry → ⊥
@@ -60,6 +68,8 @@ made_not_broken (Some (Instrument case part)) i well text entry made broken = br
 made_not_broken (Some (Check case part image)) i well text entry made broken = broken
 made_not_broken (Some (Generate count)) i well text entry made broken = broken
 made_not_broken (Some (Surface case)) i well text entry made broken = broken
+made_not_broken (Some (Why case schedule)) i true text entry made broken = why_is_whole i text entry made broken
+made_not_broken (Some (Why case schedule)) i false text entry made broken = made
 
 refused_not_broken : (o : Option Command) (i : Input) (line : FaultLine) (entry : ℕ) → RefusedBy o i line → BrokenBy o i entry → ⊥
 refused_not_broken None i line entry refused broken = broken
@@ -69,6 +79,7 @@ refused_not_broken (Some (Instrument case part)) i line entry refused broken = b
 refused_not_broken (Some (Check case part image)) i line entry refused broken = broken
 refused_not_broken (Some (Generate count)) i line entry refused broken = broken
 refused_not_broken (Some (Surface case)) i line entry refused broken = broken
+refused_not_broken (Some (Why case schedule)) i line entry refused broken = refused
 
 accepted_not_refused : (i : Input) (line : FaultLine) → IsAccepted i → IsRefusedBy i line → ⊥
 accepted_not_refused i line (x, there, has, none) (y, f, same, lacks, some, is) =
@@ -84,6 +95,7 @@ made_not_refused (Some (Check case part image)) i true text line made refused = 
 made_not_refused (Some (Check case part image)) i false text line made refused = made
 made_not_refused (Some (Generate count)) i well text line made refused = refused
 made_not_refused (Some (Surface case)) i well text line made refused = refused
+made_not_refused (Some (Why case schedule)) i well text line made refused = refused
 
 -- how a command ends
 
@@ -103,6 +115,7 @@ ended_well (Some (Instrument case part)) i text result made is = is
 ended_well (Some (Check case part image)) i text result made is = inl (is, made.0)
 ended_well (Some (Generate count)) i text result made is = is
 ended_well (Some (Surface case)) i text result made is = is
+ended_well (Some (Why case schedule)) i text result (asked, some, why) is = inl (is, (asked, some, why.whole))
 
 ended_else : (o : Option Command) (i : Input) (text : List ℕ) (result : ℕ) → MadeBy o i false text → result ≡ 1 → EndedBy o i result
 ended_else None i text result made is = made
@@ -112,6 +125,7 @@ ended_else (Some (Instrument case part)) i text result made is = absurd made
 ended_else (Some (Check case part image)) i text result made is = absurd made
 ended_else (Some (Generate count)) i text result made is = absurd made
 ended_else (Some (Surface case)) i text result made is = absurd made
+ended_else (Some (Why case schedule)) i text result made is = absurd made
 
 ended_broken : (o : Option Command) (i : Input) (entry : ℕ) (result : ℕ) → BrokenBy o i entry → result ≡ 7 → EndedBy o i result
 ended_broken None i entry result broken is = broken
@@ -121,6 +135,7 @@ ended_broken (Some (Instrument case part)) i entry result broken is = absurd bro
 ended_broken (Some (Check case part image)) i entry result broken is = absurd broken
 ended_broken (Some (Generate count)) i entry result broken is = absurd broken
 ended_broken (Some (Surface case)) i entry result broken is = absurd broken
+ended_broken (Some (Why case schedule)) i entry result broken is = inr (is, entry, broken)
 
 ended_refused : (o : Option Command) (i : Input) (line : FaultLine) (result : ℕ) → RefusedBy o i line → result ≡ 8 → EndedBy o i result
 ended_refused None i line result refused is = refused
@@ -130,6 +145,7 @@ ended_refused (Some (Instrument case part)) i line result refused is = absurd re
 ended_refused (Some (Check case part image)) i line result refused is = inr (is, line, refused)
 ended_refused (Some (Generate count)) i line result refused is = absurd refused
 ended_refused (Some (Surface case)) i line result refused is = absurd refused
+ended_refused (Some (Why case schedule)) i line result refused is = absurd refused
 
 module _ (input_laws : OneInput) (missing_end : MissingFilesEnd) (words : List (List ℕ)) (files : List FileText) where
   one : IsOne (ComesTo words files)

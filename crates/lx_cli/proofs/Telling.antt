@@ -7,13 +7,16 @@ use Rattle.lx_outside.specs.declared.file_text.FileText.{FileText}
 use Rattle.lx_input.specs.Files.Asked.{Asked, AreThere}
 use Rattle.lx_input.specs.Inputs.{InputTurn}
 use Rattle.lx_input.specs.declared.input.Input.{Input}
-use Rattle.lx_cli.specs.Command.{Command, Run, Replay, Instrument, Check, Generate, Surface, CommandTurn, asked_of, case_of, count_asked, generated_files}
+use Rattle.lx_cli.specs.Command.{Command, Run, Replay, Instrument, Check, Generate, Surface, Why, CommandTurn, asked_of, case_of, count_asked, generated_files}
 use Rattle.lx_cli.specs.declared.answer.Answer.{Answer}
 use Rattle.lx_cli.specs.declared.answer.Answer.TheVariants as answer
 use Rattle.lx_runs.specs.Reports.{TellsRun}
 use Rattle.lx_runs.specs.declared.told.Told.{Told}
 use Rattle.lx_runs.specs.declared.told.Told.TheVariants as runs
-use Rattle.lx_cli.specs.Told.{TellsInput, TellsOf, answer_of}
+use Rattle.lx_runs.specs.declared.why.Why.{Why as Certified}
+use Rattle.lx_runs.specs.declared.why.Why.TheVariants as certified
+use Rattle.lx_runs.specs.Whys.{TellsWhy}
+use Rattle.lx_cli.specs.Told.{TellsInput, TellsOf, answer_of, answer_of_why}
 
 -- the answer to an input that was read: a run has no schedule that could be broken
 
@@ -31,6 +34,11 @@ told_replay : (case schedule : List ℕ) (turn : Result Input InputStop → Type
 told_replay case schedule turn i (runs.Broken entry) comes is = (i, comes, is)
 told_replay case schedule turn i (runs.Report text returned) comes is = (i, comes, record { report = is.0; asked = is.1 })
 
+told_why : (case schedule : List ℕ) (turn : Result Input InputStop → Type 0) (i : Input) (w : Certified) → turn (Ok i)
+    → TellsWhy i.program i.script i.besides.schedule w → TellsInput (Some (Why case schedule)) turn (answer_of_why w)
+told_why case schedule turn i (certified.Broken entry) comes is = (i, comes, is)
+told_why case schedule turn i (certified.Text text) comes is = (i, comes, is)
+
 pub told_input : (c : Command) (turn : Result Input InputStop → Type 0) (i : Input) (a : Answer) → AreThere (asked_of c) i.besides → turn (Ok i) → TellsOf c i a → TellsInput (Some c) turn a
 told_input (Run case) turn i a there comes (t, same, is) = subst (TellsInput (Some (Run case)) turn) (sym same) (told_run case turn i t there.schedule comes is)
 told_input (Replay case schedule) turn i a there comes (t, same, is) = subst (TellsInput (Some (Replay case schedule)) turn) (sym same) (told_replay case schedule turn i t comes is)
@@ -39,12 +47,17 @@ told_input (Check case part image) turn i a there comes (inl (same, is)) = subst
 told_input (Check case part image) turn i a there comes (inr (line, same, is)) = subst (TellsInput (Some (Check case part image)) turn) (sym same) (i, comes, is)
 told_input (Generate count) turn i a there comes (text, same, is) = subst (TellsInput (Some (Generate count)) turn) (sym same) (i, comes, is)
 told_input (Surface case) turn i a there comes (text, same, is) = subst (TellsInput (Some (Surface case)) turn) (sym same) (i, comes, is)
+told_input (Why case schedule) turn i a there comes (w, same, is) = subst (TellsInput (Some (Why case schedule)) turn) (sym same) (told_why case schedule turn i w comes is)
 
 -- an answer to an input names no file that was not read
 
 no_unread : (t : Told) (file : List ℕ) → answer.Unread file ≡ answer_of t → ⊥
 no_unread (runs.Broken entry) file same = cc
 no_unread (runs.Report text returned) file same = cc
+
+no_unread_why : (w : Certified) (file : List ℕ) → answer.Unread file ≡ answer_of_why w → ⊥
+no_unread_why (certified.Broken entry) file same = cc
+no_unread_why (certified.Text text) file same = cc
 
 pub names_none : (c : Command) (i : Input) (file : List ℕ) → TellsOf c i (answer.Unread file) → ⊥
 names_none (Run case) i file (t, same, is) = no_unread t file same
@@ -54,6 +67,7 @@ names_none (Check case part image) i file (inl (same, is)) = absurd cc
 names_none (Check case part image) i file (inr (line, same, is)) = absurd cc
 names_none (Generate count) i file (text, same, is) = absurd cc
 names_none (Surface case) i file (text, same, is) = absurd cc
+names_none (Why case schedule) i file (w, same, is) = no_unread_why w file same
 
 -- and to one that ended
 pub told_stop : (c : Option Command) (turn : Result Input InputStop → Type 0) (stop : InputStop) (a : Answer) → turn (Err stop)
@@ -113,6 +127,7 @@ generated_is (Instrument case part) count is = absurd cc
 generated_is (Check case part image) count is = absurd cc
 generated_is (Generate n) count is = let same : n ≡ count = cc in ap Generate same
 generated_is (Surface case) count is = absurd cc
+generated_is (Why case schedule) count is = absurd cc
 
 pub generated_turn : (files : List FileText) (c : Command) (count : ℕ) (a : Answer) → count_asked c ≡ Some count → TellsInput (Some c) (InputTurn (generated_files count) (case_of c) (asked_of c)) a
     → TellsInput (Some c) (CommandTurn files (Some c)) a
@@ -127,6 +142,7 @@ shelf_turn files (Instrument case part) a is tells = tells
 shelf_turn files (Check case part image) a is tells = tells
 shelf_turn files (Generate count) a is tells = absurd cc
 shelf_turn files (Surface case) a is tells = tells
+shelf_turn files (Why case schedule) a is tells = tells
 
 pub not_generated : (c : Command) (count : ℕ) → count_asked c ≡ None → c ≡ Generate count → ⊥
 not_generated c count none is = let some : count_asked c ≡ Some count = ap count_asked is in absurd cc

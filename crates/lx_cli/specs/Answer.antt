@@ -26,8 +26,9 @@ use Rattle.lx_input.specs.declared.input.Input.{Input}
 use Rattle.lx_static_reach.specs.Laws.{IsBounded}
 use Rattle.lx_surface.specs.Bound.{Bound, IsExact}
 use Rattle.lx_surface.specs.Text.{bound_text}
-use Rattle.lx_cli.specs.Command.{Command, Run, Replay, Instrument, Check, Generate, Surface}
+use Rattle.lx_cli.specs.Command.{Command, Run, Replay, Instrument, Check, Generate, Surface, Why}
 use Rattle.lx_runs.specs.Reports.{IsAsked, IsReport, all_returned, broken_at}
+use Rattle.lx_why.specs.Why.{IsWhy}
 
 -- the report of an input: under a schedule of the program's choice, or under the one that is replayed
 pub record IsReportOf (i : Input) (returned : Bool) (text : List ℕ) : Type 0 where
@@ -135,6 +136,14 @@ pub record IsSurface (i : Input) (text : List ℕ) : Type 0 where
   pub written : text ≡ bound_text i.program bound
   pub sound : (script : List (List ScriptCall)) (schedule : List ℕ) → IsBounded i.program (run i.program schedule (opening i.program script))
 
+-- the text is of the acts and of the certificates of the run under the schedule that is asked for, which is whole
+abbrev pub IsWhyOf : Input → List ℕ → Type 0
+IsWhyOf i text = (schedule : List ℕ) × (i.besides.schedule ≡ Some schedule) × IsWhy i.program i.script schedule text
+
+-- the schedule that is asked for is whole
+abbrev pub HasWhole : Input → Type 0
+HasWhole i = (schedule : List ℕ) × (i.besides.schedule ≡ Some schedule) × (is_whole i.program schedule (opening i.program i.script) ≡ true)
+
 -- What each command makes of its input: with status 0 (true) or 1 (false),
 
 abbrev pub Makes : Command → Input → Bool → List ℕ → Type 0
@@ -148,10 +157,13 @@ Makes (Generate count) i true text = IsSummary count i.program i.script text
 Makes (Generate count) i false text = ⊥
 Makes (Surface case) i true text = IsSurface i text
 Makes (Surface case) i false text = ⊥
+Makes (Why case schedule) i true text = IsWhyOf i text
+Makes (Why case schedule) i false text = ⊥
 
 -- with status 7,
 abbrev pub Breaks : Command → Input → ℕ → Type 0
 Breaks (Replay case schedule) i entry = IsBroken i entry
+Breaks (Why case schedule) i entry = IsBroken i entry
 Breaks _ i entry = ⊥
 
 -- and with status 8
@@ -166,6 +178,7 @@ EndsWith (Replay case schedule) i status = HasEnded i status ⊎ ((status ≡ 7)
 EndsWith (Instrument case part) i status = status ≡ 0
 EndsWith (Generate count) i status = status ≡ 0
 EndsWith (Surface case) i status = status ≡ 0
+EndsWith (Why case schedule) i status = ((status ≡ 0) × HasWhole i) ⊎ ((status ≡ 7) × (entry : ℕ) × IsBroken i entry)
 EndsWith (Check case part image) i status = ((status ≡ 0) × IsAccepted i) ⊎ ((status ≡ 8) × (line : FaultLine) × IsRefusedBy i line)
 
 -- the same of words, which may be no command
@@ -189,7 +202,7 @@ EndedBy (Some c) i status = EndsWith c i status
 -- the lines of the other statuses
 
 abbrev pub usage_line : List ℕ
-usage_line = codes "usage: lxfi_run run CASE | replay CASE SCHEDULE | instrument CASE MODULE | check CASE MODULE IMAGE | generate N | surface CASE\n"
+usage_line = codes "usage: lxfi_run run CASE | replay CASE SCHEDULE | instrument CASE MODULE | check CASE MODULE IMAGE | generate N | why CASE SCHEDULE | surface CASE\n"
 
 abbrev pub unread_line : List ℕ → List ℕ
 unread_line file = codes "lxfi: cannot read " ++ file ++ codes "\n"

@@ -6,7 +6,7 @@ use Rattle.lx_input.specs.Files.Asked.{Asked, nothing}
 use Rattle.lx_input.specs.Files.InputStop.{InputStop}
 use Rattle.lx_input.specs.declared.input.Input.{Input}
 use Rattle.lx_input.specs.Inputs.{InputTurn}
-pub use Rattle.lx_command.specs.Command.{Command, Run, Replay, Instrument, Check, Generate, Surface, command_of, said, texts}
+pub use Rattle.lx_command.specs.Command.{Command, Run, Replay, Instrument, Check, Generate, Surface, Why, command_of, said, texts}
 
 -- the files of a case that is generated
 
@@ -40,6 +40,7 @@ case_of (Instrument case part) = case
 case_of (Check case part image) = case
 case_of (Generate count) = generated_name
 case_of (Surface case) = case
+case_of (Why case schedule) = case
 
 abbrev pub asked_of : Command → Asked
 asked_of (Run case) = nothing
@@ -48,6 +49,7 @@ asked_of (Instrument case part) = record nothing { «module» = Some part }
 asked_of (Check case part image) = record nothing { «module» = Some part; image = Some image }
 asked_of (Generate count) = nothing
 asked_of (Surface case) = nothing
+asked_of (Why case schedule) = record nothing { schedule = Some schedule }
 
 -- what the files of a command come to
 abbrev pub CommandTurn : List FileText → Option Command → Result Input InputStop → Type 0

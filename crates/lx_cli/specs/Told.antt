@@ -10,8 +10,11 @@ use Rattle.lx_input.specs.declared.input.Input.{Input}
 use Rattle.lx_runs.specs.Reports.{TellsRun}
 use Rattle.lx_runs.specs.declared.told.Told.{Told}
 use Rattle.lx_runs.specs.declared.told.Told.TheVariants as runs
+use Rattle.lx_runs.specs.declared.why.Why.{Why as Certified}
+use Rattle.lx_runs.specs.declared.why.Why.TheVariants as certified
+use Rattle.lx_runs.specs.Whys.{TellsWhy}
 use Rattle.lx_cli.specs.Answer.{IsImageText, IsSummary, IsSurface, IsAccepted, IsRefusedBy, HasProgram, image_line, MadeBy, BrokenBy, RefusedBy, accepted_line}
-use Rattle.lx_cli.specs.Command.{Command, Run, Replay, Instrument, Check, Generate, Surface}
+use Rattle.lx_cli.specs.Command.{Command, Run, Replay, Instrument, Check, Generate, Surface, Why}
 use Rattle.lx_cli.specs.declared.answer.Answer.{Answer}
 use Rattle.lx_cli.specs.declared.answer.Answer.TheVariants as answer
 
@@ -23,6 +26,15 @@ answer_of (runs.Report text returned) = answer.Report text returned
 -- of a run of the input, under the schedule that is replayed, where one is
 abbrev pub TellsRunOf : Input → Answer → Type 0
 TellsRunOf i a = (t : Told) × (a ≡ answer_of t) × TellsRun i.program i.script i.besides.schedule t
+
+-- the answer of a run that is certified
+abbrev pub answer_of_why : Certified → Answer
+answer_of_why (certified.Broken entry) = answer.Broken entry
+answer_of_why (certified.Text text) = answer.Text text
+
+-- of the certificates of a run of the input, under the schedule that is asked for
+abbrev pub TellsWhyOf : Input → Answer → Type 0
+TellsWhyOf i a = (w : Certified) × (a ≡ answer_of_why w) × TellsWhy i.program i.script i.besides.schedule w
 
 -- of what the files of a command come to
 abbrev pub TellsInput : Option Command → (Result Input InputStop → Type 0) → Answer → Type 0
@@ -48,3 +60,4 @@ TellsOf (Instrument case part) i a = (text : List ℕ) × (a ≡ answer.Text tex
 TellsOf (Check case part image) i a = ((a ≡ answer.Accepted) × IsAccepted i) ⊎ ((line : FaultLine) × (a ≡ answer.Refused line) × IsRefusedBy i line)
 TellsOf (Generate count) i a = (text : List ℕ) × (a ≡ answer.Text text) × IsSummary count i.program i.script text
 TellsOf (Surface case) i a = (text : List ℕ) × (a ≡ answer.Text text) × IsSurface i text
+TellsOf (Why case schedule) i a = TellsWhyOf i a

@@ -2,10 +2,10 @@
 ghost use Rattle.std.specs.Prelude.{◌≡◌, ◌++◌, IfOk};
 ghost use Rattle.lx_cli.specs.Answer.{accepted_line, broken_line, unread_line};
 ghost use Rattle.lx_cli.specs.Rows.{answer_text, status_of};
-ghost use Rattle.lx_cli.specs.Told.{answer_of};
+ghost use Rattle.lx_cli.specs.Told.{answer_of, answer_of_why};
 
 use lx_input::{FaultLine, fault_text};
-use lx_runs::Told;
+use lx_runs::{Told, Why};
 use lx_words::{Memory, Name, put_decimal};
 use std::alloc::Global;
 
@@ -21,7 +21,8 @@ pub enum Answer {
     Broken(u64),
     /// The report, and whether every call returned.
     Report(Name, bool),
-    /// The text of the module's image, the summary of a case that was generated, or what each module can come to hold.
+    /// The text of the module's image, the summary of a case that was generated, what each module can come to hold, or the certificates of
+    /// a run.
     Text(Name),
     /// Some program has the image.
     Accepted,
@@ -36,6 +37,16 @@ pub(crate) fn answer_of_run(told: Told) -> Answer
     match told {
         Told::Broken(entry) => Answer::Broken(entry),
         Told::Report(text, returned) => Answer::Report(text, returned),
+    }
+}
+
+/// The answer of a run that is certified.
+pub(crate) fn answer_of_why(why: Why) -> Answer
+    ensures { result ≡ answer_of_why why }
+{
+    match why {
+        Why::Broken(entry) => Answer::Broken(entry),
+        Why::Text(text) => Answer::Text(text),
     }
 }
 

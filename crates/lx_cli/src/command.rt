@@ -19,7 +19,8 @@ pub(crate) fn case_of<'a>(command: Command<'a>) -> &'a str
         | Command::Replay { case, .. }
         | Command::Instrument { case, .. }
         | Command::Check { case, .. }
-        | Command::Surface { case } => case,
+        | Command::Surface { case }
+        | Command::Why { case, .. } => case,
         Command::Generate { .. } => GENERATED_CASE,
     }
 }
@@ -44,7 +45,7 @@ pub(crate) fn asked_of<'a>(command: Command<'a>) -> Asked<'a>
             schedule: None,
             image: None,
         },
-        Command::Replay { schedule, .. } => Asked {
+        Command::Replay { schedule, .. } | Command::Why { schedule, .. } => Asked {
             module: None,
             schedule: Some(schedule),
             image: None,

@@ -1,5 +1,5 @@
 //! The whole program.
-ghost use Rattle.std.specs.Prelude.{◌≡◌, ◌≢◌, ◌⊎◌, ◌++◌, ◌∷◌, ◌<◌, ◌≤◌, [], List, ℕ, Some, None, Ok, Err, IfOk, length, option_copied, take};
+ghost use Rattle.std.specs.Prelude.{◌≡◌, ◌≢◌, ◌⊎◌, ◌++◌, ◌∷◌, ◌<◌, ◌≤◌, [], List, ℕ, Some, None, Ok, Err, IfOk, is_some, length, option_copied, take, true};
 ghost use Rattle.lx_outside.specs.declared.file_text.FileText.{FileText};
 ghost use Rattle.lx_outside.specs.Counts.{HasRisen};
 ghost use Rattle.lx_outside.specs.Files.{file_at};
@@ -12,9 +12,9 @@ ghost use Rattle.lx_input.specs.Laws.{IsReady};
 ghost use Rattle.lx_cli.specs.Answer.{BrokenBy, EndedBy, RefusedBy, unread_line, usage_line};
 ghost use Rattle.lx_cli.specs.Command.{CommandTurn, ComesTo, Generate, IsGenerated, IsRun, asked_of, case_of, command_of, files_by, generated_files, said, texts};
 ghost use Rattle.lx_cli.specs.Rows.{Wrote, FellShort, Headline, NoNewFault};
-ghost use Rattle.lx_cli.specs.Told.{TellsInput, TellsOf, TellsRunOf};
+ghost use Rattle.lx_cli.specs.Told.{TellsInput, TellsOf, TellsRunOf, TellsWhyOf};
 
-use crate::answer::{Answer, answer_of_run, answer_text, status_of};
+use crate::answer::{Answer, answer_of_run, answer_of_why, answer_text, status_of};
 use crate::command::{asked_of, case_of, count_asked};
 use crate::generate::{generated_shelf, sum_up_input};
 use crate::images::{check_input, instrument_input};
@@ -22,7 +22,7 @@ use crate::surface::surface_input;
 use lx_command::{Command, command_of};
 use lx_input::{Input, InputStop, input_laws, read_input};
 use lx_outside::{Gate, Shelf, Sink, put_all};
-use lx_runs::{Host, run_input};
+use lx_runs::{Host, run_input, why_input};
 use lx_words::Memory;
 use std::alloc::Global;
 use std::sync::Wait;
@@ -30,7 +30,7 @@ use std::thread::Threads;
 
 /// What is written where the words are no command.
 const USAGE: &str =
-    "usage: lxfi_run run CASE | replay CASE SCHEDULE | instrument CASE MODULE | check CASE MODULE IMAGE | generate N | surface CASE\n";
+    "usage: lxfi_run run CASE | replay CASE SCHEDULE | instrument CASE MODULE | check CASE MODULE IMAGE | generate N | why CASE SCHEDULE | surface CASE\n";
 
 /// The status of a sink that did not take all.
 const NOT_TAKEN: u8 = 5;
@@ -76,6 +76,16 @@ fn answer_run<R: Threads + Wait + Sync, G: Gate + Sync>(
     Ok(answer_of_run(told))
 }
 
+/// The answer to an input that is replayed and certified.
+fn answer_why(alloc: Global, input: Input) -> Result<Answer, Memory>
+    requires ready { IsReady input }
+    requires asked { is_some input.besides.schedule ≡ true }
+    ensures { IfOk result (TellsWhyOf input) }
+{
+    let why = why_input(alloc, input)?;
+    Ok(answer_of_why(why))
+}
+
 /// The answer to a command whose files were read.
 fn answer_input<R: Threads + Wait + Sync, G: Gate + Sync>(
     host: &Host<'_, R, G>,
@@ -104,6 +114,7 @@ fn answer_input<R: Threads + Wait + Sync, G: Gate + Sync>(
             drop(input);
             answer
         }
+        Command::Why { .. } => answer_why(host.alloc, input),
     }
 }
 

@@ -8,9 +8,9 @@ use Rattle.clap.specs.Faults.{step_fault, walk_fault, settle_fault, defaults_fau
 use Rattle.clap.specs.declared.error.kind.ErrorKind.{ErrorKind}
 use Rattle.clap.specs.declared.error.kind.ErrorKind.TheVariants as kind
 use Rattle.clap.proofs.OnLiterals.{clap_on_literals}
-use Rattle.lx_command.specs.Command.{Command, Run, Replay, Instrument, Check, Surface, is_name, command_of}
+use Rattle.lx_command.specs.Command.{Command, Run, Replay, Instrument, Check, Surface, Why, is_name, command_of}
 use Rattle.lx_command.specs.Matched.{command_by}
-use Rattle.lx_command.specs.Tree.{check_app, generate_app, instrument_app, replay_app, run_app, surface_app, top_app}
+use Rattle.lx_command.specs.Tree.{check_app, generate_app, instrument_app, replay_app, run_app, surface_app, top_app, why_app}
 use Rattle.lx_command.proofs.Named.{Walks, at, fault_more, stray, walks_end, walks_more}
 
 -- a command as the parser builds it
@@ -103,7 +103,7 @@ module _ (s : Shape) where
       walks_1 first a (b ∷ c ∷ []) (at 4 (held_3 a b c)) na (walks_2 second a b (c ∷ []) (at 4 (held_3 a b c)) nb
       (walks_3 third a b c [] (at 4 (held_3 a b c)) nc (walks_end s (at 4 (held_3 a b c)))))
 
--- ---- the six commands
+-- ---- the seven commands
 
 abbrev pub Reads : Text → Shape → List Text → Type 0
 Reads name s rest = ((level_fault s [] nothing_held rest false [] ≡ []) × (command_of (name ∷ rest) ≡ command_by name (rows_after s.rules [] rest)))
@@ -245,3 +245,24 @@ surface_reads (a ∷ b ∷ rest) named =
     let na = both (is_name a) (list_all is_name (b ∷ rest)) named in
     let nb = both (is_name b) (list_all is_name (rest)) na.1 in
     inr (level_fails (leaf surface_app) (a ∷ b ∷ rest) kind.UnknownArgument [] (fault_1 (leaf surface_app) (refl, λ a. refl) a (b ∷ rest) na.0 ∙ stray (leaf surface_app) [] 2 (held_1 (leaf surface_app) a) b rest nb.0 refl), surface_more a b rest)
+
+why_more : (a b c : Text) (rest : List Text) → command_of (codes "why" ∷ a ∷ b ∷ c ∷ rest) ≡ None
+why_more a b c [] = refl
+why_more a b c (d ∷ rest) = refl
+
+pub why_reads : (rest : List Text) → list_all is_name rest ≡ true → Reads (codes "why") (leaf why_app) rest
+unfolding clap_on_literals
+why_reads [] named = inr (none_given (leaf why_app) missing refl, refl)
+why_reads (a ∷ []) named =
+    let na = both (is_name a) (list_all is_name ([])) named in
+    inr (lacks (leaf why_app) (a ∷ []) (at 2 (held_1 (leaf why_app) a)) missing [] (one_given (leaf why_app) (refl, λ a. refl) a na.0) refl, refl)
+why_reads (a ∷ b ∷ []) named =
+    let na = both (is_name a) (list_all is_name (b ∷ [])) named in
+    let nb = both (is_name b) (list_all is_name ([])) na.1 in
+    let taken = (takes (leaf why_app) (a ∷ b ∷ []) (at 3 (held_2 (leaf why_app) a b)) (finished (leaf why_app).rules (held_2 (leaf why_app) a b)) (two_given (leaf why_app) (refl, λ a. refl) (λ a. (refl, λ b. refl)) a b na.0 nb.0) refl refl) in
+    inl (taken.0, if_named (is_name a && is_name b) (Some (Why a b)) (and_named (is_name a) (is_name b) na.0 nb.0) ∙ sym (ap (command_by (codes "why")) taken.1))
+why_reads (a ∷ b ∷ c ∷ rest) named =
+    let na = both (is_name a) (list_all is_name (b ∷ c ∷ rest)) named in
+    let nb = both (is_name b) (list_all is_name (c ∷ rest)) na.1 in
+    let nc = both (is_name c) (list_all is_name (rest)) nb.1 in
+    inr (level_fails (leaf why_app) (a ∷ b ∷ c ∷ rest) kind.UnknownArgument [] (fault_1 (leaf why_app) (refl, λ a. refl) a (b ∷ c ∷ rest) na.0 ∙ fault_2 (leaf why_app) (λ a. (refl, λ b. refl)) a b (c ∷ rest) nb.0 ∙ stray (leaf why_app) [] 3 (held_2 (leaf why_app) a b) c rest nc.0 refl), why_more a b c rest)

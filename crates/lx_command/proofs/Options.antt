@@ -5,7 +5,7 @@ use Rattle.std.specs.Str.{bytes_eq}
 use Rattle.std.specs.Cmp.{unsigned_Decides}
 use Rattle.std.proofs.lemmas.Slice.Eq.{bytes_eq-Decides}
 use Rattle.lx_words.specs.Text.{decimal_value}
-use Rattle.lx_command.specs.Command.{Command, Run, Replay, Instrument, Check, Generate, Surface, begins_well, is_name, is_number, if_words, count_of, command_of}
+use Rattle.lx_command.specs.Command.{Command, Run, Replay, Instrument, Check, Generate, Surface, Why, begins_well, is_name, is_number, if_words, count_of, command_of}
 
 on : (b : Bool) → not (b && true) ≡ false → b ≡ true
 on true dashed = refl
@@ -44,13 +44,14 @@ one_off false false true w true x c d run generate surface none off = absurd (no
 one_off false false true w false x c d run generate surface none off = refl
 one_off false false false w a x c d run generate surface none off = refl
 
-two_off : (p i w a b : Bool) (c d : Command) → (p ≡ true → w ≡ true) → (i ≡ true → w ≡ true) → (w && (a && (b && true))) ≡ false
-    → (if a && b then (if p then Some c else if_words i d) else None) ≡ None
-two_off p i w false b c d replay instrument off = refl
-two_off p i w true false c d replay instrument off = refl
-two_off true i w true true c d replay instrument off = absurd (not_all (w && (true && (true && true))) (and_true w (true && (true && true)) (replay refl)) off)
-two_off false true w true true c d replay instrument off = absurd (not_all (w && (true && (true && true))) (and_true w (true && (true && true)) (instrument refl)) off)
-two_off false false w true true c d replay instrument off = refl
+two_off : (p i y w a b : Bool) (c d e : Command) → (p ≡ true → w ≡ true) → (i ≡ true → w ≡ true) → (y ≡ true → w ≡ true) → (w && (a && (b && true))) ≡ false
+    → (if a && b then (if p then Some c else (if i then Some d else if_words y e)) else None) ≡ None
+two_off p i y w false b c d e replay instrument why off = refl
+two_off p i y w true false c d e replay instrument why off = refl
+two_off true i y w true true c d e replay instrument why off = absurd (not_all (w && (true && (true && true))) (and_true w (true && (true && true)) (replay refl)) off)
+two_off false true y w true true c d e replay instrument why off = absurd (not_all (w && (true && (true && true))) (and_true w (true && (true && true)) (instrument refl)) off)
+two_off false false true w true true c d e replay instrument why off = absurd (not_all (w && (true && (true && true))) (and_true w (true && (true && true)) (why refl)) off)
+two_off false false false w true true c d e replay instrument why off = refl
 
 three_off : (k w a b d : Bool) (c : Command) → (k ≡ true → w ≡ true) → (w && (a && (b && (d && true)))) ≡ false → if_words (k && (a && (b && d))) c ≡ None
 three_off false w a b d c check off = refl
@@ -66,8 +67,8 @@ none_with_option (w ∷ a ∷ []) off =
     one_off (bytes_eq w (codes "run")) (bytes_eq w (codes "generate")) (bytes_eq w (codes "surface")) (is_name w) (is_name a) (count_of a) (Run a) (Surface a)
     (named (codes "run") w refl) (named (codes "generate") w refl) (named (codes "surface") w refl) (no_number a) off
 none_with_option (w ∷ a ∷ b ∷ []) off =
-    two_off (bytes_eq w (codes "replay")) (bytes_eq w (codes "instrument")) (is_name w) (is_name a) (is_name b) (Replay a b) (Instrument a b)
-    (named (codes "replay") w refl) (named (codes "instrument") w refl) off
+    two_off (bytes_eq w (codes "replay")) (bytes_eq w (codes "instrument")) (bytes_eq w (codes "why")) (is_name w) (is_name a) (is_name b) (Replay a b) (Instrument a b) (Why a b)
+    (named (codes "replay") w refl) (named (codes "instrument") w refl) (named (codes "why") w refl) off
 none_with_option (w ∷ a ∷ b ∷ c ∷ []) off =
     three_off (bytes_eq w (codes "check")) (is_name w) (is_name a) (is_name b) (is_name c) (Check a b c) (named (codes "check") w refl) off
 none_with_option (w ∷ a ∷ b ∷ c ∷ d ∷ rest) off = refl

@@ -14,11 +14,11 @@ use Rattle.clap.specs.declared.error.kind.ErrorKind.TheVariants as kind
 use Rattle.clap.proofs.OnLiterals.{clap_on_literals}
 use Rattle.clap.proofs.WalkLemmas.{walk_stopped}
 use Rattle.clap.proofs.FaultLemmas.{stopped_fault}
-use Rattle.lx_command.specs.Command.{Command, Run, Replay, Instrument, Check, Generate, Surface, is_name, if_words, count_of, command_of}
+use Rattle.lx_command.specs.Command.{Command, Run, Replay, Instrument, Check, Generate, Surface, Why, is_name, if_words, count_of, command_of}
 use Rattle.lx_command.specs.Matched.{command_found}
-use Rattle.lx_command.specs.Tree.{check_app, generate_app, instrument_app, replay_app, run_app, surface_app, tree_app}
+use Rattle.lx_command.specs.Tree.{check_app, generate_app, instrument_app, replay_app, run_app, surface_app, tree_app, why_app}
 use Rattle.lx_command.proofs.Named.{stray}
-use Rattle.lx_command.proofs.Leaves.{Reads, both, same_if, leaf, run_reads, replay_reads, instrument_reads, check_reads, generate_reads, surface_reads}
+use Rattle.lx_command.proofs.Leaves.{Reads, both, same_if, leaf, run_reads, replay_reads, instrument_reads, check_reads, generate_reads, surface_reads, why_reads}
 
 abbrev top : Shape
 top = (built tree_app).top
@@ -87,6 +87,14 @@ surface_enters rest =
       ap (λ (w : Walk). entered (built tree_app) w.stopped) (sym stops),
     )
 
+why_enters : (rest : List Text) → Enters (codes "why") (leaf why_app) rest
+unfolding clap_on_literals
+why_enters rest =
+    let stops = walk_stopped top.rules names (walk_from nothing_held) (codes "why") [] rest in (
+      ap₂ whole (sym stops) (stopped_fault top names (walk_from nothing_held) (codes "why", []) rest),
+      ap (λ (w : Walk). entered (built tree_app) w.stopped) (sym stops),
+    )
+
 -- the parser takes the words, and they are the command that it finds; or it refuses them, and they are none
 abbrev pub IsRead : List Text → Type 0
 IsRead words = ((fault_of tree_app words ≡ []) × (command_of words ≡ command_found (subcommand_of tree_app words)))
@@ -109,14 +117,14 @@ apart : (name word : Text) → bytes_eq word name ≡ false → answers_to word 
 apart name word is = ap (λ b. b || false) (turned name word (bytes_eq name word) refl is)
 
 none_found : (p : Text × List Text → Bool) → p (codes "run", []) ≡ false → p (codes "replay", []) ≡ false → p (codes "instrument", []) ≡ false
-    → p (codes "check", []) ≡ false → p (codes "generate", []) ≡ false → p (codes "surface", []) ≡ false → option_map (λ (s : Text × List Text). s.0) (find p names) ≡ None
-none_found p a b c d e f = rw (a, b, c, d, e, f) refl
+    → p (codes "check", []) ≡ false → p (codes "generate", []) ≡ false → p (codes "surface", []) ≡ false → p (codes "why", []) ≡ false → option_map (λ (s : Text × List Text). s.0) (find p names) ≡ None
+none_found p a b c d e f g = rw (a, b, c, d, e, f, g) refl
 
 one_none : (r g s : Bool) (x y z : Option Command) → r ≡ false → g ≡ false → s ≡ false → (if r then x else (if g then y else (if s then z else None))) ≡ None
 one_none r g s x y z no_r no_g no_s = rw (no_r, no_g, no_s) refl
 
-two_none : (n p i : Bool) (c d : Command) → p ≡ false → i ≡ false → (if n then (if p then Some c else if_words i d) else None) ≡ None
-two_none n p i c d no_p no_i = rw (no_p, no_i) (same_if n)
+two_none : (n p i y : Bool) (c d e : Command) → p ≡ false → i ≡ false → y ≡ false → (if n then (if p then Some c else (if i then Some d else if_words y e)) else None) ≡ None
+two_none n p i y c d e no_p no_i no_y = rw (no_p, no_i, no_y) (same_if n)
 
 three_none : (k n : Bool) (c : Command) → k ≡ false → if_words (k && n) c ≡ None
 three_none k n c no_k = rw no_k refl
@@ -129,6 +137,7 @@ record Unnamed (word : Text) : Type 0 where
   check : bytes_eq word (codes "check") ≡ false
   generate : bytes_eq word (codes "generate") ≡ false
   surface : bytes_eq word (codes "surface") ≡ false
+  why : bytes_eq word (codes "why") ≡ false
 
 none_said : (word : Text) (rest : List Text) → Unnamed word → command_of (word ∷ rest) ≡ None
 none_said word [] un = refl
@@ -136,7 +145,7 @@ none_said word (a ∷ []) un =
     one_none (bytes_eq word (codes "run")) (bytes_eq word (codes "generate")) (bytes_eq word (codes "surface"))
     (if_words (is_name a) (Run a)) (option_map Generate (count_of a)) (if_words (is_name a) (Surface a)) un.run un.generate un.surface
 none_said word (a ∷ b ∷ []) un =
-    two_none (is_name a && is_name b) (bytes_eq word (codes "replay")) (bytes_eq word (codes "instrument")) (Replay a b) (Instrument a b) un.replay un.instrument
+    two_none (is_name a && is_name b) (bytes_eq word (codes "replay")) (bytes_eq word (codes "instrument")) (bytes_eq word (codes "why")) (Replay a b) (Instrument a b) (Why a b) un.replay un.instrument un.why
 none_said word (a ∷ b ∷ c ∷ []) un = three_none (bytes_eq word (codes "check")) (is_name a && (is_name b && is_name c)) (Check a b c) un.check
 none_said word (a ∷ b ∷ c ∷ d ∷ rest) un = refl
 
@@ -145,7 +154,7 @@ unfolding clap_on_literals
 unnamed word rest named un =
     let none : subcommand_met names idle word ≡ None =
     none_found (answers_to word) (apart (codes "run") word un.run) (apart (codes "replay") word un.replay) (apart (codes "instrument") word un.instrument)
-    (apart (codes "check") word un.check) (apart (codes "generate") word un.generate) (apart (codes "surface") word un.surface) in
+    (apart (codes "check") word un.check) (apart (codes "generate") word un.generate) (apart (codes "surface") word un.surface) (apart (codes "why") word un.why) in
     let fault : walk_fault top names (walk_from nothing_held) (word ∷ rest) ≡ kind.UnknownArgument ∷ kind.InvalidSubcommand ∷ [] =
     stray top names 1 nothing_held word rest (both (is_name word) (list_all is_name rest) named).0 none in
     inr ((kind.UnknownArgument, kind.InvalidSubcommand ∷ [], ap (λ (kinds : Kinds). whole (walk top.rules names nothing_held (word ∷ rest)) kinds) fault), none_said word rest un)
@@ -159,9 +168,13 @@ module _ (word : Text) (rest : List Text) (named : list_all is_name (word ∷ re
   moved : (name : Text) → bytes_eq word name ≡ true → IsRead (name ∷ rest) → IsRead (word ∷ rest)
   moved name is read = subst (λ (w : Text). IsRead (w ∷ rest)) (sym ((bytes_eq-Decides word name).0 is)) read
 
+  by_why : bytes_eq word (codes "run") ≡ false → bytes_eq word (codes "replay") ≡ false → bytes_eq word (codes "instrument") ≡ false → bytes_eq word (codes "check") ≡ false → bytes_eq word (codes "generate") ≡ false → bytes_eq word (codes "surface") ≡ false → (b : Bool) → bytes_eq word (codes "why") ≡ b → IsRead (word ∷ rest)
+  by_why no_run no_replay no_instrument no_check no_generate no_surface true is = moved (codes "why") is (read_by (codes "why") (leaf why_app) rest (why_enters rest) (why_reads rest behind))
+  by_why no_run no_replay no_instrument no_check no_generate no_surface false is = unnamed word rest named (record { run = no_run; replay = no_replay; instrument = no_instrument; check = no_check; generate = no_generate; surface = no_surface; why = is })
+
   by_surface : bytes_eq word (codes "run") ≡ false → bytes_eq word (codes "replay") ≡ false → bytes_eq word (codes "instrument") ≡ false → bytes_eq word (codes "check") ≡ false → bytes_eq word (codes "generate") ≡ false → (b : Bool) → bytes_eq word (codes "surface") ≡ b → IsRead (word ∷ rest)
   by_surface no_run no_replay no_instrument no_check no_generate true is = moved (codes "surface") is (read_by (codes "surface") (leaf surface_app) rest (surface_enters rest) (surface_reads rest behind))
-  by_surface no_run no_replay no_instrument no_check no_generate false is = unnamed word rest named (record { run = no_run; replay = no_replay; instrument = no_instrument; check = no_check; generate = no_generate; surface = is })
+  by_surface no_run no_replay no_instrument no_check no_generate false is = by_why no_run no_replay no_instrument no_check no_generate is (bytes_eq word (codes "why")) refl
 
   by_generate : bytes_eq word (codes "run") ≡ false → bytes_eq word (codes "replay") ≡ false → bytes_eq word (codes "instrument") ≡ false → bytes_eq word (codes "check") ≡ false → (b : Bool) → bytes_eq word (codes "generate") ≡ b → IsRead (word ∷ rest)
   by_generate no_run no_replay no_instrument no_check true is = moved (codes "generate") is (read_by (codes "generate") (leaf generate_app) rest (generate_enters rest) (generate_reads rest behind))

@@ -21,6 +21,7 @@ pub data Command : Type 0 where
   Check : (case : List ℕ) → (part : List ℕ) → (image : List ℕ) → Command
   Generate : (count : ℕ) → Command
   Surface : (case : List ℕ) → Command
+  Why : (case : List ℕ) → (schedule : List ℕ) → Command
 
 -- what the words of a command say
 abbrev pub said : Words → Command
@@ -30,6 +31,7 @@ said (words.Instrument case part) = Instrument case.now part.now
 said (words.Check case part image) = Check case.now part.now image.now
 said (words.Generate count) = Generate count
 said (words.Surface case) = Surface case.now
+said (words.Why case schedule) = Why case.now schedule.now
 
 -- a word that is no option
 abbrev pub is_name : List ℕ → Bool
@@ -62,10 +64,12 @@ one_name word second =
 
 abbrev pub two_names : List ℕ → List ℕ → List ℕ → Option Command
 two_names word case second =
-    if bytes_eq word (codes "replay") then Some (Replay case second) else if_words (bytes_eq word (codes "instrument")) (Instrument case second)
+    if bytes_eq word (codes "replay") then Some (Replay case second)
+    else (if bytes_eq word (codes "instrument") then Some (Instrument case second)
+    else if_words (bytes_eq word (codes "why")) (Why case second))
 
--- `run CASE`, `replay CASE SCHEDULE`, `instrument CASE MODULE`, `check CASE MODULE IMAGE`, `generate N` and `surface CASE`, where no word
--- begins with `-`
+-- `run CASE`, `replay CASE SCHEDULE`, `instrument CASE MODULE`, `check CASE MODULE IMAGE`, `generate N`, `surface CASE` and
+-- `why CASE SCHEDULE`, where no word begins with `-`
 abbrev pub command_of : List (List ℕ) → Option Command
 command_of (word ∷ second ∷ []) = one_name word second
 command_of (word ∷ case ∷ second ∷ []) = if is_name case && is_name second then two_names word case second else None

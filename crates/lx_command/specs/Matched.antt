@@ -2,7 +2,7 @@
 use Rattle.std.specs.Prelude.{List, codes, Option, Some, None, option_map, option_and_then, if◌then◌else◌}
 use Rattle.std.specs.Str.{bytes_eq}
 use Rattle.clap.specs.Words.{Row, Text, first_of}
-use Rattle.lx_command.specs.Command.{Command, Run, Replay, Instrument, Check, Generate, Surface, count_of}
+use Rattle.lx_command.specs.Command.{Command, Run, Replay, Instrument, Check, Generate, Surface, Why, count_of}
 
 -- a command by its name, with the words that were found for it
 
@@ -25,6 +25,9 @@ generate_by rows = option_and_then (λ word. option_map Generate (count_of word)
 abbrev pub surface_by : List Row → Option Command
 surface_by rows = option_map Surface (first_of (codes "case") rows)
 
+abbrev pub why_by : List Row → Option Command
+why_by rows = option_and_then (λ case. option_map (Why case) (first_of (codes "schedule") rows)) (first_of (codes "case") rows)
+
 abbrev pub command_by : Text → List Row → Option Command
 command_by name rows =
     if bytes_eq name (codes "run") then run_by rows
@@ -32,7 +35,8 @@ command_by name rows =
     else (if bytes_eq name (codes "instrument") then instrument_by rows
     else (if bytes_eq name (codes "check") then check_by rows
     else (if bytes_eq name (codes "generate") then generate_by rows
-    else (if bytes_eq name (codes "surface") then surface_by rows else None)))))
+    else (if bytes_eq name (codes "surface") then surface_by rows
+    else (if bytes_eq name (codes "why") then why_by rows else None))))))
 
 -- the command of what was found, if anything was
 abbrev pub command_found : Option (Text × List Row) → Option Command

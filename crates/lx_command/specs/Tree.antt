@@ -27,6 +27,9 @@ generate_app = with_rule (new_app (codes "generate")) (word_rule (codes "count")
 abbrev pub surface_app : App
 surface_app = with_rule (new_app (codes "surface")) (word_rule (codes "case"))
 
+abbrev pub why_app : App
+why_app = with_rule (with_rule (new_app (codes "why")) (word_rule (codes "case"))) (word_rule (codes "schedule"))
+
 -- the program without its commands: it has no word of its own, no help and no version
 abbrev pub top_app : App
 top_app = record (new_app (codes "lxfi")) {
@@ -39,11 +42,11 @@ top_app = record (new_app (codes "lxfi")) {
   };
 }
 
--- the program and its six commands
+-- the program and its seven commands
 abbrev pub tree_app : App
 tree_app =
-    with_subcommand (with_subcommand (with_subcommand (with_subcommand (with_subcommand (with_subcommand top_app run_app.top) replay_app.top) instrument_app.top)
-    check_app.top) generate_app.top) surface_app.top
+    with_subcommand (with_subcommand (with_subcommand (with_subcommand (with_subcommand (with_subcommand (with_subcommand top_app run_app.top) replay_app.top) instrument_app.top)
+    check_app.top) generate_app.top) surface_app.top) why_app.top
 
 -- the command is the one that is wanted, and stands below no other
 pub record IsLeaf (a : App) (c : Command) : Type 0 where

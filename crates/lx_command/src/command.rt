@@ -45,6 +45,11 @@ pub enum Command<'a> {
     Surface {
         case: &'a str,
     },
+    /// Runs the case under the schedule, and writes why each need was met or was not.
+    Why {
+        case: &'a str,
+        schedule: &'a str,
+    },
 }
 
 /// A word that is no option.
@@ -102,6 +107,11 @@ fn command_by<'a>(name: &str, found: &ArgMatches<'a>) -> Option<Command<'a>>
             let case = word_of(found, "case")?;
             Some(Command::Surface { case })
         }
+        "why" => {
+            let case = word_of(found, "case")?;
+            let schedule = word_of(found, "schedule")?;
+            Some(Command::Why { case, schedule })
+        }
         _ => None,
     }
 }
@@ -130,8 +140,8 @@ fn read<'a>(alloc: Global, words: &'a [String]) -> Result<Option<Command<'a>>, M
     }
 }
 
-/// The command of the words `run CASE`, `replay CASE SCHEDULE`, `instrument CASE MODULE`, `check CASE MODULE IMAGE`, `generate N` and
-/// `surface CASE`, where no word begins with `-`. Whether words are a command must not hang on memory: where `clap` lacks it, they are read without.
+/// The command of the words `run CASE`, `replay CASE SCHEDULE`, `instrument CASE MODULE`, `check CASE MODULE IMAGE`, `generate N`,
+/// `surface CASE` and `why CASE SCHEDULE`, where no word begins with `-`. Whether words are a command must not hang on memory: where `clap` lacks it, they are read without.
 pub fn command_of<'a>(alloc: Global, words: &'a [String]) -> Option<Command<'a>>
     ensures { option_map said result ≡ command_of (texts words.entry.now) }
 {

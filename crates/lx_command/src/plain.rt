@@ -42,6 +42,10 @@ fn two_names<'a>(word: &str, case: &'a str, second: &'a str) -> Option<Command<'
             schedule: second,
         }),
         "instrument" => Some(Command::Instrument { case, part: second }),
+        "why" => Some(Command::Why {
+            case,
+            schedule: second,
+        }),
         _ => None,
     }
 }

@@ -1,7 +1,7 @@
 //! The commands as `clap` knows them.
 ghost use Rattle.std.specs.Prelude.{◌≡◌, IfOk, false};
 ghost use Rattle.clap.specs.Words.{app_of, rule_of};
-ghost use Rattle.lx_command.specs.Tree.{IsLeaf, check_app, generate_app, instrument_app, replay_app, run_app, surface_app, top_app, tree_app, word_rule};
+ghost use Rattle.lx_command.specs.Tree.{IsLeaf, check_app, generate_app, instrument_app, replay_app, run_app, surface_app, top_app, tree_app, why_app, word_rule};
 
 use clap::Arg;
 use std::alloc::{AllocError, Global};
@@ -63,6 +63,15 @@ fn surface<'a>(alloc: Global) -> Result<clap::Command<'a>, AllocError>
     clap::Command::new(alloc, "surface").arg(word(alloc, "case"))
 }
 
+/// `why CASE SCHEDULE`.
+fn why<'a>(alloc: Global) -> Result<clap::Command<'a>, AllocError>
+    ensures { IfOk result (IsLeaf why_app) }
+{
+    clap::Command::new(alloc, "why")
+        .arg(word(alloc, "case"))?
+        .arg(word(alloc, "schedule"))
+}
+
 /// The program without its commands: it has no word of its own, and `clap` adds no help and no version.
 fn top<'a>(alloc: Global) -> clap::Command<'a>
     ensures { app_of result ≡ top_app }
@@ -75,7 +84,7 @@ fn top<'a>(alloc: Global) -> clap::Command<'a>
         .subcommand_required(true)
 }
 
-/// The program and its six commands.
+/// The program and its seven commands.
 pub(crate) fn tree<'a>(alloc: Global) -> Result<clap::Command<'a>, AllocError>
     ensures { IfOk result (λ c. app_of c ≡ tree_app) }
 {
@@ -85,5 +94,6 @@ pub(crate) fn tree<'a>(alloc: Global) -> Result<clap::Command<'a>, AllocError>
         .subcommand(instrument(alloc)?)?
         .subcommand(check(alloc)?)?
         .subcommand(generate(alloc)?)?
-        .subcommand(surface(alloc)?)
+        .subcommand(surface(alloc)?)?
+        .subcommand(why(alloc)?)
 }

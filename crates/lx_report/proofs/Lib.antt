@@ -1,4 +1,4 @@
-mod Numbered
+pub mod Numbered
 mod Runs
 mod Maximal
 mod FirstLine

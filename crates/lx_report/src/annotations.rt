@@ -36,10 +36,10 @@ fn annotation_at(i: &Interface, place: usize) -> Option<&Annotation>
 }
 
 fn export_annotation<'a>(told: &Told<'a>, name: &[u8]) -> Option<&'a Annotation>
-    ensures { option_copied result ≡ export_annotation told.now.program.now.interface name.now }
+    ensures { option_copied result ≡ export_annotation told.now.teller.program.now.interface name.now }
 {
     match told.interface.export_place(name) {
-        Some(place) => annotation_at(&told.program.interface, place),
+        Some(place) => annotation_at(&told.teller.program.interface, place),
         None => None,
     }
 }
@@ -63,17 +63,17 @@ fn put_annotation(
 }
 
 pub(crate) fn put_slot_annotation(out: &mut Vec<u8>, told: &Told, slot: u32) -> Result<(), Memory>
-    ensures { OnOk result (out.new.items ≡ out.old.items ++ slot_annotation_text told.now.program.now slot) }
+    ensures { OnOk result (out.new.items ≡ out.old.items ++ slot_annotation_text told.now.teller.program.now slot) }
 {
-    let interface = &told.program.interface;
+    let interface = &told.teller.program.interface;
     put_annotation(told.alloc, out, interface, slot_annotation(interface, slot))
 }
 
 /// The annotation of a function of the kernel's text.
 fn exported<'a>(told: &Told<'a>, n: u32) -> Option<&'a Annotation>
-    ensures { option_copied result ≡ option_and_then (λ g. export_annotation told.now.program.now.interface g.name) (function_of told.now.program.now n) }
+    ensures { option_copied result ≡ option_and_then (λ g. export_annotation told.now.teller.program.now.interface g.name) (function_of told.now.teller.program.now n) }
 {
-    match function_of(told.program, n) {
+    match function_of(told.teller.program, n) {
         Some(function) => export_annotation(told, function.name.as_slice()),
         None => None,
     }
@@ -81,14 +81,14 @@ fn exported<'a>(told: &Told<'a>, n: u32) -> Option<&'a Annotation>
 
 /// The first slot type that a function of a module gets.
 fn slot_in(told: &Told, home: u32, function: u32) -> Result<Option<u32>, Memory>
-    ensures { IfOk result (λ slot. slot ≡ slot_of told.now.program.now.interface (module_of told.now.program.now (Some home)) function) }
+    ensures { IfOk result (λ slot. slot ≡ slot_of told.now.teller.program.now.interface (module_of told.now.teller.program.now (Some home)) function) }
 {
     told.slots.slot_of(told.alloc, home, function)
 }
 
 /// The text of the annotation of a module's function.
 fn put_marked(out: &mut Vec<u8>, told: &Told, home: u32, function: u32) -> Result<(), Memory>
-    ensures { OnOk result (out.new.items ≡ out.old.items ++ canonical told.now.program.now.interface (unwrap_or (option_and_then (slot_annotation told.now.program.now.interface) (slot_of told.now.program.now.interface (module_of told.now.program.now (Some home)) function)) no_annotation)) }
+    ensures { OnOk result (out.new.items ≡ out.old.items ++ canonical told.now.teller.program.now.interface (unwrap_or (option_and_then (slot_annotation told.now.teller.program.now.interface) (slot_of told.now.teller.program.now.interface (module_of told.now.teller.program.now (Some home)) function)) no_annotation)) }
 {
     let slot = slot_in(told, home, function)?;
     match slot {
@@ -99,13 +99,13 @@ fn put_marked(out: &mut Vec<u8>, told: &Told, home: u32, function: u32) -> Resul
 
 /// The text of a function's annotation: an export's, or the slot type's that a function of a module gets.
 pub(crate) fn put_function_annotation(out: &mut Vec<u8>, told: &Told, n: u32) -> Result<(), Memory>
-    ensures { OnOk result (out.new.items ≡ out.old.items ++ annotation_text told.now.program.now n) }
+    ensures { OnOk result (out.new.items ≡ out.old.items ++ annotation_text told.now.teller.program.now n) }
 {
-    match told.program.functions.as_slice().get(n as usize) {
+    match told.teller.program.functions.as_slice().get(n as usize) {
         Some(ProgramFunction::Of { module: None, .. }) => put_annotation(
             told.alloc,
             out,
-            &told.program.interface,
+            &told.teller.program.interface,
             exported(told, n),
         ),
         Some(

@@ -16,7 +16,7 @@ type Key = (u32, u32);
 
 /// Names of instances, and the first one's value by module and instance. Contracts see the names.
 #[derive(Drop)]
-pub(crate) struct GivenNames<'a> {
+pub struct GivenNames<'a> {
     names: &'a [InstanceName],
     values: IndexMap<Key, u64>,
 }

@@ -14,6 +14,7 @@ mod names;
 mod reply;
 mod schedule;
 mod slots;
+mod teller;
 mod text;
 mod told;
 
@@ -23,24 +24,28 @@ use crate::told::Told;
 use lx_model::account::Account;
 use lx_model::program::Program;
 use lx_words::{Memory, number_texts};
+pub use names::put_principal;
+pub use reply::put_cap;
 use std::alloc::Global;
+pub use teller::Teller;
+pub use text::{put, put_address, put_bytes, put_number};
 
 /// The parts of a report, one behind the other. It owns nothing, so that a want of memory has nothing to drop.
 fn put_report(out: &mut Vec<u8>, told: &Told, a: &Account) -> Result<(), Memory>
-    requires { told.now.names ≡ a.now.names }
-    ensures { OnOk result (out.new.items ≡ out.old.items ++ report_text told.now.program.now a.now) }
+    requires { told.now.teller.names ≡ a.now.names }
+    ensures { OnOk result (out.new.items ≡ out.old.items ++ report_text told.now.teller.program.now a.now) }
 {
     put_schedule(out, a.schedule.as_slice())?;
     put_calls(out, told, a.outcomes.as_slice())?;
     put_notes(out, a.notes.as_slice())?;
-    put_images(out, told.program, a.images.as_slice())?;
+    put_images(out, told.teller.program, a.images.as_slice())?;
     put_owners(out, told, a.owners.as_slice())
 }
 
 /// The text of an account, over the tables of its program.
 fn text_of(alloc: Global, told: &Told, a: &Account) -> Result<Vec<u8>, Memory>
-    requires { told.now.names ≡ a.now.names }
-    ensures { IfOk result (λ text. text.items ≡ report_text told.now.program.now a.now) }
+    requires { told.now.teller.names ≡ a.now.names }
+    ensures { IfOk result (λ text. text.items ≡ report_text told.now.teller.program.now a.now) }
 {
     let mut out = Vec::new(alloc);
     match put_report(&mut out, told, a) {

@@ -45,18 +45,18 @@ fn put_call(
     call: &CallOutcome,
 ) -> Result<(), Memory>
     requires { k ≤ length calls.now }
-    ensures { OnOk result (out.new.items ≡ out.old.items ++ call_line_of told.now.program.now calls.now told.now.names (k, call.now)) }
+    ensures { OnOk result (out.new.items ≡ out.old.items ++ call_line_of told.now.teller.program.now calls.now told.now.teller.names (k, call.now)) }
 {
     put_call_number(out, calls, k, call.thread)?;
     put(out, " ")?;
-    put_called(out, told.program, call.function)?;
+    put_called(out, told.teller.program, call.function)?;
     put(out, " ")?;
     put_outcome(out, told, call.function, call.outcome)?;
     put(out, "\n")
 }
 
 pub(crate) fn put_calls(out: &mut Vec<u8>, told: &Told, calls: &[CallOutcome]) -> Result<(), Memory>
-    ensures { OnOk result (out.new.items ≡ out.old.items ++ flat_map (call_line_of told.now.program.now calls.now told.now.names) (enumerate_from 0 calls.now)) }
+    ensures { OnOk result (out.new.items ≡ out.old.items ++ flat_map (call_line_of told.now.teller.program.now calls.now told.now.teller.names) (enumerate_from 0 calls.now)) }
 {
     for (k, call) in calls.iter().enumerate() {
         put_call(out, told, calls, k, call)?;
@@ -123,17 +123,17 @@ pub(crate) fn put_images(
 }
 
 fn put_owner(out: &mut Vec<u8>, told: &Told, owned: &Owned) -> Result<(), Memory>
-    ensures { OnOk result (out.new.items ≡ out.old.items ++ owner_line told.now.program.now told.now.names owned.now) }
+    ensures { OnOk result (out.new.items ≡ out.old.items ++ owner_line told.now.teller.program.now told.now.teller.names owned.now) }
 {
     put(out, "owns ")?;
-    put_principal(out, told, owned.who)?;
+    put_principal(out, &told.teller, owned.who)?;
     put(out, " ")?;
-    put_cap(out, &told.program.interface, owned.cap)?;
+    put_cap(out, &told.teller.program.interface, owned.cap)?;
     put(out, "\n")
 }
 
 pub(crate) fn put_owners(out: &mut Vec<u8>, told: &Told, owners: &[Owned]) -> Result<(), Memory>
-    ensures { OnOk result (out.new.items ≡ out.old.items ++ flat_map (owner_line told.now.program.now told.now.names) owners.now) }
+    ensures { OnOk result (out.new.items ≡ out.old.items ++ flat_map (owner_line told.now.teller.program.now told.now.teller.names) owners.now) }
 {
     for owned in owners {
         put_owner(out, told, owned)?;

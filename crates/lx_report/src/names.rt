@@ -5,8 +5,8 @@ ghost use Rattle.lx_model.specs.Program.{function_of, home_or_kernel, module_of}
 ghost use Rattle.lx_report.specs.Report.{address_text, number_text, called_text, function_name, given_name, given_text, home_text, module_name, principal_text, result_type};
 
 use crate::given::GivenNames;
+use crate::teller::Teller;
 use crate::text::{put, put_address, put_bytes};
-use crate::told::Told;
 use lx_annot::interface::Interface;
 use lx_caps::Principal;
 use lx_ir::module::Function;
@@ -123,16 +123,18 @@ fn put_of_module(out: &mut Vec<u8>, p: &Program, m: u32, ending: &str) -> Result
     put(out, ending)
 }
 
-pub(crate) fn put_principal(out: &mut Vec<u8>, told: &Told, who: Principal) -> Result<(), Memory>
-    ensures { OnOk result (out.new.items ≡ out.old.items ++ principal_text told.now.program.now told.now.names who) }
+/// Adds what a principal is told as: a module's name with `.shared`, `.global` or its instance's first name in brackets, or
+/// `kernel`. Want of memory is the only error.
+pub fn put_principal(out: &mut Vec<u8>, teller: &Teller, who: Principal) -> Result<(), Memory>
+    ensures { OnOk result (out.new.items ≡ out.old.items ++ principal_text teller.now.program.now teller.now.names who) }
 {
     match who {
         Principal::Kernel => put(out, "kernel"),
-        Principal::Shared(m) => put_of_module(out, told.program, m, ".shared"),
-        Principal::Global(m) => put_of_module(out, told.program, m, ".global"),
+        Principal::Shared(m) => put_of_module(out, teller.program, m, ".shared"),
+        Principal::Global(m) => put_of_module(out, teller.program, m, ".global"),
         Principal::Inst(m, k) => {
-            put_bytes(out, module_name(told.program, m as usize))?;
-            put_given(out, &told.names, m, k)
+            put_bytes(out, module_name(teller.program, m as usize))?;
+            put_given(out, &teller.names, m, k)
         }
     }
 }

@@ -39,7 +39,9 @@ fn put_ref(out: &mut Vec<u8>, i: &Interface, ty: u32, at: u64) -> Result<(), Mem
     put_address(out, at)
 }
 
-pub(crate) fn put_cap(out: &mut Vec<u8>, i: &Interface, cap: Cap) -> Result<(), Memory>
+/// Adds what a capability is told as: its kind, its reference type's name, its address and a range's size in bytes.
+/// Want of memory is the only error.
+pub fn put_cap(out: &mut Vec<u8>, i: &Interface, cap: Cap) -> Result<(), Memory>
     ensures { OnOk result (out.new.items ≡ out.old.items ++ cap_text i.now cap) }
 {
     match cap {
@@ -118,7 +120,7 @@ fn put_other(
     slot: u32,
     function: u32,
 ) -> Result<(), Memory>
-    ensures { OnOk result (out.new.items ≡ out.old.items ++ other_text told.now.program.now at slot function) }
+    ensures { OnOk result (out.new.items ≡ out.old.items ++ other_text told.now.teller.program.now at slot function) }
 {
     put_call(out, at)?;
     put(out, ": ")?;
@@ -129,12 +131,12 @@ fn put_other(
 
 /// The number of a refusal, and the principal that it meets.
 fn put_refused(out: &mut Vec<u8>, told: &Told, number: u64, who: Principal) -> Result<(), Memory>
-    ensures { OnOk result (out.new.items ≡ out.old.items ++ refused told.now.program.now told.now.names number who) }
+    ensures { OnOk result (out.new.items ≡ out.old.items ++ refused told.now.teller.program.now told.now.teller.names number who) }
 {
     put(out, "refused ")?;
     put_number(out, number)?;
     put(out, " ")?;
-    put_principal(out, told, who)?;
+    put_principal(out, &told.teller, who)?;
     put(out, " ")
 }
 
@@ -146,14 +148,14 @@ fn put_about(
     who: Principal,
     cap: Cap,
 ) -> Result<(), Memory>
-    ensures { OnOk result (out.new.items ≡ out.old.items ++ refused told.now.program.now told.now.names number who ++ cap_text told.now.program.now.interface cap) }
+    ensures { OnOk result (out.new.items ≡ out.old.items ++ refused told.now.teller.program.now told.now.teller.names number who ++ cap_text told.now.teller.program.now.interface cap) }
 {
     put_refused(out, told, number, who)?;
-    put_cap(out, &told.program.interface, cap)
+    put_cap(out, &told.teller.program.interface, cap)
 }
 
 fn put_refusal(out: &mut Vec<u8>, told: &Told, refusal: Refusal) -> Result<(), Memory>
-    ensures { OnOk result (out.new.items ≡ out.old.items ++ refusal_text told.now.program.now told.now.names refusal) }
+    ensures { OnOk result (out.new.items ≡ out.old.items ++ refusal_text told.now.teller.program.now told.now.teller.names refusal) }
 {
     match refusal {
         Refusal::Write { who, at, size } => put_about(out, told, 1, who, Cap::Write { at, size }),
@@ -194,10 +196,14 @@ pub(crate) fn put_outcome(
     function: u32,
     outcome: Outcome,
 ) -> Result<(), Memory>
-    ensures { OnOk result (out.new.items ≡ out.old.items ++ outcome_text told.now.program.now told.now.names function outcome) }
+    ensures { OnOk result (out.new.items ≡ out.old.items ++ outcome_text told.now.teller.program.now told.now.teller.names function outcome) }
 {
     match outcome {
-        Outcome::Returned(value) => put_returned(out, result_type(told.program, function), value),
+        Outcome::Returned(value) => put_returned(
+            out,
+            result_type(told.teller.program, function),
+            value,
+        ),
         Outcome::Refused(refusal) => put_refusal(out, told, refusal),
         Outcome::Trapped(trap) => put_trap(out, trap),
         Outcome::Budget => put(out, "budget"),

@@ -7,29 +7,33 @@ ghost use Rattle.lx_words.specs.Word.{signed};
 
 use lx_words::{Memory, Width, Word, put_decimal, put_hex};
 
-pub(crate) fn put(out: &mut Vec<u8>, text: &str) -> Result<(), Memory>
+/// Adds a text. Want of memory is the only error.
+pub fn put(out: &mut Vec<u8>, text: &str) -> Result<(), Memory>
     ensures { OnOk result (out.new.items ≡ out.old.items ++ text.now) }
 {
     out.extend_from_slice(text.as_bytes())?;
     Ok(())
 }
 
-pub(crate) fn put_bytes(out: &mut Vec<u8>, bytes: &[u8]) -> Result<(), Memory>
+/// Adds bytes. Want of memory is the only error.
+pub fn put_bytes(out: &mut Vec<u8>, bytes: &[u8]) -> Result<(), Memory>
     ensures { OnOk result (out.new.items ≡ out.old.items ++ bytes.now) }
 {
     out.extend_from_slice(bytes)?;
     Ok(())
 }
 
+/// Adds a number in decimal digits. Want of memory is the only error.
 #[tactic(auto, unfolding(crate::specs::Report::number_text))]
-pub(crate) fn put_number(out: &mut Vec<u8>, n: u64) -> Result<(), Memory>
+pub fn put_number(out: &mut Vec<u8>, n: u64) -> Result<(), Memory>
     ensures { OnOk result (out.new.items ≡ out.old.items ++ number_text n) }
 {
     put_decimal(out, i128::from(n))
 }
 
+/// Adds an address: `0x` and hexadecimal digits without padding. Want of memory is the only error.
 #[tactic(auto, unfolding(crate::specs::Report::address_text))]
-pub(crate) fn put_address(out: &mut Vec<u8>, at: u64) -> Result<(), Memory>
+pub fn put_address(out: &mut Vec<u8>, at: u64) -> Result<(), Memory>
     ensures { OnOk result (out.new.items ≡ out.old.items ++ address_text at) }
 {
     put_hex(out, at)

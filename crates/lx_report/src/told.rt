@@ -2,24 +2,23 @@
 
 ghost use Rattle.std.specs.Prelude.{◌≡◌};
 
-use crate::given::GivenNames;
 use crate::slots::ModuleSlots;
+use crate::teller::Teller;
 use lx_model::account::Account;
 use lx_model::program::Program;
 use lx_name_tables::InterfaceNames;
 use lx_words::Memory;
 use std::alloc::Global;
 
-/// A program and the names of a run's instances, with tables of what a report looks up in them.
+/// What tells principals of a program and a run, with tables of what else a report looks up in the program.
 #[derive(Drop)]
 pub(crate) struct Told<'a> {
     pub(crate) alloc: Global,
-    pub(crate) program: &'a Program,
+    pub(crate) teller: Teller<'a>,
     pub(crate) interface: InterfaceNames<'a>,
     pub(crate) slots: ModuleSlots<'a>,
-    pub(crate) names: GivenNames<'a>,
-    ghost same: { interface ≡ program.now.interface },
-    ghost same_slots: { slots ≡ program.now },
+    ghost same: { interface ≡ teller.program.now.interface },
+    ghost same_slots: { slots ≡ teller.program.now },
 }
 
 impl<'a> Told<'a> {
@@ -34,16 +33,15 @@ impl<'a> Told<'a> {
         slots: ModuleSlots<'a>,
     ) -> Result<Self, Memory>
         requires { slots ≡ program.now }
-        ensures program { IfOk result (λ told. told.program.now ≡ program.now) }
-        ensures names { IfOk result (λ told. told.names ≡ a.now.names) }
+        ensures program { IfOk result (λ told. told.teller.program.now ≡ program.now) }
+        ensures names { IfOk result (λ told. told.teller.names ≡ a.now.names) }
     {
-        match GivenNames::new(alloc, a.names.as_slice()) {
-            Ok(names) => Ok(Told {
+        match Teller::new(alloc, program, a.names.as_slice()) {
+            Ok(teller) => Ok(Told {
                 alloc,
-                program,
+                teller,
                 interface: InterfaceNames::new(alloc, &program.interface),
                 slots,
-                names,
             }),
             Err(why) => {
                 drop(slots);
@@ -55,8 +53,8 @@ impl<'a> Told<'a> {
     /// Makes the tables, once for a report. Want of memory is the only error.
     pub(crate) fn new(alloc: Global, program: &'a Program, a: &'a Account) -> Result<Self, Memory>
         requires { HasLawfulModules program.now }
-        ensures program { IfOk result (λ told. told.program.now ≡ program.now) }
-        ensures names { IfOk result (λ told. told.names ≡ a.now.names) }
+        ensures program { IfOk result (λ told. told.teller.program.now ≡ program.now) }
+        ensures names { IfOk result (λ told. told.teller.names ≡ a.now.names) }
     {
         match ModuleSlots::new(alloc, program, a.outcomes.as_slice()) {
             Ok(slots) => Told::with_slots(alloc, program, a, slots),

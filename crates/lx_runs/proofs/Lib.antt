@@ -7,3 +7,4 @@ pub mod Ran
 pub mod Replays
 pub mod Reported
 pub mod Wholes
+pub mod Certifying

@@ -3,3 +3,4 @@ pub mod Opened
 pub mod Replays
 pub mod Reports
 pub mod Runs
+pub mod Whys

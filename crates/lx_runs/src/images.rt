@@ -7,17 +7,46 @@ ghost use Rattle.lx_annotation_tables.specs.Entries.{all_annotated};
 ghost use Rattle.lx_input.specs.Laws.{HasNoConflict};
 ghost use Rattle.lx_link_texts.specs.WellFormed.{IsWellFormed};
 ghost use Rattle.lx_model.specs.declared.program.ProgramModule.{ProgramModule};
-ghost use Rattle.lx_runs.specs.Images.{AreMadeOf, HasPushed, IsMadeOf};
+ghost use Rattle.lx_runs.specs.Images.{AreMadeOf, HasPushed, IsInstrumented, IsMadeOf};
 
 use lx_accepted::accepted_laws;
 use lx_annot::interface::Interface;
 use lx_image_check::{Checked, Refusal, check};
-use lx_instrument::instrument_module;
+use lx_instrument::{instrument_module, instrument_module_full};
 use lx_ir::module::Module;
+use lx_ir_verify::Verified;
 use lx_model::program::Program;
 use lx_slot_types::Annotated;
 use lx_words::Memory;
 use std::alloc::Global;
+
+/// Which stores of an image have a guard: each, or each but those that are spared.
+#[derive(Clone, Copy)]
+pub(crate) enum Guarding {
+    Spared,
+    Full,
+}
+
+/// What the instrumenter makes of a module.
+fn instrumented(
+    alloc: Global,
+    i: &Interface,
+    module: &Module,
+    annotated: &Annotated,
+    guarding: Guarding,
+) -> Result<Verified, Memory>
+    requires verified { IsVerified module.now }
+    requires plain { IsPlain module.now }
+    requires annotated { annotated.now ≡ annotated_of i.now module.now }
+    requires agrees { conflict_of i.now module.now ≡ None }
+    ensures image { IfOk result (IsInstrumented guarding i.now module.now) }
+    ensures verified { IfOk result IsVerified }
+{
+    match guarding {
+        Guarding::Spared => instrument_module(alloc, i, module, annotated),
+        Guarding::Full => instrument_module_full(alloc, i, module, annotated),
+    }
+}
 
 /// The image of a module. The checker finds no fault in it.
 fn image_of(
@@ -25,15 +54,16 @@ fn image_of(
     i: &Interface,
     module: &Module,
     annotated: &Annotated,
+    guarding: Guarding,
 ) -> Result<Checked, Memory>
     requires verified { IsVerified module.now }
     requires plain { IsPlain module.now }
     requires annotated { annotated.now ≡ annotated_of i.now module.now }
     requires agrees { conflict_of i.now module.now ≡ None }
-    ensures { IfOk result (IsMadeOf i.now module.now) }
+    ensures { IfOk result (IsMadeOf guarding i.now module.now) }
 {
     accepted_laws();
-    let image = instrument_module(alloc, i, module, annotated)?;
+    let image = instrumented(alloc, i, module, annotated, guarding)?;
     match check(alloc, i, image) {
         Ok(checked) => Ok(checked),
         Err(Refusal::Memory) => Err(Memory),
@@ -48,14 +78,15 @@ fn push_image(
     i: &Interface,
     module: &Module,
     annotated: &Annotated,
+    guarding: Guarding,
 ) -> Result<(), Memory>
     requires verified { IsVerified module.now }
     requires plain { IsPlain module.now }
     requires annotated { annotated.now ≡ annotated_of i.now module.now }
     requires agrees { conflict_of i.now module.now ≡ None }
-    ensures { OnOk result (HasPushed i.now module.now images.old.items images.new.items) }
+    ensures { OnOk result (HasPushed guarding i.now module.now images.old.items images.new.items) }
 {
-    let image = image_of(alloc, i, module, annotated)?;
+    let image = image_of(alloc, i, module, annotated, guarding)?;
     images.push(image)?;
     Ok(())
 }
@@ -67,12 +98,13 @@ fn push_images(
     images: &mut Vec<Checked>,
     program: &Program,
     annotated: &[Annotated],
+    guarding: Guarding,
 ) -> Result<(), Memory>
     requires empty { images.old.items ≡ [] }
     requires formed { IsWellFormed program.now }
     requires annotated { annotated.now ≡ all_annotated program.now }
     requires agree { All (λ (m : ProgramModule). HasNoConflict program.now.interface m.«module») program.now.modules }
-    ensures { OnOk result (AreMadeOf program.now.interface program.now.modules images.new.items) }
+    ensures { OnOk result (AreMadeOf guarding program.now.interface program.now.modules images.new.items) }
 {
     for (number, entry) in program.modules.as_slice().iter().enumerate() {
         push_image(
@@ -81,6 +113,7 @@ fn push_images(
             &program.interface,
             &entry.module,
             &annotated[number],
+            guarding,
         )?;
     }
     Ok(())
@@ -92,14 +125,15 @@ pub(crate) fn images_of_program(
     alloc: Global,
     program: &Program,
     annotated: &[Annotated],
+    guarding: Guarding,
 ) -> Result<Vec<Checked>, Memory>
     requires formed { IsWellFormed program.now }
     requires annotated { annotated.now ≡ all_annotated program.now }
     requires agree { All (λ (m : ProgramModule). HasNoConflict program.now.interface m.«module») program.now.modules }
-    ensures { IfOk result (λ images. AreMadeOf program.now.interface program.now.modules images.items) }
+    ensures { IfOk result (λ images. AreMadeOf guarding program.now.interface program.now.modules images.items) }
 {
     let mut images = Vec::new(alloc);
-    match push_images(alloc, &mut images, program, annotated) {
+    match push_images(alloc, &mut images, program, annotated, guarding) {
         Ok(()) => Ok(images),
         Err(why) => {
             drop(images);

@@ -17,7 +17,9 @@ mod replay;
 mod report;
 mod run;
 mod told;
+mod why;
 
 pub use input::{account_input, run_input};
 pub use run::Host;
 pub use told::Told;
+pub use why::{Why, why_input};

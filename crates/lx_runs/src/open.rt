@@ -5,10 +5,11 @@ ghost use Rattle.lx_input.specs.Laws.{HasNoConflict, IsReady};
 ghost use Rattle.lx_link_texts.specs.WellFormed.{FitsCalls, IsWellFormed};
 ghost use Rattle.lx_model.specs.declared.program.ProgramModule.{ProgramModule};
 ghost use Rattle.lx_runs.specs.Images.{AreMadeOf};
+ghost use Rattle.lx_runs.specs.declared.images.Guarding.{Guarding};
 ghost use Rattle.lx_runs.specs.Opened.{IsOpened};
 ghost use Rattle.lx_runs.specs.Runs.{images_of};
 
-use crate::images::images_of_program;
+use crate::images::{Guarding, images_of_program};
 use lx_annotation_tables::image_counts;
 use lx_caps::CapStore;
 use lx_core::World;
@@ -31,11 +32,11 @@ fn made_of(alloc: Global, program: &Program, annotated: &[Annotated]) -> Result<
     requires formed { IsWellFormed program.now }
     requires annotated { annotated.now ≡ all_annotated program.now }
     requires agree { All (λ (m : ProgramModule). HasNoConflict program.now.interface m.«module») program.now.modules }
-    ensures made { IfOk result (λ made. AreMadeOf program.now.interface program.now.modules made.images.items) }
+    ensures made { IfOk result (λ made. AreMadeOf Guarding.Spared program.now.interface program.now.modules made.images.items) }
     ensures counts { IfOk result (λ made. made.counts ≡ images_of program.now) }
 {
     let counts = image_counts(alloc, program, annotated)?;
-    match images_of_program(alloc, program, annotated) {
+    match images_of_program(alloc, program, annotated, Guarding::Spared) {
         Ok(images) => Ok(Made { images, counts }),
         Err(why) => {
             drop(counts);
@@ -64,7 +65,7 @@ fn open_images<C: CapStore + Drop>(
     requires few { length script.now ≤ 16 }
     requires fits { FitsCalls program script.now }
     requires annotated { annotated.now ≡ all_annotated program }
-    requires made { AreMadeOf program.interface program.modules images.items }
+    requires made { AreMadeOf Guarding.Spared program.interface program.modules images.items }
     requires new { C.stands caps [] }
     ensures { IfOk result (IsOpened C.stands program script.now) }
 {

@@ -1,9 +1,11 @@
 //! Certificates of needs over lists of acts, and what is refused as one.
 ghost use Rattle.std.specs.Prelude.{◌≡◌, IfOk};
+ghost use Rattle.lx_caps.specs.Placed.{is_placed_act};
 ghost use Rattle.lx_certificates.specs.Certificates.{is_kernel};
 
-use crate::common::{FIRST, SHARED, STRANGER};
-use lx_caps::{Act, Acts, Atom, Cap, Principal};
+use crate::common::{FIRST, SHARED, STRANGER, is_in_memory};
+use lx_act_index::ActIndex;
+use lx_caps::{Act, Acts, Atom, Cap, Principal, mapped};
 use lx_certificates::{Cert, Need, Part, cert_for, certs_for, check_cert, is_told, told_acts};
 use lx_words::{Items, Memory};
 use std::alloc::Global;
@@ -236,6 +238,40 @@ fn says(cert: &Cert, need: Need, wanted: Wanted) -> bool {
     }
 }
 
+fn lies_in_memory(act: Act) -> bool
+    ensures { result ≡ is_placed_act act }
+{
+    match act {
+        Act::Grant(_, cap) | Act::Strip(cap) | Act::Lend(_, _, cap) => is_in_memory(cap),
+        Act::Zero { at, size } => mapped(at, size),
+        Act::Loan(_) | Act::Shut(..) | Act::ShutAll(_) => true,
+    }
+}
+
+/// Notes acts in an index, and says whether all of them lie in memory.
+fn note_all(index: &mut ActIndex, acts: &[Act]) -> Result<bool, Memory> {
+    for act in acts {
+        if !lies_in_memory(*act) {
+            return Ok(false);
+        }
+        index.note(*act)?;
+    }
+    Ok(true)
+}
+
+/// Says whether the certificate that an index of the acts makes for a need says what is wanted.
+fn is_indexed(alloc: Global, acts: &[Act], need: Need, wanted: Wanted) -> Result<bool, Memory> {
+    if is_of_kernel(need.who) {
+        return Ok(false);
+    }
+    let mut index = ActIndex::new(alloc)?;
+    if !note_all(&mut index, acts)? {
+        return Ok(false);
+    }
+    let cert = index.cert_for(alloc, need.who, need.cap, need.kept)?;
+    Ok(says(&cert, need, wanted))
+}
+
 /// Says whether the certificate that is made for a need says what is wanted, and is accepted.
 fn is_made(
     alloc: Global,
@@ -249,7 +285,8 @@ fn is_made(
     }
     let so_far = acts.as_slice().split_at(before as usize).0;
     let cert = cert_for(alloc, so_far, need.who, need.cap, need.kept)?;
-    Ok(says(&cert, need, wanted) && check_cert(acts, before, &cert))
+    let indexed = is_indexed(alloc, so_far, need, wanted)?;
+    Ok(indexed && says(&cert, need, wanted) && check_cert(acts, before, &cert))
 }
 
 fn assert_made(rt: &impl Abort, alloc: Global, acts: &Acts, rows: &[Row]) -> Result<(), Fail> {

@@ -7,7 +7,7 @@ use std::test::Fail;
 
 /// What is written of words that are no command.
 pub const USAGE: &str =
-    "usage: lxfi_run run CASE | replay CASE SCHEDULE | instrument CASE MODULE | check CASE MODULE IMAGE | generate N | surface CASE\n";
+    "usage: lxfi_run run CASE | replay CASE SCHEDULE | instrument CASE MODULE | check CASE MODULE IMAGE | generate N | why CASE SCHEDULE | surface CASE\n";
 
 /// An output that fails, and one without room.
 pub fn outputs() -> &'static str {

@@ -5,11 +5,11 @@ use lx_c_texts::{
     annotation_cases_table, c_cases_table, card_cases_table, driver_cases_table, first_cases_table,
     image_cases_table, input_faults_table, loan_cases_table, machine_cases_table,
     module_faults_table, more_refused_table, refusal_cases_table, refused_table, text_faults_table,
-    word_cases_table,
+    why_cases_table, word_cases_table,
 };
 
 /// How many tables of examples there are.
-pub const EXAMPLES: u32 = 15;
+pub const EXAMPLES: u32 = 16;
 
 /// The text of a table of examples, by its number.
 pub fn examples(number: u32) -> &'static str {
@@ -28,6 +28,7 @@ pub fn examples(number: u32) -> &'static str {
         11 => input_faults_table(),
         12 => refused_table(),
         13 => more_refused_table(),
+        14 => why_cases_table(),
         _ => driver_cases_table(),
     }
 }

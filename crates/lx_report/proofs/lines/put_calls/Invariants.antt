@@ -5,4 +5,4 @@ use Rattle.lx_report.proofs.lines.put_calls.Given as goal
 
 abbrev pub invariant-loop-k : goal.invariant-loop-k
 invariant-loop-k l =
-    l.out.items ≡ l.fn.out.items ++ flat_map (call_line_of l.told.program.now l.calls l.told.names) (take l.k (enumerate_from 0 l.calls))
+    l.out.items ≡ l.fn.out.items ++ flat_map (call_line_of l.told.teller.program.now l.calls l.told.teller.names) (take l.k (enumerate_from 0 l.calls))

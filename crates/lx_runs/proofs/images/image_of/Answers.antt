@@ -1,5 +1,5 @@
 use Rattle.lx_image_texts.specs.ImageFaults.{first_image_fault}
-use Rattle.lx_runs.proofs.Made.{made_is, never_told}
+use Rattle.lx_runs.proofs.Made.{made_is, made_same, never_told}
 use Rattle.lx_runs.proofs.images.image_of.Goals as goal
 
 pub returns-in-Ok : goal.returns-in-Ok
@@ -7,8 +7,8 @@ returns-in-Ok c =
     let given = c.requires in
     let i = c.args.i.now in
     let m = c.args.«module».now in
-    made_is i m c.in_ok-image.image c.in-Ok.checked
-    (c.accepted_laws.ensures.made i m c.in_ok-image.image given.verified given.plain given.agrees c.in_ok-image.ensures.verified c.in_ok-image.ensures.image)
+    made_same c.args.guarding i m c.in_ok-image.image c.in-Ok.checked
+    (made_is c.accepted_laws.ensures c.args.guarding i m c.in_ok-image.image given.verified given.plain given.agrees c.in_ok-image.ensures.verified c.in_ok-image.ensures.image)
     c.in-Ok.ensures.first.0
 
 -- the image is accepted, so no fault is told
@@ -18,5 +18,5 @@ unreachable-requires c =
     let i = c.args.i.now in
     let m = c.args.«module».now in
     never_told (first_image_fault i c.in_ok-image.image) _
-    (c.accepted_laws.ensures.made i m c.in_ok-image.image given.verified given.plain given.agrees c.in_ok-image.ensures.verified c.in_ok-image.ensures.image).0.no_fault
+    (made_is c.accepted_laws.ensures c.args.guarding i m c.in_ok-image.image given.verified given.plain given.agrees c.in_ok-image.ensures.verified c.in_ok-image.ensures.image).accepted.no_fault
     (rw c.in-Err-Fault.field-0-is at c.in-Err-Fault.ensures.first)

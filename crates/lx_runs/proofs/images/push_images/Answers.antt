@@ -46,4 +46,4 @@ loop-number-preserved c =
     let list : c.as_slice-entry-items.result.now ≡ p.modules = c.as_slice-entry-items.ensures in
     let short : k < length p.modules = omega (arith, ap length list, c.loop-number-test.true) in
     let at : c.entry-item.result ≡ get_or p.modules k c.entry-item.result = c.entry-item.is ∙ ap (λ ys. get_or ys k c.entry-item.result) list in
-    made_more p.interface p.modules k c.entry-item.result c.loop-number.images.items c.push_image.new.images.items short at c.loop-number.invariant c.in_ok-push_image.ensures
+    made_more c.args.guarding p.interface p.modules k c.entry-item.result c.loop-number.images.items c.push_image.new.images.items short at c.loop-number.invariant c.in_ok-push_image.ensures
