@@ -21,14 +21,14 @@ _lxfi() {
   [ "${COMP_WORDS[1]:-}" != --quick ] || at=2
   place=$((COMP_CWORD - at))
   if [ "$COMP_CWORD" = 1 ]; then
-    COMPREPLY=($(compgen -W "run replay instrument check generate surface --quick --help" -- "$word"))
+    COMPREPLY=($(compgen -W "run replay instrument check generate why surface --quick --help" -- "$word"))
   elif [ "$place" = 0 ]; then
-    COMPREPLY=($(compgen -W "run replay instrument check generate surface" -- "$word"))
+    COMPREPLY=($(compgen -W "run replay instrument check generate why surface" -- "$word"))
   else
     case "${COMP_WORDS[at]} $place" in
-      "run 1" | "replay 1" | "instrument 1" | "check 1" | "surface 1") _lxfi_files .case ;;
+      "run 1" | "replay 1" | "instrument 1" | "check 1" | "why 1" | "surface 1") _lxfi_files .case ;;
       "instrument 2" | "check 2") COMPREPLY=($(compgen -W "$(_lxfi_modules "${COMP_WORDS[at + 1]}")" -- "$word")) ;;
-      "replay 2" | "check 3") _lxfi_files ;;
+      "replay 2" | "why 2" | "check 3") _lxfi_files ;;
       *) COMPREPLY=() ;;
     esac
   fi

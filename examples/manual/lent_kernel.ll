@@ -1,0 +1,3 @@
+define void @pass(ptr %p) {
+  ret void
+}
