@@ -45,6 +45,13 @@ kernel none
 status 3
 x.case:2: case 2 end
 ---- file x.case
+
+---- words run x.case
+---- x.case:1: case 2 end
+---- whole
+status 3
+x.case:1: case 2 end
+---- file x.case
 lxfi case 1
 kernel none
 interface none

@@ -3,13 +3,13 @@
 
 use lx_c_texts::{
     annotation_cases_table, c_cases_table, card_cases_table, driver_cases_table, first_cases_table,
-    image_cases_table, input_faults_table, loan_cases_table, machine_cases_table,
-    module_faults_table, more_refused_table, refusal_cases_table, refused_table, text_faults_table,
-    why_cases_table, word_cases_table,
+    image_cases_table, input_faults_table, lesson_cases_table, loan_cases_table,
+    machine_cases_table, module_faults_table, more_refused_table, refusal_cases_table,
+    refused_table, text_faults_table, why_cases_table, word_cases_table,
 };
 
 /// How many tables of examples there are.
-pub const EXAMPLES: u32 = 16;
+pub const EXAMPLES: u32 = 17;
 
 /// The text of a table of examples, by its number.
 pub fn examples(number: u32) -> &'static str {
@@ -29,6 +29,7 @@ pub fn examples(number: u32) -> &'static str {
         12 => refused_table(),
         13 => more_refused_table(),
         14 => why_cases_table(),
+        15 => lesson_cases_table(),
         _ => driver_cases_table(),
     }
 }
