@@ -11,11 +11,11 @@ use crate::one_entry::{is_store, put_entries, store};
 use crate::reports::{events_before, schedule_in};
 use crate::threads::{EVENTS, put_crowd, put_race, twice};
 use lx_worked_texts::{
-    atomic_cases, borrowed_cases, borrower_cases, c_file_cases, end_cases, faulty_cases,
-    generated_cases, image_call_cases, image_cases, lent_slot_cases, limit_cases, many_cases,
-    memory_cases, nested_cases, own_kernel_cases, packet_cases, plain_cases, principal_cases,
-    prototype_cases, replayed_cases, slot_cases, small_files, spared_cases, surface_cases,
-    text_cases, thread_cases, wrapper_cases,
+    atomic_cases, borrowed_cases, borrower_cases, c_file_cases, end_cases, failing_devices,
+    faulty_cases, forged_images, generated_cases, guessed_addresses, image_call_cases, image_cases,
+    lent_slot_cases, limit_cases, many_cases, memory_cases, nested_cases, own_kernel_cases,
+    packet_cases, plain_cases, principal_cases, prototype_cases, raced_pokes, replayed_cases,
+    slot_cases, small_files, spared_cases, surface_cases, text_cases, thread_cases, wrapper_cases,
 };
 use std::test::Fail;
 
@@ -37,6 +37,10 @@ pub enum Series {
     WithoutModule,
     PastLimit,
     NoCommands,
+    ForgedImages,
+    RacedPokes,
+    GuessedAddresses,
+    FailingDevices,
     Race,
     Crowd,
     /// Two threads that meet at the gate.
@@ -91,6 +95,10 @@ fn text_of(series: Series) -> &'static str {
         Series::Fuels => small_files(),
         Series::Entries | Series::Store(_) => store(),
         Series::Outputs => outputs(),
+        Series::ForgedImages => forged_images(),
+        Series::RacedPokes => raced_pokes(),
+        Series::GuessedAddresses => guessed_addresses(),
+        Series::FailingDevices => failing_devices(),
         Series::Meeting | Series::Held(_) => twice(),
         _ => "",
     }
@@ -131,6 +139,9 @@ pub fn count_of(series: Series) -> Option<u32> {
         Series::Fuels => Some(40),
         Series::Entries => Some(85),
         Series::NoCommands => Some(17),
+        Series::ForgedImages | Series::RacedPokes => Some(4),
+        Series::GuessedAddresses => Some(3),
+        Series::FailingDevices => Some(9),
         Series::Race => Some(20),
         Series::Crowd => Some(3),
         _ => None,

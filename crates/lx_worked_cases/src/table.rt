@@ -85,10 +85,25 @@ fn put_note(bench: &mut Bench, head: &str) -> Result<(), Fail> {
     Ok(())
 }
 
-/// Puts a file by its name, or notes the words of a command.
+/// Has a read of the next run fail, by its number, where the first is 0.
+fn fail_read(bench: &mut Bench, number: &str) -> Result<(), Fail> {
+    let ahead = match number {
+        "0" => 0,
+        "1" => 1,
+        _ => 2,
+    };
+    let next = u32::try_from(bench.shelf.calls).unwrap_or(u32::MAX);
+    bench.shelf.fails.push(next.saturating_add(ahead))?;
+    Ok(())
+}
+
+/// Puts a file by its name, has a read fail, or notes the words of a command.
 fn put_named(alloc: Global, bench: &mut Bench, head: &str, body: &str) -> Result<(), Fail> {
     if let Some(name) = head.strip_prefix("file ") {
         return put_file(alloc, &mut bench.shelf, name, body);
+    }
+    if let Some(number) = head.strip_prefix("failing read ") {
+        return fail_read(bench, number);
     }
     match head.strip_prefix("words ") {
         Some(words) => set_words(alloc, bench, words),
@@ -215,7 +230,7 @@ fn run_and_replay<R: Threads + Wait + Sync>(
 }
 
 /// Does what a part says: `file NAME`, `case`, `calls`, `schedule` or `without` puts its body, `words WORD ..` is the command,
-/// `failing output` or `short output` is what it writes to, `lines` or `whole` runs the case, `run and replay` does so twice,
+/// `failing output` or `short output` is what it writes to, `failing read N` a read of the next run that fails, `lines` or `whole` runs the case, `run and replay` does so twice,
 /// and all else is why the next case is there.
 fn take_part<R: Threads + Wait + Sync>(
     rt: &R,

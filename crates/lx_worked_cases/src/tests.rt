@@ -77,6 +77,26 @@ fn words_that_are_no_command(rt: HostRuntime) -> Result<(), Fail> {
 }
 
 #[test]
+fn forged_images(rt: HostRuntime) -> Result<(), Fail> {
+    assert_cases(&rt, rt.alloc(), Series::ForgedImages)
+}
+
+#[test]
+fn schedules_of_a_race(rt: HostRuntime) -> Result<(), Fail> {
+    assert_cases(&rt, rt.alloc(), Series::RacedPokes)
+}
+
+#[test]
+fn guessed_stack_addresses(rt: HostRuntime) -> Result<(), Fail> {
+    assert_cases(&rt, rt.alloc(), Series::GuessedAddresses)
+}
+
+#[test]
+fn devices_that_fail(rt: HostRuntime) -> Result<(), Fail> {
+    assert_cases(&rt, rt.alloc(), Series::FailingDevices)
+}
+
+#[test]
 fn a_race_replays_itself(rt: HostRuntime) -> Result<(), Fail> {
     assert_cases(&rt, rt.alloc(), Series::Race)
 }

@@ -5,6 +5,7 @@
 mod c_files;
 mod files;
 mod generated;
+mod hostile;
 mod image_calls;
 mod image_spared;
 mod image_wrappers;
@@ -22,6 +23,7 @@ mod surfaces;
 pub use c_files::c_file_cases;
 pub use files::{ONE_CASE, small_files};
 pub use generated::generated_cases;
+pub use hostile::{failing_devices, forged_images, guessed_addresses, raced_pokes};
 pub use image_calls::image_call_cases;
 pub use image_spared::spared_cases;
 pub use image_wrappers::wrapper_cases;
