@@ -314,6 +314,66 @@ owns m.shared call 0x10160
 owns m[0x1000038] write 0x2000010+8
 owns m[0x1000038] ref device 0x1000038
 owns m[0x1000020] ref device 0x1000020
+---- file examples/manual/writers_back.case
+lxfi case 1
+kernel file examples/manual/writers_kernel.ll
+interface file examples/manual/writers.txt
+module m examples/manual/writers.ll
+module n examples/manual/writers.ll
+thread
+call m:take 0x2000000 &kernel:stop fuel 100
+call n:take 0x2000000 &kernel:stop fuel 100
+call m:take 0x2000000 &m:own fuel 100
+call kernel:go 0x2000000 fuel 100
+---- file examples/manual/writers_kernel.ll
+declare void @k.slot.act(ptr)
+define void @open(ptr %s) {
+  ret void
+}
+define void @go(ptr %s) {
+  call void @k.slot.act(ptr %s)
+  ret void
+}
+define void @stop() {
+  ret void
+}
+---- file examples/manual/writers.txt
+interface 1
+slot act : void ()
+export open : void (ptr s) post(copy(write, s, 8))
+export stop : void ()
+---- file examples/manual/writers.ll
+declare void @open(ptr)
+declare void @stop()
+define void @take(ptr %s, ptr %f) {
+  call void @open(ptr %s)
+  store ptr %f, ptr %s
+  ret void
+}
+define void @own() {
+  ret void
+}
+---- words run examples/manual/writers_back.case
+---- run examples/manual/writers_back.case
+---- whole
+status 1
+schedule 0*23
+call 0.0 m:take returned
+call 0.1 n:take returned
+call 0.2 m:take returned
+call 0.3 kernel:go refused 6 n.shared call 0x100a0 slot 0x2000000
+image m guards 1 checks 0 wrappers 2
+image n guards 1 checks 0 wrappers 2
+owns m.shared write 0x2000000+8
+owns m.shared call 0x10060
+owns m.shared call 0x10080
+owns m.shared call 0x10090
+owns m.shared call 0x100a0
+owns n.shared write 0x2000000+8
+owns n.shared call 0x10060
+owns n.shared call 0x10080
+owns n.shared call 0x100b0
+owns n.shared call 0x100c0
 ---- file examples/manual/alias.case
 lxfi case 1
 kernel builtin
