@@ -2,18 +2,20 @@
 use Rattle.std.proofs.Common.{◌≡◌, ◌∙◌, ◌⊎◌, inl, inr, refl, sym, ap, ℕ, ◌<◌, ◌≤◌, ◌^◌, Bool, true, false, not, ◌&&◌, nat_eq, Option, Some, None, List, [], ◌∷◌, ◌++◌, arith, if◌then◌else◌}
 use Rattle.std.proofs.lemmas.Bool.Decides.{nat_tests}
 use Rattle.std.specs.List.{flat_map}
+use Rattle.std.proofs.lemmas.Bool.{and_parts}
 use Rattle.lx_caps.specs.declared.Principal.{Principal}
 use Rattle.lx_caps.specs.History.{same_principal}
 use Rattle.lx_certificates.specs.declared.givers.Gifts.{Gifts}
 use Rattle.lx_certificates.specs.Givers.{by_lend, found}
 use Rattle.lx_cap_lists.specs.Bits.{is_set}
 use Rattle.lx_cap_lists.specs.Entries.{left_of}
-use Rattle.lx_cap_lists.proofs.BitLemmas.{none_set, set_left, same_who}
+use Rattle.lx_cap_lists.proofs.BitLemmas.{none_set, set_left}
 use Rattle.lx_act_index.specs.declared.threads.Loan.{Loan}
 use Rattle.lx_act_index.specs.declared.lines.Said.{Said}
 use Rattle.lx_act_index.specs.declared.lines.Said.TheVariants.{Grant, Lend, Strip}
 use Rattle.lx_act_index.specs.declared.lines.Entry.{Entry}
 use Rattle.lx_act_index.specs.Lines.{is_strip, same_loan, says, says_of, line_giver, strips, line_strip, replaces, is_spent, left_mask, if_any, left_over, line_with, IsLentBefore, AreLentBefore}
+use Rattle.lx_caps.proofs.Principals.{same_principal_is}
 
 -- an entry that says nothing of the bit
 passed : (o : Option Bool) (n : ℕ) (rest : Option ℕ) → o ≡ None → found o n rest ≡ rest
@@ -31,22 +33,17 @@ one_loan l m is =
     let n : l.opened ≡ m.opened = grind (arith, nat_tests, is) in
     λ j. record { thread = t j; older = o j; opened = n j }
 
-both : (a b : Bool) → (a && b) ≡ true → (a ≡ true) × (b ≡ true)
-both true true is = (refl, refl)
-both true false is = absurd cc
-both false b is = absurd cc
-
 module _ (gifts : Gifts) (among : Principal → Bool) (stands now : Loan → Bool) (ended : (l : Loan) → now l ≡ false → stands l ≡ false) where
   -- what says nothing anew said nothing before, where the new says all that the old does
   replaced : (new old : Said) → replaces new old ≡ true → says gifts among stands new ≡ None → says gifts among stands old ≡ None
   replaced Strip old is none = absurd cc
-  replaced (Grant q) (Grant r) is none = ap (λ p. says gifts among stands (Grant p)) (sym (same_who q r is)) ∙ none
+  replaced (Grant q) (Grant r) is none = ap (λ p. says gifts among stands (Grant p)) (sym (same_principal_is q r is)) ∙ none
   replaced (Grant q) (Lend m r) is none = absurd cc
   replaced (Grant q) Strip is none = absurd cc
   replaced (Lend l q) (Grant r) is none = absurd cc
   replaced (Lend l q) (Lend m r) is none =
-      let b = both (same_loan l m) (same_principal q r) is in
-      ap (λ k. says gifts among stands (Lend k r)) (sym (one_loan l m b.0)) ∙ (ap (λ p. says gifts among stands (Lend l p)) (sym (same_who q r b.1)) ∙ none)
+      let b = and_parts (same_loan l m) (same_principal q r) is in
+      ap (λ k. says gifts among stands (Lend k r)) (sym (one_loan l m b.0)) ∙ (ap (λ p. says gifts among stands (Lend l p)) (sym (same_principal_is q r b.1)) ∙ none)
   replaced (Lend l q) Strip is none = absurd cc
 
   no_third : (a b c : Bool) → c ≡ false → (if a && b && c then Some true else None) ≡ None

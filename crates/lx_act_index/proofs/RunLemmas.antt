@@ -1,6 +1,7 @@
 -- Runs of bits, and of the atoms that have them.
 use Rattle.std.proofs.Common.{◌≡◌, ◌∙◌, refl, sym, ap, subst, ℕ, ◌+◌, ◌-◌, ◌/◌, ◌%◌, ◌<◌, ◌≤◌, Bool, true, false, ◌&&◌, nat_eq, nat_le, nat_lt, Option, Some, None, List, arith}
 use Rattle.std.proofs.lemmas.Bool.Decides.{nat_tests}
+use Rattle.std.proofs.lemmas.Bool.{and_parts}
 use Rattle.lx_caps.specs.declared.Principal.{Principal}
 use Rattle.lx_caps.specs.declared.Atom.{Atom}
 use Rattle.lx_caps.specs.declared.Atom.TheVariants as atom
@@ -44,11 +45,6 @@ pub record IsNext (mask from next : ℕ) : Type 0 where
   pub bound : next ≤ 64
   pub none : (k : ℕ) → from ≤ k → k < next → is_set mask k ≡ false
 
-both : (a b : Bool) → (a && b) ≡ true → (a ≡ true) × (b ≡ true)
-both true true is = (refl, refl)
-both true false is = absurd cc
-both false b is = absurd cc
-
 pub next_from : (o : Option Atom) (bits mask from : ℕ) → IsFirst (part_atom 0 bits) o → ((i : ℕ) → i < 64 → is_set bits i ≡ (is_set mask i && nat_le from i)) → from ≤ 64 → IsNext mask from (byte_or_end o)
 next_from None bits mask from first above within = record {
   low = within;
@@ -56,10 +52,10 @@ next_from None bits mask from first above within = record {
   none = λ k le lt. unset bits mask from k above lt le (first (atom.Byte k));
 }
 next_from (Some (atom.Byte b)) bits mask from first above within =
-    let has = both (nat_eq 0 (b / 64)) (is_set bits (b % 64)) first.0 in
+    let has = and_parts (nat_eq 0 (b / 64)) (is_set bits (b % 64)) first.0 in
     let small : b < 64 = grind (arith, nat_tests, has.0) in
     let place : b % 64 ≡ b = omega (arith, small) in
-    let behind = both (is_set mask b) (nat_le from b) (sym (above b small) ∙ (sym (ap (is_set bits) place) ∙ has.1)) in
+    let behind = and_parts (is_set mask b) (nat_le from b) (sym (above b small) ∙ (sym (ap (is_set bits) place) ∙ has.1)) in
     let low : from ≤ b = (let h = behind.1 in grind (arith, nat_tests, h)) in
     record {
       low = low;

@@ -21,6 +21,8 @@ use Rattle.lx_act_index.specs.declared.threads.Thread.{Thread}
 use Rattle.lx_act_index.specs.Lines.{line_with}
 use Rattle.lx_act_index.specs.Threads.{is_open}
 use Rattle.lx_act_index.specs.Table.{line_at, shown, line_of, key_line, IsTable, entry_of, IsNoted, IsFresh, AreFresh, ArePut, HasGrown, NotedFrom}
+use Rattle.lx_caps.proofs.Tests.{eq_itself}
+use Rattle.lx_cap_lists.proofs.KeyPlaces.{behind_far, same_parts}
 
 -- fresh lines, one more
 pub fresh_none : (threads : List Thread) (s : Saying) (r : Range) (lines fresh : List (List Entry)) → fresh ≡ [] → AreFresh threads s r lines fresh (r.at / 64)
@@ -94,9 +96,6 @@ not_covered_before at size b lt = grind (arith, nat_tests, lt)
 not_covered_behind : (at size b : ℕ) → (at + size + 63) / 64 ≤ b / 64 → covers at size b ≡ false
 not_covered_behind at size b le = grind (arith, nat_tests, le)
 
-eq_self : (n : ℕ) → nat_eq n n ≡ true
-eq_self n = grind (arith, nat_tests)
-
 -- a line that was made fresh stands
 noted_by : (threads : List Thread) (s : Saying) (touched : Bool) (k mask : ℕ) (old fresh new : List Entry) → mask < 2 ^ 64 → is_set mask k ≡ touched → fresh ≡ line_with (is_open none_end threads) (entry_of s mask) old → new ≡ fresh
     → IsNoted threads s touched k old new
@@ -115,7 +114,7 @@ range_noted threads s r old new fresh are put b l is =
             let within : j < length fresh = omega (arith, c, less, ge) in
             let place : part_list (r.at / 64 + j) ≡ Some l = ap part_list at ∙ is in
             let made = are.each j within l place in
-            noted_by threads s (covers r.at r.size b) (b % 64) made.0 (line_at old l) (line_at fresh j) (line_at new l) made.1 (made.2 b (ap (λ p. nat_eq p (b / 64)) at ∙ eq_self (b / 64))) made.3
+            noted_by threads s (covers r.at r.size b) (b % 64) made.0 (line_at old l) (line_at fresh j) (line_at new l) made.1 (made.2 b (ap (λ p. nat_eq p (b / 64)) at ∙ eq_itself (b / 64))) made.3
             (put.put j l (omega arith) within place)
         | inr far ↦ inl (not_covered_behind r.at r.size b far, put.others l (λ j low lt at. absurd (let same = one_part (r.at / 64 + j) (b / 64) l at is in omega (arith, same, far, c, lt))))
       ]
@@ -139,22 +138,12 @@ part_there at size b is has = there (nat_le 0x40000 (b / 64) && nat_lt (b / 64) 
 pub list_within : (atoms : List Key) (k : Key) (i : ℕ) → place_in atoms k ≡ Some i → i < length atoms
 list_within atoms k i e = let h = (found_within (same_key k) 0 atoms i e).1 in omega (arith, h)
 
-pub behind_far : (o : Option ℕ) (l : ℕ) → behind_parts o ≡ Some l → 0xc000 ≤ l
-behind_far None l e = absurd cc
-behind_far (Some i) l e = let is : 0xc000 + i ≡ l = cc in omega (arith, is)
-
 pub behind_within : (atoms : List Key) (k : Key) (l : ℕ) → behind_parts (place_in atoms k) ≡ Some l → l < 0xc000 + length atoms
 behind_within atoms k l e = by (place_in atoms k) refl e
   where
     by : (o : Option ℕ) → place_in atoms k ≡ o → behind_parts o ≡ Some l → l < 0xc000 + length atoms
     by None p f = absurd cc
     by (Some i) p f = let is : 0xc000 + i ≡ l = cc in let h = list_within atoms k i p in omega (arith, is, h)
-
-same_parts : (x y : Key) → same_key x y ≡ true → x ≡ y
-same_parts x y e =
-    let a : x.0 ≡ y.0 = grind (arith, nat_tests, e) in
-    let b : x.1 ≡ y.1 = grind (arith, nat_tests, e) in
-    λ j. (a j, b j)
 
 pub with_fresh : (keys : List Key) (k : Key) → place_in keys k ≡ None → with_key keys k ≡ keys ++ k ∷ []
 with_fresh keys k fresh = ap (λ o. or_with o keys k) fresh

@@ -1,6 +1,6 @@
 -- Threads and their loans, act by act.
-use Rattle.std.proofs.Common.{◌≡◌, ◌∙◌, refl, sym, ap, subst, inl, inr, ℕ, zero, suc, ◌+◌, ◌-◌, ◌<◌, ◌≤◌, Bool, true, false, not, ◌&&◌, ◌||◌, nat_eq, nat_lt, Some, None, List, [], ◌∷◌, ◌++◌, length, take, arith, if◌then◌else◌, slice_index_or}
-use Rattle.std.proofs.lemmas.Bool.{cases_lt}
+use Rattle.std.proofs.Common.{◌≡◌, ◌∙◌, refl, sym, ap, subst, inl, inr, ℕ, zero, suc, ◌+◌, ◌-◌, ◌<◌, ◌≤◌, Bool, true, false, not, ◌&&◌, ◌||◌, nat_eq, nat_lt, Some, None, List, [], ◌∷◌, ◌++◌, length, take, arith, if◌then◌else◌, slice_index_or, eqb-true, ltb-true}
+use Rattle.std.proofs.lemmas.Bool.{cases_lt, and_right, and_left}
 use Rattle.std.proofs.lemmas.Bool.Decides.{nat_tests}
 use Rattle.std.proofs.lemmas.List.{length_push, get_or_push, get_or_append_left, get_or-take, length-take-le}
 use Rattle.lx_caps.specs.declared.Act.TheVariants.{Loan, Shut, ShutAll}
@@ -9,26 +9,13 @@ use Rattle.lx_caps.specs.History.{History}
 use Rattle.lx_act_index.specs.declared.threads.Loan as loan
 use Rattle.lx_act_index.specs.declared.threads.Thread.{Thread}
 use Rattle.lx_act_index.specs.Threads.{idle, thread_at, is_opened, is_open_in, is_open, newest_of, opened, shut, HasTurned, IsThread, AreThreads}
-
-same_from : (m n : ℕ) → nat_eq m n ≡ true → m ≡ n
-same_from m n is = grind (arith, nat_tests, is)
+use Rattle.lx_caps.proofs.Tests.{first_true}
 
 and_alike : (a b c d : Bool) → a ≡ c → (c ≡ true → b ≡ d) → (a && b) ≡ (c && d)
 and_alike true b true d is same = same refl
 and_alike true b false d is same = absurd cc
 and_alike false b true d is same = absurd cc
 and_alike false b false d is same = refl
-
-and_false : (a b : Bool) → b ≡ false → (a && b) ≡ false
-and_false true b is = is
-and_false false b is = refl
-
-first_false : (a b : Bool) → a ≡ false → (a && b) ≡ false
-first_false true b is = absurd cc
-first_false false b is = refl
-
-lt_yes : (m n : ℕ) → nat_lt m n ≡ true → m < n
-lt_yes m n is = grind (arith, nat_tests, is)
 
 -- a loan more
 module _ (loans : List ℕ) (n older o : ℕ) (before : o < n) where
@@ -44,16 +31,16 @@ module _ (loans : List ℕ) (n older o : ℕ) (before : o < n) where
         (let l = length_push loans n in grind (arith, nat_tests, l, lt)) (λ is. earlier_same lt)
     | inr ge ↦
         (elim (cases_lt (length loans) older) [
-          | inl gt ↦ first_false (nat_lt (older + 0) (length (loans ++ n ∷ []))) (is_opened (loans ++ n ∷ []) older o) (let l = length_push loans n in grind (arith, nat_tests, l, gt))
-          | inr le ↦ and_false (nat_lt (older + 0) (length (loans ++ n ∷ []))) (is_opened (loans ++ n ∷ []) older o) (last_other (omega (arith, ge, le)))
+          | inl gt ↦ and_left (nat_lt (older + 0) (length (loans ++ n ∷ []))) (is_opened (loans ++ n ∷ []) older o) (let l = length_push loans n in grind (arith, nat_tests, l, gt))
+          | inr le ↦ and_right (nat_lt (older + 0) (length (loans ++ n ∷ []))) (is_opened (loans ++ n ∷ []) older o) (last_other (omega (arith, ge, le)))
         ])
-        ∙ sym (first_false (nat_lt (older + 0) (length loans)) (is_opened loans older o) (grind (arith, nat_tests, ge)))
+        ∙ sym (and_left (nat_lt (older + 0) (length loans)) (is_opened loans older o) (grind (arith, nat_tests, ge)))
   ]
 
   more_by : (k : ℕ) → (nat_lt (older + suc k) (length (loans ++ n ∷ [])) && is_opened (loans ++ n ∷ []) older o) ≡ (nat_lt (older + k) (length loans) && is_opened loans older o)
   more_by k = and_alike (nat_lt (older + suc k) (length (loans ++ n ∷ []))) (is_opened (loans ++ n ∷ []) older o) (nat_lt (older + k) (length loans)) (is_opened loans older o)
       (let l = length_push loans n in grind (arith, nat_tests, l))
-      (λ is. earlier_same (let lt = lt_yes (older + k) (length loans) is in omega (arith, lt)))
+      (λ is. earlier_same (let lt = ltb-true (older + k) (length loans) is in omega (arith, lt)))
 
 -- the endings before a loan of the thread
 opened_other : (e : Ends) (t u : ℕ) (ends : Endings) → nat_eq t u ≡ false → opened_by e t ends u ≡ ends u
@@ -76,7 +63,7 @@ loan_opens t n old new turned ends l before =
       | true ↦ λ is.
           ap (λ r. is_open_in (ends u) r l) (turned u ∙ ap (λ (b : Bool). if b then opened n (thread_at old u) else thread_at old u) is)
           ∙ (opened_in (ends u) t u ends (thread_at old u) n l is refl before
-          ∙ ap (λ m. is_open_in (opened_by (ends m) t ends u) (thread_at old u) l) (sym (same_from t u is)))
+          ∙ ap (λ m. is_open_in (opened_by (ends m) t ends u) (thread_at old u) l) (sym (eqb-true t u is)))
       | false ↦ λ is.
           ap (λ r. is_open_in (ends u) r l) (turned u ∙ ap (λ (b : Bool). if b then opened n (thread_at old u) else thread_at old u) is)
           ∙ ap (λ e. is_open_in e (thread_at old u) l) (sym (opened_other (ends t) t u ends is))
@@ -89,7 +76,7 @@ shut_in (Newest k) thread n l =
     and_alike (nat_lt (l.older + k) (length (take (length thread.loans - n) thread.loans))) (is_opened (take (length thread.loans - n) thread.loans) l.older l.opened)
     (nat_lt (l.older + (n + k)) (length thread.loans)) (is_opened thread.loans l.older l.opened)
     (grind (arith, nat_tests, len))
-    (λ is. ap (λ m. nat_eq m l.opened) (get_or-take (length thread.loans - n) thread.loans l.older 0 (let lt = lt_yes (l.older + (n + k)) (length thread.loans) is in omega (arith, lt))))
+    (λ is. ap (λ m. nat_eq m l.opened) (get_or-take (length thread.loans - n) thread.loans l.older 0 (let lt = ltb-true (l.older + (n + k)) (length thread.loans) is in omega (arith, lt))))
 shut_in Every thread n l = refl
 
 pub shut_opens : (t n : ℕ) (old new : List Thread) → HasTurned t (shut n) old new → (ends : Endings) (l : loan.Loan) → is_open ends new l ≡ is_open (before_shut t n ends) old l
@@ -98,12 +85,12 @@ shut_opens t n old new turned ends l =
     (elim (nat_eq t u) as (λ b. nat_eq t u ≡ b → is_open_in (ends u) (thread_at new u) l ≡ is_open_in (if b then and_more n (ends t) else ends u) (thread_at old u) l) [
       | true ↦ λ is.
           ap (λ r. is_open_in (ends u) r l) (turned u ∙ ap (λ (b : Bool). if b then shut n (thread_at old u) else thread_at old u) is)
-          ∙ (shut_in (ends u) (thread_at old u) n l ∙ ap (λ m. is_open_in (and_more n (ends m)) (thread_at old u) l) (sym (same_from t u is)))
+          ∙ (shut_in (ends u) (thread_at old u) n l ∙ ap (λ m. is_open_in (and_more n (ends m)) (thread_at old u) l) (sym (eqb-true t u is)))
       | false ↦ λ is. ap (λ r. is_open_in (ends u) r l) (turned u ∙ ap (λ (b : Bool). if b then shut n (thread_at old u) else thread_at old u) is)
     ]) refl
 
 idle_in : (e : Ends) (l : loan.Loan) → is_open_in e idle l ≡ false
-idle_in (Newest k) l = first_false (nat_lt (l.older + k) 0) (is_opened [] l.older l.opened) (grind (arith, nat_tests))
+idle_in (Newest k) l = and_left (nat_lt (l.older + k) 0) (is_opened [] l.older l.opened) (grind (arith, nat_tests))
 idle_in Every l = refl
 
 pub shut_all_opens : (t : ℕ) (old new : List Thread) → HasTurned t (λ r. idle) old new → (ends : Endings) (l : loan.Loan) → is_open ends new l ≡ is_open (before_shut_all t ends) old l
@@ -136,7 +123,7 @@ newest_in (Newest zero) t thread some =
     let own : is_opened thread.loans (length thread.loans - 1) (slice_index_or thread.loans (length thread.loans - 1) 0) ≡ true = grind (arith, nat_tests) in
     ap (λ (b : Bool). b && is_opened thread.loans (length thread.loans - 1) (slice_index_or thread.loans (length thread.loans - 1) 0)) lt ∙ own
 newest_in (Newest (suc k)) t thread some =
-    first_false (nat_lt (length thread.loans - 1 + suc k) (length thread.loans)) (is_opened thread.loans (length thread.loans - 1) (slice_index_or thread.loans (length thread.loans - 1) 0))
+    and_left (nat_lt (length thread.loans - 1 + suc k) (length thread.loans)) (is_opened thread.loans (length thread.loans - 1) (slice_index_or thread.loans (length thread.loans - 1) 0))
     (grind (arith, nat_tests, some))
 newest_in Every t thread some = refl
 
@@ -161,7 +148,7 @@ newest_by_test : (h : History) (threads : List Thread) (t : ℕ) (l : loan.Loan)
 newest_by_test h threads t l true true is lent some found =
     let thread = thread_at threads t in
     let own : record { thread = t; older = length thread.loans - 1; opened = slice_index_or thread.loans (length thread.loans - 1) 0 } ≡ l = cc in
-    let many = lt_yes 0 (length thread.loans) some in
+    let many = ltb-true 0 (length thread.loans) some in
     subst (IsLender h threads t) own (record {
       stands = λ ends. newest_in (ends t) t thread many ∙ ap (λ (b : Bool). b && goes_on (ends t)) (sym lent ∙ is.lending);
       before = is.before (length thread.loans - 1) (omega (arith, many));
@@ -208,10 +195,6 @@ loan_threads h t old new turned are u = turned_by (Loan t ∷ h) t u (opened (le
       }
     ]) refl)
 
-and_first : (a b : Bool) → (a && b) ≡ true → a ≡ true
-and_first true b is = refl
-and_first false b is = absurd cc
-
 shut_lends : (a b c : Bool) → b ≡ not c → (a && b) ≡ (not c && a)
 shut_lends true b c is = is ∙ (sym (yes_and (not c)))
   where
@@ -246,8 +229,8 @@ shut_threads h t n old new turned are u = turned_by (Shut t n ∷ h) t u (shut n
             has_loan = λ lent.
                 let both = now ∙ lent in
                 let none : nat_eq n 0 ≡ true = and_second thread.lends (nat_eq n 0) both in
-                let many = (are u).has_loan (sym (are u).lending ∙ and_first thread.lends (nat_eq n 0) both) in
-                let zero_n = same_from n 0 none in
+                let many = (are u).has_loan (sym (are u).lending ∙ first_true thread.lends (nat_eq n 0) both) in
+                let zero_n = eqb-true n 0 none in
                 omega (arith, len, many, zero_n);
             before = λ k lt.
                 let less : k < length thread.loans - n = omega (arith, len, lt) in

@@ -11,6 +11,7 @@ use Rattle.lx_memory.specs.Ranges.{place_of, range_fault, IsFault}
 use Rattle.lx_memory.specs.Shows.{Shows}
 use Rattle.lx_memory.specs.declared.range.Unmapped.{Unmapped}
 use Rattle.lx_actions.specs.Shown.{memory_of, IsShownBy}
+use Rattle.lx_caps.proofs.Tests.{from_zero}
 
 -- a byte of a range that lies in memory lies in memory
 byte_mapped : (at size b : ℕ) → mapped at size ≡ true → at ≤ b → b < at + size → mapped b 1 ≡ true
@@ -70,9 +71,6 @@ bounds : (start a : ℕ) → lies_in start a 1 ≡ true → (start ≤ a) × (a 
 bounds start a is =
     let parts = and_parts (nat_le start a) (nat_le (a + 1) (start + region_size)) is in
     (leb-true _ _ parts.0, omega (arith, leb-true _ _ parts.1))
-
-from_zero : (k : ℕ) → k ≡ 0 + k
-from_zero k = omega arith
 
 in_globals : (space : List ℕ) (a : ℕ) → globals_start ≤ a → a < globals_start + region_size → get_or space (place_of a) 0 ≡ byte_at (memory_of space) a
 in_globals space a low high =

@@ -1,10 +1,10 @@
 //! Why an action is not done.
-use lx_caps::Memory as WantOfMemory;
 use lx_model::request::Refusal;
+use lx_words::Memory;
 use thiserror::Error;
 
 /// Why an action is not done.
-#[derive(Clone, Copy, Debug, PartialEq, Eq, Error)]
+#[derive(Clone, Copy, Debug, Error)]
 pub enum ActFault {
     /// An item is refused.
     #[error("the action is refused: {0:?}")]
@@ -17,13 +17,13 @@ pub enum ActFault {
     Memory,
 }
 
-impl From<WantOfMemory> for ActFault {
+impl From<Memory> for ActFault {
     ghost use Rattle.std.specs.Prelude.{◌≡◌};
     ghost use Rattle.lx_actions.specs.declared.fault.ActFault.TheVariants.{Memory};
 
     ghost from_gives = { λ _ e. e ≡ Memory };
 
-    fn from(_: WantOfMemory) -> Self {
+    fn from(_: Memory) -> Self {
         ActFault::Memory
     }
 }

@@ -5,8 +5,8 @@
 //! all from everyone before it gives the first. So an action is done as a whole or not at all.
 //!
 //! ```text
-//! // The kernel's function returned 8 bytes at 0x2000000, and `post(transfer(write, return, 8))` gives them away.
-//! perform(&interface, &action, &env, Principal::Kernel, Principal::Shared(0), &space, &mut caps)?;
+//! // On thread 0 the kernel's function returned 8 bytes at 0x2000000, and `post(transfer(write, return, 8))` gives them away.
+//! perform(&interface, &action, &env, 0, Principal::Kernel, Principal::Shared(0), &space, &mut caps)?;
 //! caps.holds(Principal::Shared(0), Cap::Write { at: 0x2000000, size: 8 });
 //! ```
 #![tactic(auto)]

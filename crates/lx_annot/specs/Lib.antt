@@ -1,5 +1,4 @@
 pub mod Action
-pub mod ActionCodes
 pub mod ActionFalls
 pub mod ActionNodes
 pub mod Canonical

@@ -4,35 +4,53 @@ use crate::expr::{Expr, Ty};
 use lx_words::{Items, Name, Names};
 
 /// An item of an iterator.
-#[derive(Drop)]
 pub struct Item {
     pub cond: Option<Expr>,
     pub cap: CapSpec,
+}
+
+impl Drop for Item {
+    fn drop(self) {
+        let Item { cond: _, cap: _ } = self;
+    }
 }
 
 /// The items of an iterator.
 pub type ItemList = Items<Item>;
 
 /// An iterator: the capabilities that it names of its parameter, which is parameter 0 of type `ptr`.
-#[derive(Drop)]
 pub struct CapIterator {
     pub name: Name,
     pub items: ItemList,
     pub line: u32,
 }
 
+impl Drop for CapIterator {
+    fn drop(self) {
+        let CapIterator {
+            name: _,
+            items: _,
+            line: _,
+        } = self;
+    }
+}
+
 /// A parameter of a slot or an export.
-#[derive(Drop)]
 pub struct Parameter {
     pub name: Name,
     pub ty: Ty,
+}
+
+impl Drop for Parameter {
+    fn drop(self) {
+        let Parameter { name: _, ty: _ } = self;
+    }
 }
 
 /// The parameters of a slot or an export.
 pub type Parameters = Items<Parameter>;
 
 /// A slot type: the signature and the annotation that a function pointer in such a slot asks for.
-#[derive(Drop)]
 pub struct Slot {
     pub name: Name,
     pub params: Parameters,
@@ -41,8 +59,19 @@ pub struct Slot {
     pub line: u32,
 }
 
+impl Drop for Slot {
+    fn drop(self) {
+        let Slot {
+            name: _,
+            params: _,
+            ret: _,
+            annotation: _,
+            line: _,
+        } = self;
+    }
+}
+
 /// A kernel function that modules may import.
-#[derive(Drop)]
 pub struct Export {
     pub name: Name,
     pub params: Parameters,
@@ -51,8 +80,19 @@ pub struct Export {
     pub line: u32,
 }
 
+impl Drop for Export {
+    fn drop(self) {
+        let Export {
+            name: _,
+            params: _,
+            ret: _,
+            annotation: _,
+            line: _,
+        } = self;
+    }
+}
+
 /// A field of a struct that holds functions of a slot type.
-#[derive(Drop)]
 pub struct Field {
     pub name: Name,
     pub index: u32,
@@ -60,12 +100,34 @@ pub struct Field {
     pub line: u32,
 }
 
+impl Drop for Field {
+    fn drop(self) {
+        let Field {
+            name: _,
+            index: _,
+            slot: _,
+            line: _,
+        } = self;
+    }
+}
+
 /// An interface.
-#[derive(Drop)]
 pub struct Interface {
     pub reftypes: Names,
     pub iterators: Items<CapIterator>,
     pub slots: Items<Slot>,
     pub fields: Items<Field>,
     pub exports: Items<Export>,
+}
+
+impl Drop for Interface {
+    fn drop(self) {
+        let Interface {
+            reftypes: _,
+            iterators: _,
+            slots: _,
+            fields: _,
+            exports: _,
+        } = self;
+    }
 }

@@ -22,7 +22,7 @@ pub trait Look {
 }
 
 /// An evaluated `load64` found nothing at an address.
-#[derive(Clone, Copy, Debug, PartialEq, Eq, Error)]
+#[derive(Clone, Copy, Debug, Error)]
 #[error("eight bytes at 0x{at:x} are not mapped")]
 pub struct NoLook {
     /// The address that was looked at.

@@ -1,7 +1,8 @@
 -- Expressions: what is read is in the grammar.
 use Rattle.std.proofs.Common.{◌≡◌, ℕ, zero, suc, ◌≤◌, Bool, true, false, Option, Some, None, List, [], ◌∷◌, ◌++◌, length, Ok, refl, sym, ap, ◌∙◌, subst, append_assoc, arith, bytes_eq, codes}
-use Rattle.std.specs.Prelude.{if◌then◌else◌, ◌&&◌}
+use Rattle.std.specs.Prelude.{if◌then◌else◌}
 use Rattle.std.proofs.lemmas.List.{append-nil}
+use Rattle.lx_words.proofs.Tests.{first_of}
 use Rattle.lx_annot.specs.declared.expr.Mark.{Mark}
 use Rattle.lx_annot.specs.declared.expr.Mark.TheVariants.{Negate, Invert}
 use Rattle.lx_annot.specs.Expr.{Expr, Load64, Unary, Binary}
@@ -114,12 +115,8 @@ flat_found scope (t ∷ ts) us e p o r =
     let same : t ≡ w.1.0 = (let all : t ∷ ts ≡ w.1.0 ∷ us = w.2 ∙ ap (λ x. x ++ us) w.1.2 in cc) in
     (w.0, (Flat, (w.1.0, w.1.1, subst (λ u. is_sign u ≡ false) same sign, w.1.2)), w.2)
 
-first_true : (a b : Bool) → a && b ≡ true → a ≡ true
-first_true true b h = refl
-first_true false b h = cc
-
 load_word : (ts : List Tok) → begins_load ts ≡ true → has (codes "load64") ts ≡ true
-load_word ts h = first_true (has (codes "load64") ts) (may_open (behind ts)) h
+load_word ts h = first_of (has (codes "load64") ts) (may_open (behind ts)) h
 
 abbrev primary_by : Scope → (List Tok → Read Expr) → Bool → Bool → List Tok → Read Expr
 primary_by scope expr a b ts = if a then load_at expr ts else if b then bracketed_at expr ts else flat_at scope ts

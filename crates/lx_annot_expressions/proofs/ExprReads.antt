@@ -1,9 +1,11 @@
 -- Expressions: what is in the grammar is read.
 use Rattle.std.proofs.Common.{◌≡◌, ℕ, zero, suc, ◌+◌, ◌≤◌, ◌<◌, Bool, true, false, Option, Some, None, List, [], ◌∷◌, ◌++◌, length, Ok, refl, sym, ap, ◌∙◌, subst, append_assoc, arith, bytes_eq, codes}
-use Rattle.std.specs.Prelude.{if◌then◌else◌, ◌&&◌, ◌||◌, ◌==◌, nat_lt}
+use Rattle.std.specs.Prelude.{if◌then◌else◌, ◌||◌, ◌==◌, nat_lt}
 use Rattle.std.proofs.lemmas.Bool.Decides.{nat_tests}
 use Rattle.std.proofs.lemmas.List.{length-append}
 use Rattle.std.proofs.lemmas.Slice.Eq.{bytes_eq-Decides}
+use Rattle.std.proofs.lemmas.Bool.{or_parts}
+use Rattle.lx_words.proofs.Tests.{and_false, true_less}
 use Rattle.lx_annot.specs.declared.expr.Mark.{Mark}
 use Rattle.lx_annot.specs.Expr.{Expr, Load64, Unary, Binary}
 use Rattle.lx_annot_expressions.specs.Tokens.{Tok}
@@ -120,14 +122,6 @@ free_read f free base = record {
 
 -- One operand.
 
-or_false : (a b : Bool) → a || b ≡ false → (a ≡ false) × (b ≡ false)
-or_false true b h = cc
-or_false false b h = (refl, h)
-
-and_false : (b : Bool) → b && false ≡ false
-and_false true = refl
-and_false false = refl
-
 level_zero : (operand : List Tok → Read Expr) (ts : List Tok) → level_at operand 0 ts ≡ operand ts
 unfolding level_at
 level_zero operand ts = refl
@@ -173,8 +167,8 @@ no_prefix text t us h a b =
 flat_read : ReadsAt Flat 0
 flat_read scope zero e ts us (t, o, s, w) le h = let n : length ts ≡ 1 = ap length w in absurd (omega (arith, n, le))
 flat_read scope (suc fuel) e ts us (t, o, s, w) le h =
-    let a = or_false (bytes_eq t.bytes (codes "-") || bytes_eq t.bytes (codes "!")) (bytes_eq t.bytes (codes "(")) s in
-    let b = or_false (bytes_eq t.bytes (codes "-")) (bytes_eq t.bytes (codes "!")) a.0 in
+    let a = or_parts (bytes_eq t.bytes (codes "-") || bytes_eq t.bytes (codes "!")) (bytes_eq t.bytes (codes "(")) s in
+    let b = or_parts (bytes_eq t.bytes (codes "-")) (bytes_eq t.bytes (codes "!")) a.0 in
     let whole : ts ++ us ≡ t ∷ us = ap (λ x. x ++ us) w in
     subst (λ r. level_at (operand_at scope (suc fuel)) 0 r ≡ Ok (e, us)) (sym whole)
     (level_zero (operand_at scope (suc fuel)) (t ∷ us) ∙ plain_operand scope fuel (t ∷ us) (no_prefix_of t us b.0 b.1) ∙ primary_flat scope (level_at (operand_at scope fuel) levels) (t ∷ us) (no_load t us h.shut) a.1 ∙ flat_picked scope t us e o)
@@ -229,9 +223,6 @@ joined_step k f g rf rg scope fuel m a b ts us (front, back, pf, (op, gb, (t, o,
 same_level : (k l : ℕ) → k < suc l → nat_lt k l ≡ false → k ≡ l
 same_level k l h e = grind (arith, nat_tests, h, e)
 
-lower_level : (k l : ℕ) → nat_lt k l ≡ true → k < l
-lower_level k l e = grind (arith, nat_tests, e)
-
 joined_here : (k l : ℕ) (f g : Form) → IsRead f → IsRead g → k ≡ l → (scope : Scope) (fuel : ℕ) (e : Expr) (ts us : List Tok) (m : Mark) (a b : Expr) → e ≡ Binary m a b → (IsForm scope f (suc k) a then IsOperator k m then IsForm scope g k b) ts → length ts ≤ fuel → Ends l us → Chaining (level_at (operand_at scope fuel) l) l e us (level_at (operand_at scope fuel) (suc l) (ts ++ us))
 joined_here k l f g rf rg same scope fuel e ts us m a b s p le h =
     subst (λ x. Chaining (level_at (operand_at scope fuel) l) l x us (level_at (operand_at scope fuel) (suc l) (ts ++ us))) (sym s)
@@ -239,11 +230,11 @@ joined_here k l f g rf rg same scope fuel e ts us m a b s p le h =
     (joined_step k f g rf rg scope fuel m a b ts us p le (subst (λ j. Ends j us) (sym same) h)))
 
 joined_chains_by : (k : ℕ) (f g : Form) → IsRead f → IsRead g → (l : ℕ) (d : Bool) → nat_lt k l ≡ d → (scope : Scope) (fuel : ℕ) (e : Expr) (ts us : List Tok) → k < suc l → (m : Mark) (a b : Expr) → e ≡ Binary m a b → (IsForm scope f (suc k) a then IsOperator k m then IsForm scope g k b) ts → length ts ≤ fuel → Ends l us → Chaining (level_at (operand_at scope fuel) l) l e us (level_at (operand_at scope fuel) (suc l) (ts ++ us))
-joined_chains_by k f g rf rg zero true d scope fuel e ts us lt m a b s p le h = let n = lower_level k 0 d in absurd (omega (arith, n))
+joined_chains_by k f g rf rg zero true d scope fuel e ts us lt m a b s p le h = let n = true_less k 0 d in absurd (omega (arith, n))
 joined_chains_by k f g rf rg zero false d scope fuel e ts us lt m a b s p le h = joined_here k 0 f g rf rg (same_level k 0 lt d) scope fuel e ts us m a b s p le h
 joined_chains_by k f g rf rg (suc l) false d scope fuel e ts us lt m a b s p le h = joined_here k (suc l) f g rf rg (same_level k (suc l) lt d) scope fuel e ts us m a b s p le h
 joined_chains_by k f g rf rg (suc l) true d scope fuel e ts us lt m a b s p le h =
-    starts (operand_at scope fuel) (suc l) e (ts ++ us) us (ends_at (operand_at scope fuel) l e (ts ++ us) us (joined_chains_by k f g rf rg l (nat_lt k l) refl scope fuel e ts us (lower_level k (suc l) d) m a b s p le (fewer l us h)) h)
+    starts (operand_at scope fuel) (suc l) e (ts ++ us) us (ends_at (operand_at scope fuel) l e (ts ++ us) us (joined_chains_by k f g rf rg l (nat_lt k l) refl scope fuel e ts us (true_less k (suc l) d) m a b s p le (fewer l us h)) h)
 
 joined_chains : (k : ℕ) (f g : Form) → IsRead f → IsRead g → (l : ℕ) → ChainsAt (Joined k f g) l
 joined_chains k f g rf rg l scope fuel e ts us (lt, m, a, b, s, p) le h = joined_chains_by k f g rf rg l (nat_lt k l) refl scope fuel e ts us lt m a b s p le h

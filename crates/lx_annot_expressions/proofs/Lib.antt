@@ -3,4 +3,3 @@ pub mod ExprFinds
 pub mod ExprReads
 pub mod Numbered
 pub mod Parts
-pub mod Tables

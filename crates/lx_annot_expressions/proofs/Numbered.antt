@@ -1,10 +1,9 @@
 -- Names and their numbers.
-use Rattle.std.proofs.Common.{◌≡◌, ◌∙◌, ℕ, suc, ◌+◌, ◌≤◌, Bool, false, not, cond, nat_lt, Option, Some, None, List, [], ◌∷◌, ◌++◌, map, length, position, bytes_eq, if◌then◌else◌, refl, sym, ap, arith}
-use Rattle.std.specs.List.{position_or_len, prefix_len, list_any}
+use Rattle.std.proofs.Common.{◌≡◌, ◌∙◌, ℕ, suc, ◌+◌, ◌≤◌, Bool, not, cond, nat_lt, Option, Some, None, List, [], ◌∷◌, ◌++◌, map, length, position, bytes_eq, if◌then◌else◌, refl, sym, ap, arith}
+use Rattle.std.specs.List.{position_or_len, prefix_len}
 use Rattle.std.proofs.lemmas.Bool.Decides.{nat_tests}
-use Rattle.std.proofs.lemmas.List.Folds.{list_any_none}
-use Rattle.std.proofs.lemmas.List.Sums.{fails_before_first}
 use Rattle.std.proofs.lemmas.List.{map-append}
+use Rattle.lx_words.proofs.Lists.{absent}
 use Rattle.indexmap.specs.IndexSet.{insert_key}
 use Rattle.lx_annot_expressions.specs.Names.{number_among}
 
@@ -27,11 +26,6 @@ position_mapped p f xs =
 
 pub past : (i n : ℕ) → within i n ≡ None → n ≤ i
 past i n h = grind (arith, nat_tests)
-
--- what passes at no place is in no list
-pub absent : {A : Type 0} (p : A → Bool) (xs : List A) → position p xs ≡ None → list_any p xs ≡ false
-absent p xs none =
-    list_any_none p xs (λ k d lt. fails_before_first p xs k d (omega (arith, past (position_or_len p xs) (length xs) none)))
 
 abbrev inserted_if : {V : Type 0} → (V → List ℕ) → List V → V → Bool → List (List ℕ)
 inserted_if bytes keys key found = map bytes (if found then keys else keys ++ key ∷ [])

@@ -8,7 +8,7 @@ use std::alloc::{AllocError, AllocFailed};
 use thiserror::Error;
 
 /// The kinds of faults that are met at a token.
-#[derive(Clone, Copy, Debug, PartialEq, Eq)]
+#[derive(Clone, Copy, Debug)]
 pub enum FaultKind {
     /// A token that cannot stand there.
     Statement,
@@ -21,7 +21,7 @@ pub enum FaultKind {
 }
 
 /// A fault, and how many tokens are left with the one that it is at; none are left where it is at the end.
-#[derive(Clone, Copy, Debug, PartialEq, Eq)]
+#[derive(Clone, Copy, Debug)]
 pub struct Fault {
     pub kind: FaultKind,
     pub left: usize,

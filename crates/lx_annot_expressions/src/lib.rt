@@ -1,4 +1,10 @@
 //! Tokens and names of interface texts, and the expressions of annotations: which tokens they are, and how they are read.
+//!
+//! ```text
+//! // At `dev + 8`, where `dev` is the first parameter: the sum of that parameter and 8.
+//! let mut reader = Reader::new(text, tokens);
+//! let sum = reader.expr(alloc, &Scope::new(params, None))?;
+//! ```
 #![tactic(auto)]
 
 ghost use Rattle.lx_annot_expressions.specs.Laws.{ExprsAreFound, ExprsAreRead};

@@ -21,8 +21,8 @@ use Rattle.lx_annot_terms.specs.Signatures.{Signature}
 use Rattle.lx_annot_terms.specs.Clauses.{scope_before, scope_behind, who_at, principal_at, enclosed_action_at, with_principal, with_pre, with_post, empty_annotation, principal_clause_at, pre_clause_at, post_clause_at, begins_clause, clause_at, without_lends, with_loans_ended, written_at, clauses_at}
 use Rattle.lx_annot_terms.specs.Grammar.{IsAction}
 use Rattle.lx_annot_terms.proofs.ListReads.{bracket_closes, other_text}
-use Rattle.lx_annot_terms.proofs.ActionReads.{action_read}
-use Rattle.lx_annot_terms.proofs.ActionFinds.{action_found}
+use Rattle.lx_annot_terms.proofs.ActionParts.{action_read}
+use Rattle.lx_annot_terms.proofs.ActionParts.{action_found}
 use Rattle.lx_annot_terms.proofs.Steps.{step_once, steps_end}
 use Rattle.lx_annot_grammar.proofs.Mapping.{mapped_is}
 use Rattle.lx_annot_grammar.specs.Parts.{Clause, Principal, Pre, Post, IsWho, Enclosed, IsClause, IsClauses, principals, pres, posts, listed, Goes, Say, IsAnnotation}

@@ -19,7 +19,8 @@ use Rattle.lx_annot_grammar.specs.Statements.{IsCallable}
 use Rattle.lx_annot_grammar.specs.Renaming.{is_language, IsRenaming, renamed}
 use Rattle.lx_annot_grammar.specs.Anew.{anew_param, anew_signature}
 use Rattle.lx_annot_grammar.proofs.Words.{anew_scope, has_same, reserved_same, type_same, fresh_anew, params_named}
-use Rattle.lx_annot_grammar.proofs.Terms.{anew_known, cut, word, expr, action, item}
+use Rattle.lx_annot_grammar.proofs.Terms.{anew_known, cut, word, expr, item}
+use Rattle.lx_annot_grammar.proofs.Actions.{action_anew}
 
 module _ {lends : Bool} (r : List ℕ → List ℕ) (is : IsRenaming lends r) where
   abbrev S : List Tok → List Tok
@@ -77,9 +78,9 @@ module _ {lends : Bool} (r : List ℕ → List ℕ) (is : IsRenaming lends r) wh
   clause sig known within (Principal w) ts (a, b, m, (c, d, o, (e, f, x, p, k), u), v) =
       (S a, S b, word r is (codes "principal") refl a m, (S c, S d, word r is (codes "(") refl c o, (S e, S f, is_who (scope_before sig) w e x, word r is (codes ")") refl f p, slit d e f k), slit b c d u), slit ts a b v)
   clause sig known within (Pre y) ts (a, b, m, (c, d, o, (e, f, x, p, k), u), v) =
-      (S a, S b, word r is (codes "pre") refl a m, (S c, S d, word r is (codes "(") refl c o, (S e, S f, action r is (scope_before sig) known within y e x, word r is (codes ")") refl f p, slit d e f k), slit b c d u), slit ts a b v)
+      (S a, S b, word r is (codes "pre") refl a m, (S c, S d, word r is (codes "(") refl c o, (S e, S f, action_anew r is (scope_before sig) known within y e x, word r is (codes ")") refl f p, slit d e f k), slit b c d u), slit ts a b v)
   clause sig known within (Post y) ts (a, b, m, (c, d, o, (e, f, x, p, k), u), v) =
-      (S a, S b, word r is (codes "post") refl a m, (S c, S d, word r is (codes "(") refl c o, (S e, S f, action r is (scope_behind sig) (without_lends known) no_lends y e x, word r is (codes ")") refl f p, slit d e f k), slit b c d u), slit ts a b v)
+      (S a, S b, word r is (codes "post") refl a m, (S c, S d, word r is (codes "(") refl c o, (S e, S f, action_anew r is (scope_behind sig) (without_lends known) no_lends y e x, word r is (codes ")") refl f p, slit d e f k), slit b c d u), slit ts a b v)
 
   clauses : (sig : Signature) (known : Known) → (known.lends ≡ true → lends ≡ true) → (cs : List Clause) (ts : List Tok) → IsClauses sig known cs ts → IsClauses (anew_signature r sig) (anew_known r known) cs (S ts)
   clauses sig known within [] ts e = ap S e

@@ -19,7 +19,7 @@ use Rattle.lx_annot_read.specs.Interfaces.{known_in, empty}
 use Rattle.lx_annot_grammar.specs.Parts.{Clause, Principal, Pre, Post, IsClauses, pres}
 use Rattle.lx_annot_grammar.specs.Statements.{Statement, OfReftype, OfIterator, OfSlot, OfField, OfExport, IsCallable, IsStatement, with_statement, AreStatements, IsInterface}
 use Rattle.lx_annot_grammar.specs.LawfulLaws.{LendsNothing}
-use Rattle.lx_annot_grammar.proofs.Named.{no_lend}
+use Rattle.lx_annot_grammar.proofs.Actions.{no_lend}
 
 passed : (a : Action) (xs : List Action) → is_lend a ≡ false → filter is_lend xs ≡ [] → filter is_lend (a ∷ xs) ≡ []
 passed a xs h e = rw (h, e) refl

@@ -1,34 +1,14 @@
 -- What names what is there does so still where more is declared.
 use Rattle.std.proofs.Common.{ℕ, ◌≤◌, List, arith}
 use Rattle.std.proofs.lemmas.List.Elements.{All-weaker}
-use Rattle.lx_annot.specs.declared.action.CapSpec.{CapSpec}
-use Rattle.lx_annot.specs.declared.action.CapSpec.TheVariants as spec
 use Rattle.lx_annot.specs.declared.action.Annotation.{Annotation}
 use Rattle.lx_annot.specs.declared.expr.Ty.{Ty}
 use Rattle.lx_annot.specs.declared.interface.Parameter.{Parameter}
 use Rattle.lx_annot.specs.declared.interface.Item.{Item}
 use Rattle.lx_annot.specs.declared.interface.CapIterator.{CapIterator}
-use Rattle.lx_annot.specs.Action.{Action, Copy, Transfer, Check, Lend, End, If}
-use Rattle.lx_annot.specs.Lawful.{Nameable, Declared, IsLawfulList, IsLawfulAction, IsLawfulBehind, ArePosts, IsLawfulItem, IsLawfulIterator, IsLawfulCallable, named_by_items, named_before, named_behind}
-
--- at least as many of each are declared
-pub record Within (a b : Declared) : Type 0 where
-  pub reftypes : a.reftypes ≤ b.reftypes
-  pub iterators : a.iterators ≤ b.iterators
-
-pub list_grows : (a b : Declared) (may : Nameable) (list : CapSpec) → Within a b → IsLawfulList a may list → IsLawfulList b may list
-list_grows a b may (spec.Write x n) w is = is
-list_grows a b may (spec.Call e) w is = is
-list_grows a b may (spec.Ref t e) w (lt, is) = (omega (arith, lt, w.reftypes), is)
-list_grows a b may (spec.Each k e) w (lt, is) = (omega (arith, lt, w.iterators), is)
-
-action_grows : (a b : Declared) (may : Nameable) (x : Action) → Within a b → IsLawfulAction a may x → IsLawfulAction b may x
-action_grows a b may (Copy list) w is = list_grows a b may list w is
-action_grows a b may (Transfer list) w is = list_grows a b may list w is
-action_grows a b may (Check list) w is = list_grows a b may list w is
-action_grows a b may (Lend list) w is = list_grows a b may list w is
-action_grows a b may (End k) w is = absurd is
-action_grows a b may (If e x) w (named, is) = (named, action_grows a b may x w is)
+use Rattle.lx_annot.specs.Action.{Action}
+use Rattle.lx_annot.specs.Lawful.{Nameable, Declared, IsLawfulAction, IsLawfulBehind, ArePosts, IsLawfulItem, IsLawfulIterator, IsLawfulCallable, named_by_items, named_before, named_behind}
+use Rattle.lx_annot_grammar.proofs.Actions.{Within, list_grows, action_grows}
 
 behind_grows : (a b : Declared) (may : Nameable) (x : Action) → Within a b → IsLawfulBehind a may x → IsLawfulBehind b may x
 behind_grows a b may x w is = record { is = action_grows a b may x w is.is; lends_nothing = is.lends_nothing }

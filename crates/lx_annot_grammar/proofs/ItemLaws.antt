@@ -15,8 +15,8 @@ use Rattle.lx_annot_terms.specs.Lists.{Known}
 use Rattle.lx_annot_terms.specs.ItemReading.{item_at, item_behind, items_at, most_further_items}
 use Rattle.lx_annot_terms.specs.Grammar.{IsItemList, IsItemBy, IsItem}
 use Rattle.lx_annot_terms.proofs.ListReads.{brackets_read, item_list_read, other_text}
-use Rattle.lx_annot_terms.proofs.ActionFinds.{item_found}
-use Rattle.lx_annot_terms.proofs.ActionReads.{plain_item, guarded_item}
+use Rattle.lx_annot_terms.proofs.ActionParts.{item_found}
+use Rattle.lx_annot_terms.proofs.ActionParts.{plain_item, guarded_item}
 use Rattle.lx_annot_grammar.specs.Parts.{IsItems}
 use Rattle.lx_annot_grammar.proofs.Sequences.{closes_behind, further_read, further_found}
 

@@ -6,12 +6,14 @@ use Rattle.std.specs.List.{IsDistinct, list_any}
 use Rattle.std.proofs.lemmas.List.{length-append, length-map, map-append, append-nil}
 use Rattle.std.proofs.lemmas.List.Elements.{All-nil, All-cons, All-head, All-push, All-weaker}
 use Rattle.std.proofs.lemmas.Map.Keys.{IsDistinct-push}
-use Rattle.std.proofs.lemmas.Bool.Decides.{nat_tests}
 use Rattle.std.proofs.lemmas.Slice.Eq.{bytes_eq-Decides}
+use Rattle.std.proofs.lemmas.Bool.{and_parts}
 use Rattle.lx_words.specs.declared.token.TokenKind.{TokenKind}
 use Rattle.lx_words.specs.declared.token.TokenKind.TheVariants as kinds
 use Rattle.lx_words.specs.declared.token.TokenRule.TheVariants as rules
 use Rattle.lx_words.specs.declared.token.Token.{Token}
+use Rattle.lx_words.proofs.Lists.{absent, bytes_same}
+use Rattle.lx_words.proofs.Tests.{same_tests as true_same, equal, equal_test}
 use Rattle.lx_annot.specs.declared.expr.Ty.{Ty}
 use Rattle.lx_annot.specs.declared.expr.Ty.TheVariants as ty
 use Rattle.lx_annot.specs.declared.action.Who.{Who}
@@ -28,7 +30,6 @@ use Rattle.lx_annot.specs.Action.{with_end}
 use Rattle.lx_annot_expressions.specs.Tokens.{Tok, toks_of}
 use Rattle.lx_annot_expressions.specs.Names.{number_among, fresh_of}
 use Rattle.lx_annot_expressions.specs.Grammar.{◌then◌}
-use Rattle.lx_annot_expressions.proofs.Numbered.{absent}
 use Rattle.lx_annot_terms.specs.Lists.{Known}
 use Rattle.lx_annot_terms.specs.Signatures.{Signature}
 use Rattle.lx_annot_terms.specs.Clauses.{result_of, scope_before, scope_behind, without_lends}
@@ -39,24 +40,12 @@ use Rattle.lx_annot_read.specs.Interfaces.{iterator_names, slot_names, export_na
 use Rattle.lx_annot.specs.Lawful.{Nameable, Declared, IsLawfulAction, IsLawfulBehind, IsLawfulItem, IsLawfulIterator, IsLawfulPrincipal, IsLawfulCallable, IsLawfulSlot, IsLawfulExport, IsNamed, IsLawfulInterface, named_before, named_behind, result_type, types_of, declared_in, same_field}
 use Rattle.lx_annot_grammar.specs.Parts.{IsFurther, IsParam, IsParams, IsSignature, IsItems, IsAnnotation, Clause, Principal, Pre, Post, IsWho, IsClauses, principals, pres, posts, listed}
 use Rattle.lx_annot_grammar.specs.Statements.{Statement, OfReftype, OfIterator, OfSlot, OfField, OfExport, IsFresh, IsCallable, IsStatement, with_statement, AreStatements, IsInterface}
-use Rattle.lx_annot_grammar.proofs.Named.{expr_named, action_named, no_lend, item_named, known_there}
-use Rattle.lx_annot_grammar.proofs.Grown.{Within, callable_grows, iterator_grows}
+use Rattle.lx_annot_grammar.proofs.Named.{expr_named, item_named, known_there}
+use Rattle.lx_annot_grammar.proofs.Grown.{callable_grows, iterator_grows}
+use Rattle.lx_annot_grammar.proofs.Actions.{Within, action_named, no_lend}
 use Rattle.lx_annot_grammar.proofs.Counts.{scanned_few, counted, slow_reftypes, slow_iterators, slow_slots, slow_fields, slow_exports}
 
 -- Names differ.
-
-true_same : (a b : Bool) → (a ≡ true → b ≡ true) → (b ≡ true → a ≡ true) → a ≡ b
-true_same true true f g = refl
-true_same false false f g = refl
-true_same true false f g = sym (f refl)
-true_same false true f g = g refl
-
-bytes_same : IsEquivalence bytes_eq
-bytes_same = record {
-  refl = λ x. (bytes_eq-Decides x x).1 refl;
-  symm = λ x y. true_same (bytes_eq x y) (bytes_eq y x) (λ h. (bytes_eq-Decides y x).1 (sym ((bytes_eq-Decides x y).0 h))) (λ h. (bytes_eq-Decides x y).1 (sym ((bytes_eq-Decides y x).0 h)));
-  congr = λ x y z h. ap (λ w. bytes_eq w z) ((bytes_eq-Decides x y).0 h);
-}
 
 not_known : (o : Option ℕ) (bytes name : List ℕ) → (if is_some o then None else Some bytes) ≡ Some name → (o ≡ None) × (bytes ≡ name)
 not_known None bytes name h = let same : bytes ≡ name = cc in (refl, same)
@@ -197,17 +186,6 @@ module _ (sig : Signature) (known : Known) where
   callable_lawful a ts (f, b, is, says, w) = annotation_lawful a b (signature_differs sig f is) says
 
 -- Fields.
-
-and_parts : (a b : Bool) → a && b ≡ true → (a ≡ true) × (b ≡ true)
-and_parts true true h = (refl, refl)
-and_parts true false h = cc
-and_parts false b h = cc
-
-equal : (m n : ℕ) → m == n ≡ true → m ≡ n
-equal m n h = grind (arith, nat_tests, h)
-
-equal_test : (m : ℕ) → m == m ≡ true
-equal_test m = grind (arith, nat_tests)
 
 field_means : (a b : Field) → same_field a b ≡ true → (b.index ≡ a.index) × (b.name ≡ a.name)
 field_means a b h =

@@ -12,6 +12,7 @@ pub mod Lawful
 pub mod Named
 pub mod Words
 pub mod Terms
+pub mod Actions
 pub mod Clauses
 pub mod Statements
 pub mod Texts

@@ -1,18 +1,17 @@
 -- What is in the grammar names what is there.
-use Rattle.std.proofs.Common.{◌≡◌, ℕ, suc, ◌<◌, Bool, true, false, cond, nat_lt, Option, Some, None, List, length, refl, sym, ap, ◌∙◌, subst, bytes_eq, codes, arith}
+use Rattle.std.proofs.Common.{◌≡◌, ℕ, suc, ◌<◌, Bool, true, false, cond, nat_lt, Option, Some, None, List, length, refl, sym, ap, ◌∙◌, subst, bytes_eq, codes}
 use Rattle.std.specs.Prelude.{if◌then◌else◌, slice_get, position}
 use Rattle.std.specs.List.{position_or_len}
 use Rattle.std.specs.Option.{option_map}
-use Rattle.std.proofs.lemmas.Bool.Decides.{nat_tests}
 use Rattle.std.proofs.lemmas.Option.{slice_get-map}
 use Rattle.lx_words.specs.declared.token.TokenKind.{TokenKind}
 use Rattle.lx_words.specs.declared.token.TokenKind.TheVariants as kinds
+use Rattle.lx_words.proofs.Options.{within_by}
 use Rattle.lx_annot.specs.declared.expr.Ty.{Ty}
 use Rattle.lx_annot.specs.declared.action.CapSpec.{CapSpec}
 use Rattle.lx_annot.specs.declared.action.CapSpec.TheVariants as spec
 use Rattle.lx_annot.specs.declared.interface.Parameter.{Parameter}
 use Rattle.lx_annot.specs.declared.interface.Item.{Item}
-use Rattle.lx_annot.specs.Action.{Action, Copy, Transfer, Check, Lend, End, If, is_lend}
 use Rattle.lx_annot.specs.Expr.{Expr, Number, Param, Return}
 use Rattle.lx_annot_expressions.specs.Tokens.{Tok}
 use Rattle.lx_annot_expressions.specs.Reading.{number_of}
@@ -21,8 +20,8 @@ use Rattle.lx_annot_expressions.specs.Exprs.{Scope, greatest_number, param_at, p
 use Rattle.lx_annot_expressions.specs.Grammar.{Form, Flat, Bracket, Load, Prefix, Joined, ◌then◌, IsForm, IsExpr, InBrackets}
 use Rattle.lx_annot_expressions.specs.Operators.{levels}
 use Rattle.lx_annot_terms.specs.Lists.{Known}
-use Rattle.lx_annot_terms.specs.Grammar.{IsKnown, IsList, IsItemList, IsAction, IsItemBy, IsItem}
-use Rattle.lx_annot.specs.Lawful.{Nameable, NamesOnly, Declared, IsLawfulList, IsLawfulAction, IsLawfulCondition, types_of}
+use Rattle.lx_annot_terms.specs.Grammar.{IsKnown, IsItemList, IsItemBy, IsItem}
+use Rattle.lx_annot.specs.Lawful.{Nameable, NamesOnly, Declared, IsLawfulList, IsLawfulCondition, types_of}
 
 -- what may be named in a scope
 abbrev pub nameable : Scope → Nameable
@@ -79,14 +78,10 @@ module _ (scope : Scope) where
 
 -- Numbers of names.
 
-within_by : (b : Bool) (i n k : ℕ) → nat_lt i n ≡ b → cond b (Some i) None ≡ Some k → k < n
-within_by true i n k t h = let same : i ≡ k = cc in subst (λ x. x < n) same (grind (arith, nat_tests, t))
-within_by false i n k t h = cc
-
 position_within : (p : List ℕ → Bool) (names : List (List ℕ)) (k : ℕ) → position p names ≡ Some k → k < length names
 position_within p names k h = within_by (nat_lt (position_or_len p names) (length names)) (position_or_len p names) (length names) k refl h
 
-known_within : (names : List (List ℕ)) (kind : TokenKind) (bytes : List ℕ) (k : ℕ) → known_of names kind bytes ≡ Some k → k < length names
+pub known_within : (names : List (List ℕ)) (kind : TokenKind) (bytes : List ℕ) (k : ℕ) → known_of names kind bytes ≡ Some k → k < length names
 known_within names kinds.Word bytes k h = position_within (bytes_eq bytes) names k h
 known_within names kinds.Number bytes k h = cc
 known_within names kinds.Local bytes k h = cc
@@ -98,36 +93,9 @@ known_within names kinds.Bytes bytes k h = cc
 pub known_there : (names : List (List ℕ)) (k : ℕ) (ts : List Tok) → IsKnown names k ts → k < length names
 known_there names k ts (t, h, g) = known_within names t.kind t.bytes k h
 
--- Lists, actions and items.
+-- Items.
 
 module _ (scope : Scope) (known : Known) where
-  abbrev pub there : Declared
-  there = record { reftypes = length known.reftypes; iterators = length known.iterators }
-
-  list_named : (list : CapSpec) (ts : List Tok) → IsList scope known list ts → IsLawfulList there (nameable scope) list
-  list_named (spec.Write a n) ts (f, b, w, (f1, b1, c, (f2, b2, pa, (f3, b3, c1, pn, w3), w2), w1), v) = (expr_named scope a f2 pa, expr_named scope n b3 pn)
-  list_named (spec.Call e) ts (f, b, w, (f1, b1, c, is, w1), v) = expr_named scope e b1 is
-  list_named (spec.Ref t e) ts (f, b, w, (f1, b1, o, (f2, b2, k, (f3, b3, p, (f4, b4, c, is, w4), w3), w2), w1), v) =
-      (known_there known.reftypes t f2 k, expr_named scope e b4 is)
-  list_named (spec.Each k e) ts (f, b, (t, h, n, g), is, v) = (known_within known.iterators t.kind t.bytes k h, brackets_named scope e b is)
-
-  pub action_named : (a : Action) (ts : List Tok) → IsAction scope known a ts → IsLawfulAction there (nameable scope) a
-  action_named (Copy list) ts (f, b, w, (f1, b1, o, (f2, b2, is, p, w2), w1), v) = list_named list f2 is
-  action_named (Transfer list) ts (f, b, w, (f1, b1, o, (f2, b2, is, p, w2), w1), v) = list_named list f2 is
-  action_named (Check list) ts (f, b, w, (f1, b1, o, (f2, b2, is, p, w2), w1), v) = list_named list f2 is
-  action_named (Lend list) ts (may, (f, b, w, (f1, b1, o, (f2, b2, is, p, w2), w1), v)) = list_named list f2 is
-  action_named (End k) ts is = absurd is
-  action_named (If e a) ts (f, b, w, (f1, b1, c, is, w1), v) = (brackets_named scope e f1 c, action_named a b1 is)
-
-  -- where no lend may stand, none does
-  pub no_lend : known.lends ≡ false → (a : Action) (ts : List Tok) → IsAction scope known a ts → is_lend a ≡ false
-  no_lend h (Copy list) ts is = refl
-  no_lend h (Transfer list) ts is = refl
-  no_lend h (Check list) ts is = refl
-  no_lend h (Lend list) ts (may, is) = sym may ∙ h
-  no_lend h (End k) ts is = absurd is
-  no_lend h (If e a) ts (f, b, w, (f1, b1, c, is, w1), v) = no_lend h a b1 is
-
   abbrev item_there : Declared
   item_there = record { reftypes = length known.reftypes; iterators = 0 }
 

@@ -1,20 +1,19 @@
--- The same expressions, lists, actions and items of tokens with their words given anew.
-use Rattle.std.proofs.Common.{◌≡◌, ℕ, Bool, suc, true, List, ◌++◌, map, codes, refl, sym, ap, subst, ◌∙◌}
+-- The same expressions and items of tokens with their words given anew.
+use Rattle.std.proofs.Common.{◌≡◌, ℕ, Bool, suc, true, List, ◌++◌, map, codes, refl, ap, ◌∙◌}
 use Rattle.std.specs.Prelude.{Option, Some, None}
 use Rattle.std.proofs.lemmas.List.{map-append}
 use Rattle.lx_annot.specs.declared.action.CapSpec.{CapSpec}
 use Rattle.lx_annot.specs.declared.action.CapSpec.TheVariants as spec
 use Rattle.lx_annot.specs.declared.interface.Item.{Item}
-use Rattle.lx_annot.specs.Action.{Action, Copy, Transfer, Check, Lend, End, If}
 use Rattle.lx_annot.specs.Expr.{Expr}
 use Rattle.lx_annot_expressions.specs.Tokens.{Tok}
 use Rattle.lx_annot_expressions.specs.Exprs.{Scope}
 use Rattle.lx_annot_expressions.specs.Operators.{levels}
 use Rattle.lx_annot_expressions.specs.Grammar.{Is, Form, Flat, Bracket, Load, Prefix, Joined, IsForm, IsExpr, InBrackets}
 use Rattle.lx_annot_terms.specs.Lists.{Known}
-use Rattle.lx_annot_terms.specs.Grammar.{IsKnown, IsList, IsItemList, IsDeed, IsAction, IsItemBy, IsItem}
+use Rattle.lx_annot_terms.specs.Grammar.{IsKnown, IsItemList, IsItemBy, IsItem}
 use Rattle.lx_annot_grammar.specs.Renaming.{is_language, IsRenaming, renamed}
-use Rattle.lx_annot_grammar.proofs.Words.{anew_scope, has_same, sign_same, list_word_same, operator_same, prefix_same, known_same, flat_same}
+use Rattle.lx_annot_grammar.proofs.Words.{anew_scope, has_same, sign_same, operator_same, prefix_same, known_same, flat_same}
 
 abbrev pub anew_known : (List ℕ → List ℕ) → Known → Known
 anew_known r known = record { reftypes = map r known.reftypes; iterators = map r known.iterators; lends = known.lends }
@@ -50,16 +49,6 @@ module _ {lends : Bool} (r : List ℕ → List ℕ) (is : IsRenaming lends r) wh
   pub known_name : (names : List (List ℕ)) (k : ℕ) (ts : List Tok) → IsKnown names k ts → IsKnown (map r names) k (R ts)
   known_name names k ts (t, h, e) = (renamed r t, known_same r is names t.kind t.bytes ∙ h, ap R e)
 
-  list : (scope : Scope) (known : Known) (l : CapSpec) (ts : List Tok) → IsList scope known l ts → IsList (anew_scope r scope) (anew_known r known) l (R ts)
-  list scope known (spec.Write x n) ts (a, b, w, (c, d, o, (e, f, y, (g, h, p, z, k), m), u), v) =
-      (R a, R b, word (codes "write") refl a w, (R c, R d, word (codes ",") refl c o, (R e, R f, expr scope x e y, (R g, R h, word (codes ",") refl g p, expr scope n h z, cut f g h k), cut d e f m), cut b c d u), cut ts a b v)
-  list scope known (spec.Call x) ts (a, b, w, (c, d, o, y, u), v) =
-      (R a, R b, word (codes "call") refl a w, (R c, R d, word (codes ",") refl c o, expr scope x d y, cut b c d u), cut ts a b v)
-  list scope known (spec.Ref t x) ts (a, b, w, (c, d, o, (e, f, n, (g, h, p, (k, m, q, y, z), s), u), v), j) =
-      (R a, R b, word (codes "ref") refl a w, (R c, R d, word (codes "(") refl c o, (R e, R f, known_name known.reftypes t e n, (R g, R h, word (codes ")") refl g p, (R k, R m, word (codes ",") refl k q, expr scope x m y, cut h k m z), cut f g h s), cut d e f u), cut b c d v), cut ts a b j)
-  list scope known (spec.Each k x) ts (a, b, (t, h, n, g), y, v) =
-      (R a, R b, (renamed r t, known_same r is known.iterators t.kind t.bytes ∙ h, list_word_same r is t ∙ n, ap R g), brackets scope x b y, cut ts a b v)
-
   item_list : (scope : Scope) (known : Known) (l : CapSpec) (ts : List Tok) → IsItemList scope known l ts → IsItemList (anew_scope r scope) (anew_known r known) l (R ts)
   item_list scope known (spec.Write x n) ts (a, b, w, (c, d, y, (e, f, o, z, m), u), v) =
       (R a, R b, word (codes "write") refl a w, (R c, R d, expr scope x c y, (R e, R f, word (codes ",") refl e o, expr scope n f z, cut d e f m), cut b c d u), cut ts a b v)
@@ -67,22 +56,6 @@ module _ {lends : Bool} (r : List ℕ → List ℕ) (is : IsRenaming lends r) wh
   item_list scope known (spec.Ref t x) ts (a, b, w, (c, d, n, (e, f, o, y, m), u), v) =
       (R a, R b, word (codes "ref") refl a w, (R c, R d, known_name known.reftypes t c n, (R e, R f, word (codes ",") refl e o, expr scope x f y, cut d e f m), cut b c d u), cut ts a b v)
   item_list scope known (spec.Each k x) ts never = absurd never
-
-  deed : (text : List ℕ) → is_language lends text ≡ true → (scope : Scope) (known : Known) (l : CapSpec) (ts : List Tok) → IsDeed text scope known l ts → IsDeed text (anew_scope r scope) (anew_known r known) l (R ts)
-  deed text k scope known l ts (a, b, w, (c, d, o, (e, f, x, p, m), u), v) =
-      (R a, R b, word text k a w, (R c, R d, word (codes "(") refl c o, (R e, R f, list scope known l e x, word (codes ")") refl f p, cut d e f m), cut b c d u), cut ts a b v)
-
-  lend_kept : lends ≡ true → is_language lends (codes "lend") ≡ true
-  lend_kept may = subst (λ b. is_language b (codes "lend") ≡ true) (sym may) refl
-
-  pub action : (scope : Scope) (known : Known) → (known.lends ≡ true → lends ≡ true) → (x : Action) (ts : List Tok) → IsAction scope known x ts → IsAction (anew_scope r scope) (anew_known r known) x (R ts)
-  action scope known within (Copy l) ts x = deed (codes "copy") refl scope known l ts x
-  action scope known within (Transfer l) ts x = deed (codes "transfer") refl scope known l ts x
-  action scope known within (Check l) ts x = deed (codes "check") refl scope known l ts x
-  action scope known within (Lend l) ts (may, x) = (may, deed (codes "lend") (lend_kept (within may)) scope known l ts x)
-  action scope known within (End k) ts never = absurd never
-  action scope known within (If e y) ts (a, b, w, (c, d, o, x, u), v) =
-      (R a, R b, word (codes "if") refl a w, (R c, R d, brackets scope e c o, action scope known within y d x, cut b c d u), cut ts a b v)
 
   item_by : (scope : Scope) (known : Known) (cond : Option Expr) (l : CapSpec) (ts : List Tok) → IsItemBy scope known cond l ts → IsItemBy (anew_scope r scope) (anew_known r known) cond l (R ts)
   item_by scope known None l ts x = item_list scope known l ts x

@@ -1,5 +1,5 @@
 -- Tokens with their words given anew.
-use Rattle.std.proofs.Common.{◌≡◌, ℕ, Bool, true, false, ◌&&◌, cond, Option, Some, None, List, [], ◌∷◌, map, position, bytes_eq, if◌then◌else◌, codes, refl, sym, ap, ◌∙◌}
+use Rattle.std.proofs.Common.{◌≡◌, ℕ, Bool, true, false, cond, Option, Some, None, List, [], ◌∷◌, map, position, bytes_eq, if◌then◌else◌, codes, refl, sym, ap, ◌∙◌}
 use Rattle.std.specs.Prelude.{◌||◌, is_some, slice_get, option_map}
 use Rattle.std.specs.List.{list_all}
 use Rattle.std.specs.Map.{lookup}
@@ -8,6 +8,7 @@ use Rattle.std.proofs.lemmas.Slice.Eq.{bytes_eq-Decides}
 use Rattle.std.proofs.lemmas.Option.{slice_get-map}
 use Rattle.lx_words.specs.declared.token.TokenKind.{TokenKind}
 use Rattle.lx_words.specs.declared.token.TokenKind.TheVariants as kinds
+use Rattle.lx_words.proofs.Tests.{first_of, second_of}
 use Rattle.lx_annot.specs.declared.expr.Mark.TheVariants as mark
 use Rattle.lx_annot.specs.declared.interface.Parameter.{Parameter}
 use Rattle.lx_annot.specs.Expr.{Param, Return}
@@ -29,14 +30,6 @@ anew_scope r s = record { params = map (anew_param r) s.params; ret = s.ret }
 
 or_same : (a b c x y z : Bool) → a ≡ x → b ≡ y → c ≡ z → (a || b || c) ≡ (x || y || z)
 or_same a b c x y z p q s = ap (λ u. u || b || c) p ∙ ap (λ u. x || u || c) q ∙ ap (λ u. x || y || u) s
-
-first_of : (x y : Bool) → (x && y) ≡ true → x ≡ true
-first_of true y h = refl
-first_of false y h = h
-
-second_of : (x y : Bool) → (x && y) ≡ true → y ≡ true
-second_of true y h = h
-second_of false y h = cc
 
 module _ {lends : Bool} (r : List ℕ → List ℕ) (is : IsRenaming lends r) where
   -- two words are the same where they were

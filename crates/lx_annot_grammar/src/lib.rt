@@ -1,8 +1,14 @@
-//! Laws of interface texts.
+//! Laws of interface texts: reading and the grammar agree, a text is one interface at most, and what is read of it is lawful.
 //!
-//! Reading and the grammar agree: a text that is an interface is read as it, and what is read of a text is an interface that it is; a
-//! text is one at most. What is read is lawful, and what is read of a text of version 1 lends nothing. Canonical texts do not depend on
-//! the names of parameters, slots, exports and fields, nor on the spaces, comments and lines of the interface's text.
+//! ```text
+//! interface_laws();
+//! // `SaysInterface text i` and `IsInterface text i` are the same.
+//! lawful_laws();
+//! // `SaysInterface text i` gives `IsLawfulInterface i`, where the text has fewer than 2 ^ 32 bytes.
+//! ```
+//!
+//! What is read of a text of version 1 lends nothing. Canonical texts do not depend on the names of parameters, slots, exports and fields, nor
+//! on the spaces, comments and lines of the interface's text.
 #![tactic(auto)]
 
 ghost use Rattle.lx_annot_grammar.specs.Laws.{AnnotationsAreFound, AnnotationsAreRead, InterfacesAreFound, InterfacesAreRead, ItemsAreFound, ItemsAreRead, NotBoth, OneFault, OneInterface, SignaturesAreFound, SignaturesAreRead, StatementsAreFound, StatementsAreRead};
@@ -22,7 +28,7 @@ pub fn part_laws()
 {}
 
 /// Reading and the grammar of statements agree.
-pub fn statement_laws()
+pub fn interface_statement_laws()
     ensures read { StatementsAreRead }
     ensures found { StatementsAreFound }
 {}

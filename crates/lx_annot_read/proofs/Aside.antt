@@ -2,7 +2,7 @@
 use Rattle.std.proofs.Common.{◌≡◌, ℕ, Bool, true, false, List, [], ◌∷◌, ◌++◌, map, Ok, Err, refl, sym, ap, ◌∙◌, subst, codes}
 use Rattle.std.specs.Prelude.{if◌then◌else◌, ◌||◌}
 use Rattle.std.specs.List.{list_any}
-use Rattle.std.proofs.lemmas.List.{map-append}
+use Rattle.lx_words.proofs.Lists.{map_one_more}
 use Rattle.lx_annot.specs.declared.interface.CapIterator.{CapIterator}
 use Rattle.lx_annot.specs.declared.interface.Slot.{Slot}
 use Rattle.lx_annot.specs.declared.interface.Field.{Field}
@@ -62,9 +62,6 @@ make a b c d e = record { reftypes = a; iterators = b; slots = c; fields = d; ex
 same_by : (i j : Interface) → i.reftypes ≡ j.reftypes → i.iterators ≡ j.iterators → i.slots ≡ j.slots → i.fields ≡ j.fields → i.exports ≡ j.exports → i ≡ j
 same_by i j a b c d e = λ k. record { reftypes = a k; iterators = b k; slots = c k; fields = d k; exports = e k }
 
-one_more : {A : Type 0} (g : A → A) (xs ys : List A) (x y : A) → map g xs ≡ map g ys → g x ≡ g y → map g (xs ++ x ∷ []) ≡ map g (ys ++ y ∷ [])
-one_more g xs ys x y h k = map-append g xs (x ∷ []) ∙ (λ i. h i ++ k i ∷ []) ∙ sym (map-append g ys (y ∷ []))
-
 iterators_aside : (i j : Interface) → Same i j → map iterator_aside i.iterators ≡ map iterator_aside j.iterators
 iterators_aside i j s = ap (λ (k : Interface). k.iterators) s
 
@@ -81,16 +78,16 @@ reftype_more : (i j : Interface) (n : List ℕ) → Same i j → Same (with_reft
 reftype_more i j n s = same_by _ _ (ap (λ ns. ns ++ n ∷ []) (same_reftypes i j s)) (iterators_aside i j s) (slots_aside i j s) (fields_aside i j s) (exports_aside i j s)
 
 iterator_more : (i j : Interface) (x y : CapIterator) → Same i j → iterator_aside x ≡ iterator_aside y → Same (with_iterator i x) (with_iterator j y)
-iterator_more i j x y s e = same_by _ _ (same_reftypes i j s) (one_more iterator_aside i.iterators j.iterators x y (iterators_aside i j s) e) (slots_aside i j s) (fields_aside i j s) (exports_aside i j s)
+iterator_more i j x y s e = same_by _ _ (same_reftypes i j s) (map_one_more iterator_aside i.iterators j.iterators x y (iterators_aside i j s) e) (slots_aside i j s) (fields_aside i j s) (exports_aside i j s)
 
 slot_more : (i j : Interface) (x y : Slot) → Same i j → slot_aside x ≡ slot_aside y → Same (with_slot i x) (with_slot j y)
-slot_more i j x y s e = same_by _ _ (same_reftypes i j s) (iterators_aside i j s) (one_more slot_aside i.slots j.slots x y (slots_aside i j s) e) (fields_aside i j s) (exports_aside i j s)
+slot_more i j x y s e = same_by _ _ (same_reftypes i j s) (iterators_aside i j s) (map_one_more slot_aside i.slots j.slots x y (slots_aside i j s) e) (fields_aside i j s) (exports_aside i j s)
 
 field_more : (i j : Interface) (x y : Field) → Same i j → field_aside x ≡ field_aside y → Same (with_field i x) (with_field j y)
-field_more i j x y s e = same_by _ _ (same_reftypes i j s) (iterators_aside i j s) (slots_aside i j s) (one_more field_aside i.fields j.fields x y (fields_aside i j s) e) (exports_aside i j s)
+field_more i j x y s e = same_by _ _ (same_reftypes i j s) (iterators_aside i j s) (slots_aside i j s) (map_one_more field_aside i.fields j.fields x y (fields_aside i j s) e) (exports_aside i j s)
 
 export_more : (i j : Interface) (x y : Export) → Same i j → export_aside x ≡ export_aside y → Same (with_export i x) (with_export j y)
-export_more i j x y s e = same_by _ _ (same_reftypes i j s) (iterators_aside i j s) (slots_aside i j s) (fields_aside i j s) (one_more export_aside i.exports j.exports x y (exports_aside i j s) e)
+export_more i j x y s e = same_by _ _ (same_reftypes i j s) (iterators_aside i j s) (slots_aside i j s) (fields_aside i j s) (map_one_more export_aside i.exports j.exports x y (exports_aside i j s) e)
 
 -- Reading.
 

@@ -1,19 +1,15 @@
 -- Fields that are typed: a set of places, and the list that it stands for.
-use Rattle.std.proofs.Common.{◌≡◌, ◌∙◌, ℕ, Bool, true, false, ◌&&◌, ◌||◌, List, [], ◌∷◌, ◌++◌, map, if◌then◌else◌, nat_eq, bytes_eq, refl, sym, ap, arith}
+use Rattle.std.proofs.Common.{◌≡◌, ◌∙◌, ℕ, Bool, false, ◌&&◌, List, [], ◌∷◌, ◌++◌, map, if◌then◌else◌, nat_eq, bytes_eq, sym, ap}
 use Rattle.std.specs.Cmp.Lexicographic.{nat_list_eq_equiv}
 use Rattle.std.specs.List.{list_any}
-use Rattle.std.proofs.lemmas.Bool.Decides.{nat_tests}
 use Rattle.std.proofs.lemmas.List.{map-append}
+use Rattle.lx_words.proofs.Lists.{any_mapped}
+use Rattle.lx_words.proofs.Tests.{both_turned, nat_turned}
 use Rattle.indexmap.specs.IndexSet.{insert_key}
 use Rattle.lx_annot.specs.declared.interface.Field.{Field}
 use Rattle.lx_annot.specs.declared.interface.Interface.{Interface}
 use Rattle.lx_annot_read.specs.Interfaces.{is_field, is_typed}
 use Rattle.lx_annot_read.specs.Typed.{is_place, field_places}
-
--- a test of images
-pub any_mapped : {A B : Type 0} (p : B → Bool) (f : A → B) (xs : List A) → list_any (λ x. p (f x)) xs ≡ list_any p (map f xs)
-any_mapped p f [] = refl
-any_mapped p f (x ∷ xs) = ap (λ b. p (f x) || b) (any_mapped p f xs)
 
 abbrev mapped_if : {A B : Type 0} → (A → B) → List A → A → Bool → List B
 mapped_if view keys key found = map view (if found then keys else keys ++ key ∷ [])
@@ -24,15 +20,6 @@ put_last view eq p keys key old are same none =
     let alike : list_any (eq key) keys ≡ list_any (λ x. p (view x)) keys = λ j. list_any (λ x. same x j) keys in
     let absent : list_any (eq key) keys ≡ false = alike ∙ any_mapped p view keys ∙ ap (list_any p) are ∙ none in
     ap (mapped_if view keys key) absent ∙ map-append view keys (key ∷ []) ∙ ap (λ l. l ++ view key ∷ []) are
-
-both_turned : (a b : Bool) → (a && b) ≡ (b && a)
-both_turned true true = refl
-both_turned true false = refl
-both_turned false true = refl
-both_turned false false = refl
-
-nat_turned : (m n : ℕ) → nat_eq m n ≡ nat_eq n m
-nat_turned m n = grind (arith, nat_tests)
 
 place_of_field : (struct : List ℕ) (index : ℕ) (f : Field) → is_place struct index (f.name, f.index) ≡ is_field struct index f
 place_of_field struct index f =

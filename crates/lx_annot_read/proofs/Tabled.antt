@@ -1,37 +1,19 @@
 -- Names that differ, put into a table one by one.
-use Rattle.std.proofs.Common.{◌≡◌, ℕ, zero, suc, ◌+◌, ◌<◌, Bool, true, false, not, cond, nat_lt, Option, Some, None, List, [], ◌∷◌, ◌++◌, length, map, take, get_or, position, bytes_eq, refl, sym, ap, ◌∙◌, subst, arith}
-use Rattle.std.specs.Prelude.{◌||◌}
+use Rattle.std.proofs.Common.{◌≡◌, ℕ, zero, ◌+◌, ◌<◌, Bool, false, nat_lt, Option, Some, None, List, [], ◌∷◌, ◌++◌, length, map, take, get_or, position, bytes_eq, refl, sym, ap, ◌∙◌, subst, arith}
 use Rattle.std.specs.List.{IsDistinct, list_any, position_or_len, prefix_len}
 use Rattle.std.proofs.lemmas.Bool.Decides.{nat_tests}
 use Rattle.std.proofs.lemmas.List.{get_or-take, get_or_default, length-take-le, take_more}
 use Rattle.std.proofs.lemmas.List.Folds.{list_any_none}
 use Rattle.std.proofs.lemmas.Map.Keys.{apart_from_distinct}
-use Rattle.std.proofs.lemmas.Slice.Eq.{bytes_eq-Decides}
+use Rattle.lx_words.proofs.Lists.{flipped, all_passed}
 use Rattle.lx_annot_expressions.specs.Names.{number_among}
 use Rattle.lx_annot_expressions.proofs.Numbered.{within}
-
-true_same : (a b : Bool) → (a ≡ true → b ≡ true) → (b ≡ true → a ≡ true) → a ≡ b
-true_same true true f g = refl
-true_same false false f g = refl
-true_same true false f g = sym (f refl)
-true_same false true f g = g refl
-
-flipped : (x y : List ℕ) → bytes_eq x y ≡ bytes_eq y x
-flipped x y = true_same (bytes_eq x y) (bytes_eq y x) (λ h. (bytes_eq-Decides y x).1 (sym ((bytes_eq-Decides x y).0 h))) (λ h. (bytes_eq-Decides x y).1 (sym ((bytes_eq-Decides y x).0 h)))
-
-all_fail_by : (b rest : Bool) (n m : ℕ) → b || rest ≡ false → (rest ≡ false → n ≡ m) → cond (not b) (1 + n) 0 ≡ suc m
-all_fail_by true rest n m h f = cc
-all_fail_by false rest n m h f = omega (arith, f h)
-
-all_fail : {A : Type 0} (p : A → Bool) (xs : List A) → list_any p xs ≡ false → position_or_len p xs ≡ length xs
-all_fail p [] h = refl
-all_fail p (x ∷ xs) h = all_fail_by (p x) (list_any p xs) (position_or_len p xs) (length xs) h (λ k. all_fail p xs k)
 
 within_none : (i n : ℕ) → i ≡ n → within i n ≡ None
 within_none i n e = let out : nat_lt i n ≡ false = grind (arith, nat_tests) in rw out refl
 
 nowhere : {A : Type 0} (p : A → Bool) (xs : List A) → list_any p xs ≡ false → position p xs ≡ None
-nowhere p xs h = within_none (position_or_len p xs) (length xs) (all_fail p xs h)
+nowhere p xs h = within_none (position_or_len p xs) (length xs) (all_passed p xs h)
 
 -- a name is none of those before it
 pub new_at : (names : List (List ℕ)) (i : ℕ) (d : List ℕ) → IsDistinct bytes_eq names → i < length names → number_among (take i names) (get_or names i d) ≡ None

@@ -37,7 +37,7 @@ pub enum InterfaceFault {
 }
 
 /// What kind of fault a text has.
-#[derive(Clone, Copy, Debug, PartialEq, Eq)]
+#[derive(Clone, Copy)]
 pub enum Kind {
     Lexical,
     Statement,
@@ -47,7 +47,7 @@ pub enum Kind {
 }
 
 /// A fault that is met in a line, counted from 1, and the words that name it.
-#[derive(Debug, Drop)]
+#[derive(Drop)]
 pub struct Met {
     pub kind: Kind,
     pub line: u32,
@@ -55,7 +55,7 @@ pub struct Met {
 }
 
 /// Why a part of a text could not be read.
-#[derive(Debug, Drop)]
+#[derive(Drop)]
 pub enum Failure {
     Fault(Met),
     Memory,

@@ -7,7 +7,7 @@ ghost use Rattle.lx_annot_read.specs.Head.{head_at, may_lend, version_at};
 use lx_annot_expressions::{FaultKind, ReadError, Reader};
 
 /// The versions of interface texts.
-#[derive(Clone, Copy, Debug, PartialEq, Eq)]
+#[derive(Clone, Copy)]
 pub enum Version {
     /// No action lends.
     One,

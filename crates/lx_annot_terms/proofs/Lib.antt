@@ -1,5 +1,4 @@
-pub mod ActionFinds
-pub mod ActionReads
+pub mod ActionParts
 pub mod ClauseSteps
 pub mod ListFinds
 pub mod ListReads

@@ -2,6 +2,7 @@
 use Rattle.std.proofs.Common.{◌≡◌, ℕ, zero, suc, ◌+◌, ◌≤◌, ◌<◌, Bool, true, false, List, [], ◌∷◌, ◌++◌, length, Ok, Err, refl, sym, ap, ◌∙◌, subst, arith}
 use Rattle.std.specs.Prelude.{◌&&◌, nat_lt}
 use Rattle.std.proofs.lemmas.Bool.Decides.{nat_tests}
+use Rattle.std.proofs.lemmas.Bool.{and_parts}
 use Rattle.lx_annot_expressions.specs.declared.fault.Fault.{Fault}
 use Rattle.lx_annot_expressions.specs.declared.fault.ReadError.{ReadError}
 use Rattle.lx_annot_expressions.specs.declared.fault.ReadError.TheVariants as errors
@@ -71,11 +72,6 @@ not_added item before rest ts (errors.Fault f) t e =
 
 -- Steps of which there may be so many.
 
-both_true : (a b : Bool) → a && b ≡ true → (a ≡ true) × (b ≡ true)
-both_true true true h = (refl, refl)
-both_true true false h = cc
-both_true false b h = cc
-
 some_room : (room : ℕ) → nat_lt 0 room ≡ true → 0 < room
 some_room room h = grind (arith, nat_tests, h)
 
@@ -83,7 +79,7 @@ no_room : (room : ℕ) → nat_lt 0 room ≡ false → room ≡ 0
 no_room room h = grind (arith, nat_tests, h)
 
 pub may_step : (room : ℕ) (b : Bool) → nat_lt 0 room && b ≡ true → (0 < room) × (b ≡ true)
-may_step room b h = let k = both_true (nat_lt 0 room) b h in (some_room room k.0, k.1)
+may_step room b h = let k = and_parts (nat_lt 0 room) b h in (some_room room k.0, k.1)
 
 pub counted_step : {S : Type 0} (test : List Tok → Bool) (step : S → List Tok → Read S) (room left : ℕ) (s s' : S) (rest us : List Tok) (total : Read S) → steps_at test step room s rest ≡ total → 0 < room → test rest ≡ true → step s rest ≡ Ok (s', us) → left + 1 ≡ room → steps_at test step left s' us ≡ total
 counted_step test step room left s s' rest us total so_far some h e c =

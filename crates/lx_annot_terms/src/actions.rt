@@ -14,7 +14,7 @@ use lx_words::Memory;
 use std::alloc::Global;
 
 /// What an action does with the capabilities of its list.
-#[derive(Clone, Copy, Debug, PartialEq, Eq)]
+#[derive(Clone, Copy)]
 pub enum Deed {
     Copy,
     Transfer,

@@ -26,7 +26,7 @@ impl<'a> Model for Known<'a> {
 }
 
 /// In what a list stands.
-#[derive(Clone, Copy, Debug, PartialEq, Eq)]
+#[derive(Clone, Copy)]
 pub enum Within {
     /// In an action, in brackets.
     Action,

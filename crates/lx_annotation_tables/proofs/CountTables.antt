@@ -2,7 +2,7 @@
 use Rattle.std.proofs.Common.{◌≡◌, ℕ, true, false, Option, Some, None, List, ◌≤◌, length, take, refl, ap, sym, ◌∙◌, map}
 use Rattle.std.proofs.lemmas.List.{take_all}
 use Rattle.std.specs.Prelude.{slice_get, option_map, option_and_then}
-use Rattle.std.proofs.lemmas.Option.{slice_get-map}
+use Rattle.std.proofs.lemmas.Option.{slice_get-map, same_Some}
 use Rattle.lx_code.specs.declared.code.ActionCounts.{ActionCounts}
 use Rattle.lx_code.specs.Reach.{count_in, CountsActions}
 use Rattle.lx_model.specs.declared.program.Program.{Program}
@@ -11,7 +11,6 @@ use Rattle.lx_serve.specs.declared.source.Source.{Source}
 use Rattle.lx_serve.specs.Sources.{annotation_at, source_of, Knows}
 use Rattle.lx_annotation_tables.specs.Counted.{pre_count, post_count}
 use Rattle.lx_annotation_tables.specs.Entries.{annotation_by}
-use Rattle.lx_annotation_tables.proofs.Texts.{some_same}
 
 pre_at : (p : Program) (c : Option ActionCounts) (s : Option (Option Source)) → option_map (λ (x : ActionCounts). x.pre) c ≡ option_map (λ s. pre_count (annotation_by p s)) s
     → count_in false c ≡ pre_count (option_and_then (annotation_at p.interface) (source_of s))
@@ -19,7 +18,7 @@ unfolding annotation_by
 pre_at p None None h = refl
 pre_at p None (Some s) h = absurd (cc)
 pre_at p (Some c) None h = absurd (cc)
-pre_at p (Some c) (Some s) h = some_same _ _ h
+pre_at p (Some c) (Some s) h = same_Some _ _ h
 
 post_at : (p : Program) (c : Option ActionCounts) (s : Option (Option Source)) → option_map (λ (x : ActionCounts). x.post) c ≡ option_map (λ s. post_count (annotation_by p s)) s
     → count_in true c ≡ post_count (option_and_then (annotation_at p.interface) (source_of s))
@@ -27,7 +26,7 @@ unfolding annotation_by
 post_at p None None h = refl
 post_at p None (Some s) h = absurd (cc)
 post_at p (Some c) None h = absurd (cc)
-post_at p (Some c) (Some s) h = some_same _ _ h
+post_at p (Some c) (Some s) h = same_Some _ _ h
 
 at_place : {A B C : Type 0} (f : A → C) (g : B → C) (xs : List A) (ys : List B) (n : ℕ) → map f xs ≡ map g ys → option_map f (slice_get xs n) ≡ option_map g (slice_get ys n)
 at_place f g xs ys n h = sym (slice_get-map f xs n) ∙ (ap (λ zs. slice_get zs n) h ∙ slice_get-map g ys n)

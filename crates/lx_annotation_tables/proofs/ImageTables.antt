@@ -24,6 +24,7 @@ use Rattle.lx_annotation_tables.specs.Images.{image_of, inserted_in, is_behind, 
 use Rattle.lx_annotation_tables.specs.declared.images.Inserted.TheVariants.{Guard, Check}
 use Rattle.lx_annotation_tables.proofs.Texts.{first_there, goes_on}
 use Rattle.lx_annotation_tables.proofs.Told.{is_of, found_marked}
+use Rattle.lx_model.proofs.Items.{map_length, mapped_more}
 
 -- one function more
 
@@ -103,10 +104,6 @@ image_by i m list guards checks wrappers l g c w =
 
 -- one module more
 
-map_push : {A B : Type 0} (f : A → B) (xs : List A) (x : A) → map f (xs ++ x ∷ []) ≡ map f xs ++ f x ∷ []
-map_push f [] x = refl
-map_push f (y ∷ ys) x = ap (λ r. f y ∷ r) (map_push f ys x)
-
 image_is : (p : Program) (k : ℕ) (m : ProgramModule) → slice_get p.modules k ≡ Some m → image_count p k ≡ image_of p.interface m.«module»
 unfolding image_of
 image_is p k m e = ap (λ o. image_of p.interface (module_or_empty o)) e
@@ -126,16 +123,12 @@ pub annotated_at : (p : Program) (all : List (List Marked)) (k : ℕ) (m : Progr
 annotated_at p all k m list is h e d =
     mapped_at (λ (x : ProgramModule). annotated_of p.interface x.«module») p.modules k m h e list (d ∙ ap (λ xs. get_or xs k list) is)
 
-as_many : {A B : Type 0} (f : A → B) (xs : List A) → length (map f xs) ≡ length xs
-as_many f [] = refl
-as_many f (x ∷ xs) = ap suc (as_many f xs)
-
 pub annotated_long : (p : Program) (all : List (List Marked)) (k : ℕ) → all ≡ all_annotated p → k < length p.modules → k < length all
 annotated_long p all k is h =
-    let e : length all ≡ length p.modules = ap length is ∙ as_many (λ (x : ProgramModule). annotated_of p.interface x.«module») p.modules in omega (arith, e, h)
+    let e : length all ≡ length p.modules = ap length is ∙ map_length (λ (x : ProgramModule). annotated_of p.interface x.«module») p.modules in omega (arith, e, h)
 
 pub images_more : (p : Program) (k : ℕ) (m : ProgramModule) (c : ImageCount) (old new : List ImageCount) → k < length p.modules → m ≡ get_or p.modules k m → c ≡ image_of p.interface m.«module»
     → old ≡ map (image_count p) (below k) → new ≡ old ++ c ∷ [] → new ≡ map (image_count p) (below (k + 1))
 images_more p k m c old new h e is was n =
     n ∙ ((λ j. was j ++ (is ∙ sym (image_is p k m (there_at p.modules k m h e))) j ∷ [])
-    ∙ sym (ap (λ i. map (image_count p) (below i)) (add-one k) ∙ map_push (image_count p) (below k) k))
+    ∙ sym (ap (λ i. map (image_count p) (below i)) (add-one k) ∙ mapped_more (image_count p) (below k) k))

@@ -1,5 +1,5 @@
 -- Annotated functions stand in the order of their numbers, and are found by halving.
-use Rattle.std.proofs.Common.{◌≡◌, ℕ, zero, suc, ◌+◌, ◌<◌, ◌≤◌, Bool, true, false, cond, Option, Some, None, Result, Ok, Err, List, [], ◌∷◌, ◌++◌, length, nat_eq, if◌then◌else◌, refl, ap, sym, subst, ◌∙◌, arith, find, get_or, map}
+use Rattle.std.proofs.Common.{◌≡◌, ℕ, zero, suc, ◌+◌, ◌<◌, ◌≤◌, Bool, true, false, cond, Option, Some, None, Result, Ok, Err, List, [], ◌∷◌, ◌++◌, length, nat_eq, if◌then◌else◌, refl, ap, sym, subst, ◌∙◌, arith, find, get_or, map, eq-eqb}
 use Rattle.std.specs.Prelude.{MatchResult, slice_get, option_map, option_to_list, is_some}
 use Rattle.std.specs.List.{list_any}
 use Rattle.std.specs.List.Sorted.{IsBinarySearchResult, IsNonDecreasingBy, IsSearchInRange}
@@ -20,6 +20,7 @@ use Rattle.lx_propagate.specs.Slots.{annotated_of, annotated_from, marked}
 use Rattle.lx_annotation_tables.specs.Entries.{IsRising, RisesFrom, all_annotated}
 use Rattle.lx_annotation_tables.proofs.Told.{is_of}
 use Rattle.lx_annotation_tables.proofs.ImageTables.{any_found}
+use Rattle.lx_model.proofs.Tests.{less_differs}
 
 -- the annotated functions of a module are in order
 
@@ -73,22 +74,13 @@ module _ (d : Marked) where
   rises n (x ∷ xs) zero (suc j) r less h = let more = least (suc x.function) xs j r.1 (omega (arith, h)) in omega (arith, more)
   rises n (x ∷ xs) (suc i) (suc j) r less h = rises (suc x.function) xs i j r.1 (omega (arith, less)) (omega (arith, h))
 
-passes : (n f : ℕ) → n ≡ f → nat_eq n f ≡ true
-passes n f e = grind (arith, nat_tests, e)
-
-fails : (n f : ℕ) → n < f → nat_eq n f ≡ false
-fails n f h = grind (arith, nat_tests, h)
-
-fails_above : (n f : ℕ) → f < n → nat_eq n f ≡ false
-fails_above n f h = grind (arith, nat_tests, h)
-
 found : (d : Marked) (f n : ℕ) (xs : List Marked) (k : ℕ) → RisesFrom n xs → k < length xs → number d xs k ≡ f → slice_get xs k ≡ find (is_of f) xs
 found d f n [] k r h e = absurd (omega (arith, h))
-found d f n (x ∷ xs) zero r h e = sym (ap (λ b. cond b (Some x) (find (is_of f) xs)) (passes x.function f e))
+found d f n (x ∷ xs) zero r h e = sym (ap (λ b. cond b (Some x) (find (is_of f) xs)) (eq-eqb x.function f e))
 found d f n (x ∷ xs) (suc k) r h e =
     let more = least d (suc x.function) xs k r.1 (omega (arith, h)) in
     found d f (suc x.function) xs k r.1 (omega (arith, h)) e
-    ∙ sym (ap (λ b. cond b (Some x) (find (is_of f) xs)) (fails x.function f (omega (arith, more, e))))
+    ∙ sym (ap (λ b. cond b (Some x) (find (is_of f) xs)) (less_differs x.function f (omega (arith, more, e))))
 
 none_found : (d : Marked) (f : ℕ) (xs : List Marked) → ((k : ℕ) → k < length xs → nat_eq (number d xs k) f ≡ false) → None ≡ find (is_of f) xs
 none_found d f [] h = refl

@@ -1,6 +1,7 @@
 -- What holds of each element of a list, and of each function of a program.
 use Rattle.std.proofs.Common.{◌≡◌, ℕ, zero, suc, ◌+◌, Bool, true, false, Some, None, List, [], ◌∷◌, ◌++◌, refl, ap, sym, subst, ◌∙◌, arith}
-use Rattle.std.specs.Prelude.{All, slice_get}
+use Rattle.std.specs.Prelude.{slice_get}
+use Rattle.std.proofs.lemmas.Option.{same_Some}
 use Rattle.lx_ir.specs.declared.module.Function.{Function}
 use Rattle.lx_ir.specs.declared.module.Module.{Module}
 use Rattle.lx_ir.specs.Lookup.{is_defined}
@@ -8,10 +9,12 @@ use Rattle.lx_model.specs.declared.program.Program.{Program}
 use Rattle.lx_model.specs.declared.program.ProgramModule.{ProgramModule}
 use Rattle.lx_model.specs.declared.program.ProgramFunction.{ProgramFunction}
 use Rattle.lx_model.specs.declared.program.ProgramFunction.TheVariants.{Of}
-use Rattle.lx_model.specs.Program.{Home, module_of, module_or_empty}
+use Rattle.lx_model.specs.Program.{Home, module_of}
 use Rattle.lx_link_texts.specs.Placing.{functions_of, entries_from, entry_if, module_entries, natives}
 use Rattle.lx_link_texts.specs.WellFormed.{IsWellFormed, texts_of}
 use Rattle.lx_annotation_tables.specs.Entries.{IsEntry}
+use Rattle.lx_model.proofs.Items.{from_start}
+use Rattle.lx_model.proofs.Homes.{module_at}
 
 -- each element of a list
 abbrev pub Each : {A : Type 0} → (A → Type 0) → List A → Type 0
@@ -22,23 +25,10 @@ pub each_join : {A : Type 0} (P : A → Type 0) (xs ys : List A) → Each P xs �
 each_join P [] ys e f = f
 each_join P (x ∷ xs) ys e f = (e.0, each_join P xs ys e.1 f)
 
-pub some_same : {A : Type 0} (x y : A) → Some x ≡ Some y → x ≡ y
-some_same x y e = cc
-
 pub each_at : {A : Type 0} (P : A → Type 0) (xs : List A) (k : ℕ) (x : A) → Each P xs → slice_get xs k ≡ Some x → P x
 each_at P [] k x e h = absurd (cc)
-each_at P (y ∷ ys) zero x e h = subst P (some_same y x h) e.0
+each_at P (y ∷ ys) zero x e h = subst P (same_Some y x h) e.0
 each_at P (y ∷ ys) (suc k) x e h = each_at P ys k x e.1 h
-
--- an element that is there is one of all
-pub all_at : {A : Type 0} (P : A → Type 0) (xs : List A) (k : ℕ) (x : A) → All P xs → slice_get xs k ≡ Some x → P x
-all_at P [] k x all h = absurd (cc)
-all_at P (y ∷ ys) zero x all h = subst P (some_same y x h) (all 0 y (omega arith))
-all_at P (y ∷ ys) (suc k) x all h = all_at P ys k x (λ j d less. all (suc j) d (omega (arith, less))) h
-
--- a text by its number
-pub module_at : (p : Program) (k : ℕ) (m : ProgramModule) → slice_get p.modules k ≡ Some m → module_of p (Some k) ≡ m.«module»
-module_at p k m e = ap module_or_empty e
 
 -- what goes on behind one element
 pub goes_on : {A : Type 0} (all : List A) (k : ℕ) (x : A) (xs : List A) → ((j : ℕ) → slice_get all (k + j) ≡ slice_get (x ∷ xs) j) → (j : ℕ) → slice_get all (k + 1 + j) ≡ slice_get xs j
@@ -76,9 +66,6 @@ module_entries_there p k (m ∷ ms) there =
 natives_there : (p : Program) → Each (IsEntry p) natives
 unfolding IsEntry
 natives_there p = (tt, (tt, (tt, (tt, (tt, (tt, tt))))))
-
-from_start : {A : Type 0} (xs : List A) (j : ℕ) → slice_get xs (0 + j) ≡ slice_get xs j
-from_start xs j = ap (slice_get xs) (omega arith)
 
 all_entries : (p : Program) → Each (IsEntry p) (functions_of (texts_of p))
 unfolding functions_of

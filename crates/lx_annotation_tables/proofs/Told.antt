@@ -1,11 +1,11 @@
 -- Where annotations stand: at exports by their names, and at slot types by what functions get.
-use Rattle.std.proofs.Common.{◌≡◌, ℕ, zero, suc, ◌+◌, ◌<◌, ◌≤◌, Bool, true, false, cond, Option, Some, None, List, [], ◌∷◌, ◌++◌, length, nat_eq, nat_lt, if◌then◌else◌, refl, ap, sym, subst, ◌∙◌, arith, find, map, take, get_or}
+use Rattle.std.proofs.Common.{◌≡◌, ℕ, zero, suc, ◌+◌, ◌<◌, ◌≤◌, Bool, true, false, cond, Option, Some, None, List, [], ◌∷◌, ◌++◌, length, nat_eq, nat_lt, if◌then◌else◌, refl, ap, sym, subst, ◌∙◌, arith, find, map, take, get_or, eq-eqb}
 use Rattle.std.specs.Prelude.{slice_get, option_map, option_and_then, option_to_list, position, bytes_eq}
 use Rattle.std.specs.List.{position_or_len}
 use Rattle.std.proofs.lemmas.Bool.Decides.{nat_tests}
 use Rattle.std.proofs.lemmas.List.Folds.{find_at}
 use Rattle.std.proofs.lemmas.List.{take_all}
-use Rattle.std.proofs.lemmas.Option.{slice_get_past, slice_get-map, slice_get-get_or}
+use Rattle.std.proofs.lemmas.Option.{slice_get_past, slice_get-map, slice_get-get_or, same_Some}
 use Rattle.lx_ir.specs.declared.module.Function.{Function}
 use Rattle.lx_ir.specs.declared.module.Module.{Module}
 use Rattle.lx_ir.specs.Lookup.{is_defined}
@@ -25,7 +25,8 @@ use Rattle.lx_serve.specs.Sources.{annotation_at, source_of, Knows}
 use Rattle.lx_propagate.specs.Slots.{annotated_of, annotated_from, marked}
 use Rattle.lx_annotation_tables.specs.Entries.{IsDefinedAt, IsEntry, annotation_of, annotation_by, all_annotated}
 use Rattle.lx_link_texts.specs.WellFormed.{IsWellFormed}
-use Rattle.lx_annotation_tables.proofs.Texts.{some_same, entry_at}
+use Rattle.lx_annotation_tables.proofs.Texts.{entry_at}
+use Rattle.lx_model.proofs.Tests.{more_differs}
 
 -- exports
 
@@ -63,12 +64,6 @@ native_told p k = refl
 abbrev pub is_of : ℕ → Marked → Bool
 is_of f x = nat_eq x.function f
 
-other : (n f : ℕ) → f < n → nat_eq n f ≡ false
-other n f h = grind (arith, nat_tests)
-
-same : (n f : ℕ) → n ≡ f → nat_eq n f ≡ true
-same n f e = grind (arith, nat_tests, e)
-
 skip : (f : ℕ) (o : Option ℕ) (n : ℕ) (rest : List Marked) → nat_eq n f ≡ false → find (is_of f) (option_to_list (option_map (marked n) o) ++ rest) ≡ find (is_of f) rest
 skip f None n rest h = refl
 skip f (Some s) n rest h = ap (λ b. cond b (Some (marked n s)) (find (is_of f) rest)) h
@@ -80,18 +75,18 @@ skip_mark i m f n false rest h = refl
 none_before : (i : Interface) (m : Module) (f n : ℕ) (fs : List Function) → f < n → find (is_of f) (annotated_from i m n fs) ≡ None
 none_before i m f n [] h = refl
 none_before i m f n (g ∷ gs) h =
-    skip_mark i m f n (is_defined g) (annotated_from i m (suc n) gs) (other n f h) ∙ none_before i m f (suc n) gs (omega (arith, h))
+    skip_mark i m f n (is_defined g) (annotated_from i m (suc n) gs) (more_differs n f h) ∙ none_before i m f (suc n) gs (omega (arith, h))
 
 stands : (f : ℕ) (o : Option ℕ) (n : ℕ) (rest : List Marked) → n ≡ f → find (is_of f) rest ≡ None → find (is_of f) (option_to_list (option_map (marked n) o) ++ rest) ≡ option_map (marked n) o
 stands f None n rest e h = h
-stands f (Some s) n rest e h = ap (λ b. cond b (Some (marked n s)) (find (is_of f) rest)) (same n f e)
+stands f (Some s) n rest e h = ap (λ b. cond b (Some (marked n s)) (find (is_of f) rest)) (eq-eqb n f e)
 
 found_from : (i : Interface) (m : Module) (n k : ℕ) (fs : List Function) (g : Function) → slice_get fs k ≡ Some g → is_defined g ≡ true
     → find (is_of (n + k)) (annotated_from i m n fs) ≡ option_map (marked (n + k)) (slot_of i m (n + k))
 found_from i m n k [] g there defined = absurd (cc)
 found_from i m n zero (f ∷ fs) g there defined =
     let e : n ≡ n + 0 = omega arith in
-    let d : is_defined f ≡ true = ap is_defined (some_same f g there) ∙ defined in
+    let d : is_defined f ≡ true = ap is_defined (same_Some f g there) ∙ defined in
     let rest : find (is_of n) (annotated_from i m (suc n) fs) ≡ None = none_before i m n (suc n) fs (omega arith) in
     subst (λ z. find (is_of z) (annotated_from i m n (f ∷ fs)) ≡ option_map (marked z) (slot_of i m z)) e
     (ap (λ b. find (is_of n) (option_to_list (if b then option_map (marked n) (slot_of i m n) else None) ++ annotated_from i m (suc n) fs)) d
@@ -153,7 +148,7 @@ unfolding annotation_of annotation_by
 told_by p None None h = refl
 told_by p None (Some e) h = absurd (cc)
 told_by p (Some s) None h = absurd (cc)
-told_by p (Some s) (Some e) h = some_same _ _ h
+told_by p (Some s) (Some e) h = same_Some _ _ h
 
 pub known : (p : Program) (sources : List (Option Source)) → map (annotation_by p) sources ≡ map (annotation_of p) p.functions → Knows p sources
 known p sources h = λ n.

@@ -1,4 +1,12 @@
 //! Tables of a linked program: where annotations stand, how many actions they have, and what the images of modules have.
+//!
+//! ```text
+//! let sources = sources_of(alloc, &program, annotated)?;
+//! // Of each function how many actions stand before its body and behind it.
+//! let counts = action_counts(alloc, &program, &sources)?;
+//! // Of each module how many guards, checks and wrappers its image has.
+//! let images = image_counts(alloc, &program, annotated)?;
+//! ```
 #![tactic(auto)]
 
 ghost use Rattle.lx_annotation_tables.specs.Laws.{AreLinked, AreSized, AreWithinReach};

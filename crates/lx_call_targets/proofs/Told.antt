@@ -20,10 +20,7 @@ use Rattle.lx_slot_types.specs.Gets.{below}
 use Rattle.lx_call_targets.specs.Writers.{AreTold, with_writer}
 use Rattle.lx_call_targets.specs.declared.writers.SlotWriters.{SlotWriters}
 use Rattle.lx_call_targets.specs.declared.writers.SlotWriters.TheVariants.{Nobody, AllHold, Lacks}
-
-map_append : {A B : Type 0} (f : A → B) (xs ys : List A) → map f (xs ++ ys) ≡ map f xs ++ map f ys
-map_append f [] ys = refl
-map_append f (x ∷ xs) ys = ap (λ zs. f x ∷ zs) (map_append f xs ys)
+use Rattle.lx_caps.proofs.Items.{map_append}
 
 -- one number more of a fold over numbered things
 pub numbered_more : {A B : Type 0} (f : B → A → B) (make : ℕ → A) (k : ℕ) (old now new : B) → now ≡ fold f old (map make (below k)) → new ≡ f now (make k) → new ≡ fold f old (map make (below (k + 1)))

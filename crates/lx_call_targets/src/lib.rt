@@ -1,6 +1,14 @@
-//! What a call by an address or through a slot may enter.
+//! What a call by an address or through a slot may enter: functions by their addresses, signatures by their widths, and what the writers of a
+//! slot hold. Nothing of it takes memory.
 //!
-//! Functions by their addresses, signatures by their widths, and what the writers of a slot hold. Nothing of it takes memory.
+//! ```text
+//! // The number of the function at this address, where a text defines it.
+//! function_at(&program, 0x10070);
+//! // Whether the function has the slot type's parameters and result, by their widths.
+//! has_signature(&program, slot_type, function);
+//! // SlotWriters::Lacks(who), with the first principal that wrote to the slot and does not hold the call.
+//! slot_writers(&caps, &names, 0x1000000, 0x10070);
+//! ```
 #![tactic(auto)]
 
 mod functions;

@@ -14,7 +14,7 @@ use lx_principals::Principals;
 use lx_writer_sets::Recorded;
 
 /// What the writers of a slot hold.
-#[derive(Clone, Copy, Debug, PartialEq, Eq)]
+#[derive(Clone, Copy)]
 pub enum SlotWriters {
     /// Nobody wrote there.
     Nobody,

@@ -1,10 +1,9 @@
 -- Who has a bit, node by node.
-use Rattle.std.proofs.Common.{◌≡◌, ℕ, zero, suc, ◌-◌, ◌<◌, ◌^◌, Bool, true, false, not, ◌||◌, ◌&&◌, nat_eq, cond, List, [], ◌∷◌, ◌++◌, refl, sym, ap, ◌∙◌, w64, arith, append_assoc}
+use Rattle.std.proofs.Common.{◌≡◌, ℕ, zero, suc, ◌-◌, ◌<◌, ◌^◌, Bool, true, false, not, ◌||◌, ◌&&◌, nat_eq, cond, List, [], ◌∷◌, ◌++◌, refl, sym, ap, ◌∙◌, w64, arith, append_assoc, eqb-true}
 use Rattle.std.specs.Int.{bit_at}
 use Rattle.std.proofs.lemmas.Bool.Decides.{nat_tests}
 use Rattle.std.proofs.lemmas.Nat.Bits.{bit_at-zero, bit_at-lt, bit_at_not}
-use Rattle.lx_caps.specs.declared.Principal.{Principal}
-use Rattle.lx_caps.specs.declared.Principal.TheVariants.{Kernel, Shared, Global, Inst}
+use Rattle.std.proofs.lemmas.Bool.{and_parts}
 use Rattle.lx_caps.specs.History.{same_principal}
 use Rattle.lx_cap_lists.specs.declared.entry.Entry.{Entry}
 use Rattle.lx_cap_lists.specs.declared.holder.Holder.{Holder}
@@ -13,6 +12,8 @@ use Rattle.lx_cap_lists.specs.Holders.{same_holder}
 use Rattle.lx_cap_lists.specs.Bits.{is_set}
 use Rattle.lx_cap_lists.specs.Entries.{gives_bit, bit_among, with_mask, left_of, cut_node, cut_all}
 use Rattle.lx_cap_lists.proofs.Masks.{set_in_both}
+use Rattle.lx_caps.proofs.Tests.{and_none, or_join, or_swap}
+use Rattle.lx_caps.proofs.Principals.{same_principal_is}
 
 pub none_set : (k : ℕ) → is_set 0 k ≡ false
 none_set k = ap (λ n. nat_eq n 1) (bit_at-zero k)
@@ -28,20 +29,6 @@ set_left mask bits k fits below =
     set_in_both mask (18446744073709551615 - bits) k
     ∙ ap (λ b. is_set mask k && b) (ap (λ n. nat_eq n 1) (bit_at_not w64 bits k fits below) ∙ flipped (bit_at bits k) (bit_at-lt bits k))
 
-or_swap : (a b c : Bool) → (a || (b || c)) ≡ (b || (a || c))
-or_swap true true c = refl
-or_swap true false c = refl
-or_swap false true c = refl
-or_swap false false c = refl
-
-or_join : (a b c : Bool) → ((a || b) || c) ≡ (a || (b || c))
-or_join true b c = refl
-or_join false b c = refl
-
-and_or : (a b c : Bool) → (a && (b || c)) ≡ ((a && b) || (a && c))
-and_or true b c = refl
-and_or false b c = refl
-
 or_and : (a b c : Bool) → ((a || b) && c) ≡ ((a && c) || (b && c))
 or_and true true true = refl
 or_and true true false = refl
@@ -52,10 +39,6 @@ or_and false b c = refl
 and_join : (a b c : Bool) → (a && (b && c)) ≡ ((a && b) && c)
 and_join true b c = refl
 and_join false b c = refl
-
-and_no : (a : Bool) → (a && false) ≡ false
-and_no true = refl
-and_no false = refl
 
 pub bit_append : (among : Holder → Bool) (k : ℕ) (xs ys : List (ℕ × Entry)) → bit_among among (xs ++ ys) k ≡ (bit_among among xs k || bit_among among ys k)
 bit_append among k [] ys = refl
@@ -98,7 +81,7 @@ bit_cut_node among bits k e ys fits below =
       | true ↦ λ none.
           let zero_left : left_of e.1.mask bits ≡ 0 = grind (arith, nat_tests, none) in
           let gone : (is_set e.1.mask k && not (is_set bits k)) ≡ false = sym (set_left e.1.mask bits k fits below) ∙ (ap (λ m. is_set m k) zero_left ∙ none_set k) in
-          ap (λ b. b || bit_among among ys k) (sym (sym (and_join (among e.1.holder) (is_set e.1.mask k) (not (is_set bits k))) ∙ (ap (λ b. among e.1.holder && b) gone ∙ and_no (among e.1.holder))))
+          ap (λ b. b || bit_among among ys k) (sym (sym (and_join (among e.1.holder) (is_set e.1.mask k) (not (is_set bits k))) ∙ (ap (λ b. among e.1.holder && b) gone ∙ and_none (among e.1.holder))))
       | false ↦ λ some.
           ap (λ b. b || bit_among among ys k) (ap (λ b. among e.1.holder && b) (set_left e.1.mask bits k fits below) ∙ and_join (among e.1.holder) (is_set e.1.mask k) (not (is_set bits k)))
     ]) refl
@@ -110,47 +93,12 @@ bit_cut among bits k (e ∷ es) fits below =
     ∙ ap (λ b. (gives_bit among k e.1 && not (is_set bits k)) || b) (bit_cut among bits k es fits below)
     ∙ sym (or_and (gives_bit among k e.1) (bit_among among es k) (not (is_set bits k)))
 
--- the same principal
-same_ℕ : (m n : ℕ) → nat_eq m n ≡ true → m ≡ n
-same_ℕ m n e = grind (arith, nat_tests, e)
-
-and_both : (a b : Bool) → (a && b) ≡ true → (a ≡ true) × (b ≡ true)
-and_both true true e = (refl, refl)
-and_both true false e = absurd (cc)
-and_both false b e = absurd (cc)
-
-pub same_who : (p q : Principal) → same_principal p q ≡ true → p ≡ q
-same_who Kernel Kernel e = refl
-same_who Kernel (Shared n) e = absurd (cc)
-same_who Kernel (Global n) e = absurd (cc)
-same_who Kernel (Inst n l) e = absurd (cc)
-same_who (Shared m) Kernel e = absurd (cc)
-same_who (Shared m) (Shared n) e = ap Shared (same_ℕ m n e)
-same_who (Shared m) (Global n) e = absurd (cc)
-same_who (Shared m) (Inst n l) e = absurd (cc)
-same_who (Global m) Kernel e = absurd (cc)
-same_who (Global m) (Shared n) e = absurd (cc)
-same_who (Global m) (Global n) e = ap Global (same_ℕ m n e)
-same_who (Global m) (Inst n l) e = absurd (cc)
-same_who (Inst m k) Kernel e = absurd (cc)
-same_who (Inst m k) (Shared n) e = absurd (cc)
-same_who (Inst m k) (Global n) e = absurd (cc)
-same_who (Inst m k) (Inst n l) e = let b = and_both (nat_eq m n) (nat_eq k l) e in ap (λ i. Inst i k) (same_ℕ m n b.0) ∙ ap (λ j. Inst n j) (same_ℕ k l b.1)
-
 -- the same holder
 pub same_is : (p q : Holder) → same_holder p q ≡ true → p ≡ q
-same_is (Keeper p) (Keeper q) e = ap Keeper (same_who p q e)
+same_is (Keeper p) (Keeper q) e = ap Keeper (same_principal_is p q e)
 same_is (Keeper p) (Borrower u d q) e = absurd (cc)
 same_is (Borrower t c p) (Keeper q) e = absurd (cc)
 same_is (Borrower t c p) (Borrower u d q) e =
-    let b = and_both (nat_eq t u) (nat_eq c d && same_principal p q) e in
-    let r = and_both (nat_eq c d) (same_principal p q) b.1 in
-    ap (λ i. Borrower i c p) (same_ℕ t u b.0) ∙ (ap (λ i. Borrower u i p) (same_ℕ c d r.0) ∙ ap (Borrower u d) (same_who p q r.1))
-
--- one candidate more
-pub first_step : (s fo found g r : Bool) → (fo && g) ≡ found → ((s || found) || (fo && r)) ≡ (s || (fo && (g || r)))
-first_step s fo found g r is =
-    or_join s found (fo && r) ∙ ap (λ t. s || t) (ap (λ t. t || (fo && r)) (sym is) ∙ sym (and_or fo g r))
-
-pub sooner_step : (s f g r : Bool) → ((s || (f && g)) || (f && r)) ≡ (s || (f && (g || r)))
-sooner_step s f g r = or_join s (f && g) (f && r) ∙ ap (λ t. s || t) (sym (and_or f g r))
+    let b = and_parts (nat_eq t u) (nat_eq c d && same_principal p q) e in
+    let r = and_parts (nat_eq c d) (same_principal p q) b.1 in
+    ap (λ i. Borrower i c p) (eqb-true t u b.0) ∙ (ap (λ i. Borrower u i p) (eqb-true c d r.0) ∙ ap (Borrower u d) (same_principal_is p q r.1))

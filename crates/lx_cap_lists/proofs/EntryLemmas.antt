@@ -1,5 +1,5 @@
 -- The first atom of an entry.
-use Rattle.std.proofs.Common.{◌≡◌, ◌≢◌, ℕ, ◌+◌, ◌*◌, ◌/◌, ◌%◌, ◌<◌, ◌^◌, Bool, true, false, ◌&&◌, nat_eq, nat_lt, nat_le, bit_and, Some, refl, ap, ◌∙◌, w64, arith}
+use Rattle.std.proofs.Common.{◌≡◌, ◌≢◌, ℕ, ◌+◌, ◌*◌, ◌/◌, ◌%◌, ◌<◌, ◌^◌, Bool, true, false, ◌&&◌, nat_eq, nat_lt, nat_le, bit_and, Some, refl, ap, ◌∙◌, w64, arith, eqb-true}
 use Rattle.std.specs.Int.{bit_at, trailing_zeros}
 use Rattle.std.proofs.lemmas.Bool.Decides.{nat_tests}
 use Rattle.std.proofs.lemmas.Nat.Bits.{bit_at-trailing_zeros}
@@ -9,8 +9,7 @@ use Rattle.lx_caps.specs.Order.{is_before, IsFirst}
 use Rattle.lx_cap_lists.specs.Bits.{is_set}
 use Rattle.lx_cap_lists.specs.Atoms.{part_atom}
 use Rattle.lx_cap_lists.proofs.Masks.{set_in_both}
-use Rattle.lx_cap_lists.proofs.WalkLemmas.{same_from_eq, eq_self}
-use Rattle.lx_cap_lists.proofs.HeldLemmas.{byte_of}
+use Rattle.lx_caps.proofs.Tests.{eq_itself, byte_of}
 
 and_true : (a b : Bool) → b ≡ true → (a && b) ≡ a
 and_true true b e = e
@@ -25,7 +24,7 @@ not_before : (part bits z : ℕ) → ((i : ℕ) → i < z → bit_at bits i ≡ 
 not_before part bits z none (atom.Byte b) h =
     (elim (nat_eq part (b / 64)) as (λ t. nat_eq part (b / 64) ≡ t → (t && is_set bits (b % 64)) ≡ false) [
       | true ↦ λ e.
-          let at : part ≡ b / 64 = same_from_eq part (b / 64) e in
+          let at : part ≡ b / 64 = eqb-true part (b / 64) e in
           let lt : b < part * 64 + z = grind (arith, nat_tests, h) in
           let low : b % 64 < z = omega (arith, at, lt) in
           ap (λ n. nat_eq n 1) (none (b % 64) low)
@@ -39,6 +38,6 @@ first_of_part part bits some fits =
     let found = bit_at-trailing_zeros w64 bits (omega (arith, some)) fits in
     let z = trailing_zeros w64 bits in
     let of = byte_of part z found.0 in (
-      ap (λ p. nat_eq part p && is_set bits ((part * 64 + z) % 64)) of.0 ∙ (ap (λ t. t && is_set bits ((part * 64 + z) % 64)) (eq_self part) ∙ (ap (is_set bits) of.1 ∙ ap (λ n. nat_eq n 1) found.1)),
+      ap (λ p. nat_eq part p && is_set bits ((part * 64 + z) % 64)) of.0 ∙ (ap (λ t. t && is_set bits ((part * 64 + z) % 64)) (eq_itself part) ∙ (ap (is_set bits) of.1 ∙ ap (λ n. nat_eq n 1) found.1)),
       not_before part bits z found.2,
     )

@@ -1,7 +1,7 @@
 -- Bits that are all there, and bytes that are all held.
-use Rattle.std.proofs.Common.{◌≡◌, ◌≢◌, ◌⊎◌, inl, inr, ℕ, zero, suc, ◌+◌, ◌*◌, ◌/◌, ◌%◌, ◌<◌, ◌≤◌, ◌^◌, min, Bool, true, false, ◌&&◌, ◌||◌, nat_eq, bit_and, refl, sym, ap, ◌∙◌, arith}
+use Rattle.std.proofs.Common.{◌≡◌, ◌≢◌, ◌⊎◌, inl, inr, ℕ, zero, suc, ◌+◌, ◌*◌, ◌/◌, ◌<◌, ◌≤◌, ◌^◌, min, Bool, true, false, ◌&&◌, ◌||◌, nat_eq, bit_and, refl, sym, ap, ◌∙◌, arith}
 use Rattle.std.specs.Int.{bit_at}
-use Rattle.std.proofs.lemmas.Bool.{cases_lt}
+use Rattle.std.proofs.lemmas.Bool.{cases_lt, and_parts}
 use Rattle.std.proofs.lemmas.Bool.Decides.{nat_tests}
 use Rattle.std.proofs.lemmas.Nat.Bits.{bit_at-lt, bit_at_and, bit_at_above, same_from_bits}
 use Rattle.lx_caps.specs.Regions.{covers}
@@ -9,9 +9,7 @@ use Rattle.lx_caps.specs.History.{each_byte}
 use Rattle.lx_cap_lists.specs.Bits.{is_set}
 use Rattle.lx_cap_lists.proofs.Masks.{set_in_both}
 use Rattle.lx_cap_lists.proofs.Ranges.{covered, covered_more, none_before, all_before}
-
-eq_self : (n : ℕ) → nat_eq n n ≡ true
-eq_self n = grind (arith, nat_tests)
+use Rattle.lx_caps.proofs.Tests.{eq_itself}
 
 and_left : (a b : Bool) → (a && b) ≡ b → b ≡ true → a ≡ true
 and_left true b e f = refl
@@ -57,7 +55,7 @@ missing r w fits e = elim (lacks r w 64) [
         | inl lt ↦ min_same (bit_at r i) (bit_at w i) (bit_at-lt r i) (bit_at-lt w i) (all i lt)
         | inr ge ↦ let none : bit_at w i ≡ 0 = bit_at_above w 64 i fits ge in ap (min (bit_at r i)) none ∙ (min_zero (bit_at r i) ∙ sym none)
       ]) in
-      let is : nat_eq (bit_and r w) w ≡ true = ap (λ n. nat_eq n w) same ∙ eq_self w in
+      let is : nat_eq (bit_and r w) w ≡ true = ap (λ n. nat_eq n w) same ∙ eq_itself w in
       cc)
 ]
 
@@ -82,16 +80,6 @@ each_none p at (suc n) b c out =
       | true ↦ λ e. each_none p (suc at) n b (next_covers at n b c (λ same. absurd (let held : p b ≡ true = ap p same ∙ e in cc))) out
     ]) refl
 
-pub and_yes : (a b : Bool) → (a && b) ≡ true → (a ≡ true) × (b ≡ true)
-and_yes true true e = (refl, refl)
-and_yes true false e = absurd (cc)
-and_yes false b e = absurd (cc)
-
-pub and_join : (a b : Bool) → a ≡ true → b ≡ true → (a && b) ≡ true
-and_join true true e f = refl
-and_join true false e f = f
-and_join false b e f = e
-
 -- the bytes of one part more
 pub held_more : (p : ℕ → Bool) (at size part : ℕ) → ((b : ℕ) → covered at size part b ≡ true → p b ≡ true) → ((b : ℕ) → covers at size b ≡ true → nat_eq part (b / 64) ≡ true → p b ≡ true)
     → (b : ℕ) → covered at size (part + 1) b ≡ true → p b ≡ true
@@ -100,7 +88,7 @@ held_more p at size part so_far here b is =
       | true ↦ λ e. so_far b e
       | false ↦ λ e.
           let rest : (covers at size b && nat_eq part (b / 64)) ≡ true = sym (ap (λ t. t || (covers at size b && nat_eq part (b / 64))) e) ∙ (sym (covered_more at size part b) ∙ is) in
-          let both = and_yes (covers at size b) (nat_eq part (b / 64)) rest in
+          let both = and_parts (covers at size b) (nat_eq part (b / 64)) rest in
           here b both.0 both.1
     ]) refl
 
@@ -109,9 +97,6 @@ held_none p at size b is = absurd (let no = none_before at size b in cc)
 
 pub held_all : (p : ℕ → Bool) (at size end : ℕ) → 0 < size → end ≡ (at + size + 63) / 64 → ((b : ℕ) → covered at size end b ≡ true → p b ≡ true) → each_byte p at size ≡ true
 held_all p at size end some is all = each_all p at size (λ b c. all b (all_before at size b end some is ∙ c))
-
-pub byte_of : (part k : ℕ) → k < 64 → ((part * 64 + k) / 64 ≡ part) × ((part * 64 + k) % 64 ≡ k)
-byte_of part k h = (omega (arith, h), omega (arith, h))
 
 -- the first byte of a range in a part
 pub some_byte : (at size part : ℕ) → at / 64 ≤ part → part * 64 < at + size → 0 < size → (b : ℕ) × (covers at size b ≡ true) × (b / 64 ≡ part)

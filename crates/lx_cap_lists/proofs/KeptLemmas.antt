@@ -1,8 +1,9 @@
 -- What holds of every node still does, as nodes are written, linked and unlinked.
-use Rattle.std.proofs.Common.{◌≡◌, ℕ, ◌<◌, Bool, true, false, ◌&&◌, nat_eq, cond, List, [], ◌∷◌, ◌++◌, length, map, set, Option, Some, refl, sym, ap, ◌∙◌, arith}
+use Rattle.std.proofs.Common.{◌≡◌, ℕ, ◌<◌, Bool, true, false, nat_eq, cond, List, [], ◌∷◌, ◌++◌, length, map, set, Some, refl, sym, ap, ◌∙◌, arith, eqb-true}
 use Rattle.std.proofs.lemmas.Bool.Decides.{nat_tests}
 use Rattle.std.proofs.lemmas.List.{get_or-set_same, get_or-set_other}
 use Rattle.std.proofs.Math.ListN as listn
+use Rattle.std.proofs.lemmas.Bool.{and_parts, and_from}
 use Rattle.lx_cap_nodes.specs.declared.pool.Family.TheVariants as family
 use Rattle.lx_cap_nodes.specs.declared.pool.ListName.{ListName}
 use Rattle.lx_cap_nodes.specs.declared.pool.ListName.TheVariants as name
@@ -14,40 +15,27 @@ use Rattle.lx_cap_lists.specs.Kept.{all_nodes, AreAll, Respects, Fits, FitsParts
 use Rattle.lx_cap_lists.specs.Tables.{Key}
 use Rattle.lx_cap_lists.specs.declared.entry.Spot.TheVariants.{Part}
 use Rattle.lx_cap_lists.specs.declared.holder.Holder.{Holder}
-use Rattle.lx_cap_lists.proofs.WalkLemmas.{same_from_eq}
-
-and_yes : (a b : Bool) → (a && b) ≡ true → (a ≡ true) × (b ≡ true)
-and_yes true true e = (refl, refl)
-and_yes true false e = absurd (cc)
-and_yes false b e = absurd (cc)
-
-and_join : (a b : Bool) → a ≡ true → b ≡ true → (a && b) ≡ true
-and_join true true e f = refl
-and_join true false e f = f
-and_join false b e f = e
+use Rattle.lx_cap_lists.proofs.TakenLemmas.{same_some}
 
 all_without : (p : Entry → Bool) (es : List (ℕ × Entry)) (n : ℕ) → all_nodes p es ≡ true → all_nodes p (without n es) ≡ true
 all_without p [] n h = refl
 all_without p (e ∷ es) n h =
-    let both = and_yes (p e.1) (all_nodes p es) h in
+    let both = and_parts (p e.1) (all_nodes p es) h in
     let rest = all_without p es n both.1 in
-    elim (nat_eq n e.0) as (λ t. all_nodes p (cond t (without n es) (e ∷ without n es)) ≡ true) [ true ↦ rest | false ↦ and_join (p e.1) (all_nodes p (without n es)) both.0 rest ]
+    elim (nat_eq n e.0) as (λ t. all_nodes p (cond t (without n es) (e ∷ without n es)) ≡ true) [ true ↦ rest | false ↦ and_from (p e.1) (all_nodes p (without n es)) both.0 rest ]
 
 all_with : (p : Entry → Bool) (es : List (ℕ × Entry)) (n : ℕ) (v w : Entry) → p w ≡ p v → ((xs : List (ℕ × Entry)) (u : Entry) (ys : List (ℕ × Entry)) → es ≡ xs ++ (n, u) ∷ ys → u ≡ v)
     → all_nodes p es ≡ true → all_nodes p (with_value n w es) ≡ true
 all_with p [] n v w same is h = refl
 all_with p (e ∷ es) n v w same is h =
-    let both = and_yes (p e.1) (all_nodes p es) h in
+    let both = and_parts (p e.1) (all_nodes p es) h in
     let rest = all_with p es n v w same (λ xs u ys at. is (e ∷ xs) u ys (ap (λ r. e ∷ r) at)) both.1 in
     (elim (nat_eq n e.0) as (λ t. nat_eq n e.0 ≡ t → all_nodes p (cond t ((n, w) ∷ with_value n w es) (e ∷ with_value n w es)) ≡ true) [
       | true ↦ λ at.
-          let own : e.1 ≡ v = is [] e.1 es (ap (λ k. (k, e.1) ∷ es) (sym (same_from_eq n e.0 at))) in
-          and_join (p w) (all_nodes p (with_value n w es)) (same ∙ (ap p (sym own) ∙ both.0)) rest
-      | false ↦ λ at. and_join (p e.1) (all_nodes p (with_value n w es)) both.0 rest
+          let own : e.1 ≡ v = is [] e.1 es (ap (λ k. (k, e.1) ∷ es) (sym (eqb-true n e.0 at))) in
+          and_from (p w) (all_nodes p (with_value n w es)) (same ∙ (ap p (sym own) ∙ both.0)) rest
+      | false ↦ λ at. and_from (p e.1) (all_nodes p (with_value n w es)) both.0 rest
     ]) refl
-
-same_some : (a b : Entry) (o : Option Entry) → o ≡ Some a → o ≡ Some b → a ≡ b
-same_some a b o e f = cc
 
 pub kept_with : (pool : Pool Entry) (n : ℕ) (v : Entry) (m : ℕ) → PoolLaws pool → value_in n pool.places ≡ Some v
     → (p : ListName → Entry → Bool) → Respects p → AreAll p pool → AreAll p (pool_with pool n (with_mask v m))
@@ -71,10 +59,10 @@ all_set : (p : Entry → Bool) (lists : List (List (ℕ × Entry))) (place l n :
 all_set p lists place l n e h own all =
     (elim (nat_eq l place) as (λ t. nat_eq l place ≡ t → all_nodes p (nodes_at (set lists place ((n, e) ∷ nodes_at lists place)) l) ≡ true) [
       | true ↦ λ f.
-          let same = same_from_eq l place f in
+          let same = eqb-true l place f in
           ap (λ k. all_nodes p (nodes_at (set lists place ((n, e) ∷ nodes_at lists place)) k)) same
           ∙ (ap (all_nodes p) (get_or-set_same lists place ((n, e) ∷ nodes_at lists place) [] h)
-          ∙ and_join (p e) (all_nodes p (nodes_at lists place)) (own same) (ap (λ k. all_nodes p (nodes_at lists k)) (sym same) ∙ all))
+          ∙ and_from (p e) (all_nodes p (nodes_at lists place)) (own same) (ap (λ k. all_nodes p (nodes_at lists k)) (sym same) ∙ all))
       | false ↦ λ f. ap (all_nodes p) (get_or-set_other lists place l ((n, e) ∷ nodes_at lists place) [] (λ same. grind (arith, nat_tests, f, same))) ∙ all
     ]) refl
 

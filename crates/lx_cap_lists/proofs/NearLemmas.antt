@@ -1,6 +1,7 @@
 -- The next byte that is owned, in the part of the last one or in the next part.
-use Rattle.std.proofs.Common.{◌≡◌, ℕ, ◌+◌, ◌/◌, ◌%◌, ◌<◌, ◌≤◌, Bool, true, false, ◌&&◌, nat_eq, nat_lt, nat_le, List, Some, None, refl, sym, ap, ◌∙◌, arith}
+use Rattle.std.proofs.Common.{◌≡◌, ℕ, ◌+◌, ◌/◌, ◌%◌, ◌<◌, ◌≤◌, Bool, true, false, ◌&&◌, nat_eq, nat_lt, nat_le, List, Some, None, refl, sym, ap, ◌∙◌, arith, eqb-true}
 use Rattle.std.proofs.lemmas.Bool.Decides.{nat_tests}
+use Rattle.std.proofs.lemmas.Bool.{and_right, and_parts, and_from}
 use Rattle.lx_caps.specs.declared.Principal.{Principal}
 use Rattle.lx_caps.specs.declared.Atom.{Atom}
 use Rattle.lx_caps.specs.declared.Atom.TheVariants as atom
@@ -13,18 +14,12 @@ use Rattle.lx_cap_lists.specs.Entries.{bit_among}
 use Rattle.lx_cap_lists.specs.Holders.{held_by}
 use Rattle.lx_cap_lists.specs.Owned.{owned_from}
 use Rattle.lx_cap_lists.specs.Tables.{Key, part_list, place_of, bit_of, shown_at}
-use Rattle.lx_cap_lists.proofs.HeldLemmas.{and_yes, and_join}
-use Rattle.lx_cap_lists.proofs.WalkLemmas.{same_from_eq}
 
 and_swap : (a b : Bool) → (a && b) ≡ (b && a)
 and_swap true true = refl
 and_swap true false = refl
 and_swap false true = refl
 and_swap false false = refl
-
-and_nothing : (a b : Bool) → b ≡ false → (a && b) ≡ false
-and_nothing true b e = e
-and_nothing false b e = refl
 
 module _ (places : List (List (ℕ × Entry))) (who : Principal) (part from : ℕ) where
   -- the bits of a part from one on are what is owned there
@@ -33,7 +28,7 @@ module _ (places : List (List (ℕ × Entry))) (who : Principal) (part from : �
   part_is place all bits at has_all above (atom.Byte b) =
       (elim (nat_eq part (b / 64)) as (λ t. nat_eq part (b / 64) ≡ t → (t && is_set bits (b % 64)) ≡ (t && (nat_le from (b % 64) && shown_at places (part_list (b / 64)) (held_by who) (b % 64)))) [
         | true ↦ λ e.
-            let list : part_list (b / 64) ≡ Some place = ap part_list (sym (same_from_eq part (b / 64) e)) ∙ at in
+            let list : part_list (b / 64) ≡ Some place = ap part_list (sym (eqb-true part (b / 64) e)) ∙ at in
             above (b % 64) (omega arith)
             ∙ (ap (λ t. t && nat_le from (b % 64)) (has_all (b % 64))
             ∙ (and_swap (bit_among (held_by who) (nodes_at places place) (b % 64)) (nat_le from (b % 64))
@@ -47,8 +42,8 @@ module _ (places : List (List (ℕ × Entry))) (who : Principal) (part from : �
   none_there none (atom.Byte b) =
       (elim (nat_eq part (b / 64)) as (λ t. nat_eq part (b / 64) ≡ t → (t && (nat_le from (b % 64) && shown_at places (part_list (b / 64)) (held_by who) (b % 64))) ≡ false) [
         | true ↦ λ e.
-            let list : part_list (b / 64) ≡ None = ap part_list (sym (same_from_eq part (b / 64) e)) ∙ none in
-            and_nothing (nat_le from (b % 64)) (shown_at places (part_list (b / 64)) (held_by who) (b % 64)) (ap (λ o. shown_at places o (held_by who) (b % 64)) list)
+            let list : part_list (b / 64) ≡ None = ap part_list (sym (eqb-true part (b / 64) e)) ∙ none in
+            and_right (nat_le from (b % 64)) (shown_at places (part_list (b / 64)) (held_by who) (b % 64)) (ap (λ o. shown_at places o (held_by who) (b % 64)) list)
         | false ↦ λ e. refl
       ]) refl
   none_there none (atom.Call a) = refl
@@ -78,11 +73,11 @@ module _ (places : List (List (ℕ × Entry))) (who : Principal) (atoms : List K
   -- the next byte lies in the part of the last one
   pub found_here : (x : Atom) → IsFirst (owned_from places who (last / 64) (last % 64 + 1)) (Some x) → IsFirst wanted (Some x)
   found_here (atom.Byte a) first =
-      let both = and_yes (nat_eq (last / 64) (a / 64)) (nat_le (last % 64 + 1) (a % 64) && owned (atom.Byte a)) first.0 in
-      let more = and_yes (nat_le (last % 64 + 1) (a % 64)) (owned (atom.Byte a)) both.1 in
-      let here : last / 64 ≡ a / 64 = same_from_eq (last / 64) (a / 64) both.0 in
+      let both = and_parts (nat_eq (last / 64) (a / 64)) (nat_le (last % 64 + 1) (a % 64) && owned (atom.Byte a)) first.0 in
+      let more = and_parts (nat_le (last % 64 + 1) (a % 64)) (owned (atom.Byte a)) both.1 in
+      let here : last / 64 ≡ a / 64 = eqb-true (last / 64) (a / 64) both.0 in
       let high : last % 64 + 1 ≤ a % 64 = grind (arith, nat_tests, more) in (
-        and_join (nat_lt last a) (owned (atom.Byte a)) (grind (arith, nat_tests, here, high)) more.1,
+        and_from (nat_lt last a) (owned (atom.Byte a)) (grind (arith, nat_tests, here, high)) more.1,
         none_before a (λ c less behind.
             not_owned (last / 64) (last % 64 + 1) c (first.1 (atom.Byte c) (grind (arith, nat_tests, less))) (grind (arith, nat_tests, less, behind, here)) (grind (arith, nat_tests, less, behind, here))),
       )
@@ -92,10 +87,10 @@ module _ (places : List (List (ℕ × Entry))) (who : Principal) (atoms : List K
   -- or in the next one
   pub found_next : (x : Atom) → IsFirst (owned_from places who (last / 64) (last % 64 + 1)) None → IsFirst (owned_from places who (last / 64 + 1) 0) (Some x) → IsFirst wanted (Some x)
   found_next (atom.Byte a) none first =
-      let both = and_yes (nat_eq (last / 64 + 1) (a / 64)) (nat_le 0 (a % 64) && owned (atom.Byte a)) first.0 in
-      let more = and_yes (nat_le 0 (a % 64)) (owned (atom.Byte a)) both.1 in
-      let here : last / 64 + 1 ≡ a / 64 = same_from_eq (last / 64 + 1) (a / 64) both.0 in (
-        and_join (nat_lt last a) (owned (atom.Byte a)) (grind (arith, nat_tests, here)) more.1,
+      let both = and_parts (nat_eq (last / 64 + 1) (a / 64)) (nat_le 0 (a % 64) && owned (atom.Byte a)) first.0 in
+      let more = and_parts (nat_le 0 (a % 64)) (owned (atom.Byte a)) both.1 in
+      let here : last / 64 + 1 ≡ a / 64 = eqb-true (last / 64 + 1) (a / 64) both.0 in (
+        and_from (nat_lt last a) (owned (atom.Byte a)) (grind (arith, nat_tests, here)) more.1,
         none_before a (λ c less behind. by c less behind here (nat_eq (last / 64) (c / 64)) refl),
       )
     where

@@ -1,8 +1,8 @@
 -- Nodes of different owners, each with a bit.
-use Rattle.std.proofs.Common.{◌≡◌, ◌≢◌, ℕ, zero, suc, ◌-◌, ◌<◌, ◌≤◌, ◌^◌, min, max, inl, inr, Bool, true, false, ◌||◌, nat_eq, nat_lt, bit_or, cond, List, [], ◌∷◌, ◌++◌, length, map, set, refl, sym, ap, ◌∙◌, subst, arith}
+use Rattle.std.proofs.Common.{◌≡◌, ◌≢◌, ℕ, zero, suc, ◌-◌, ◌<◌, ◌≤◌, ◌^◌, min, max, inl, inr, true, false, ◌||◌, nat_eq, nat_lt, bit_or, cond, List, [], ◌∷◌, ◌++◌, length, map, set, refl, sym, ap, ◌∙◌, subst, arith, eqb-true}
 use Rattle.std.specs.Int.{bit_at}
 use Rattle.std.proofs.lemmas.Bool.Decides.{nat_tests}
-use Rattle.std.proofs.lemmas.Bool.{cases_lt}
+use Rattle.std.proofs.lemmas.Bool.{cases_lt, or_from, or_left as or_true}
 use Rattle.std.proofs.lemmas.List.{get_or-set_same, get_or-set_other}
 use Rattle.std.proofs.lemmas.Nat.Bits.{same_from_bits, bit_at_above, bit_at_and, bit_at_or, bit_at-lt, bit_at-zero}
 use Rattle.lx_cap_lists.specs.declared.holder.Holder.{Holder}
@@ -13,22 +13,10 @@ use Rattle.lx_cap_lists.specs.declared.entry.Entry.{Entry}
 use Rattle.lx_cap_lists.specs.Bits.{is_set}
 use Rattle.lx_cap_lists.specs.Entries.{is_holder, with_mask, left_of, cut_all}
 use Rattle.lx_cap_lists.specs.Kept.{width_of, IsMask, AreNodes, AllNodes}
-use Rattle.lx_cap_lists.proofs.Masks.{set_in_either}
-use Rattle.lx_cap_lists.proofs.WalkLemmas.{same_from_eq}
 use Rattle.lx_cap_lists.proofs.HeldLemmas.{lacks}
 use Rattle.lx_cap_lists.proofs.BitLemmas.{none_set}
-
-or_left : (a b : Bool) → (a || b) ≡ false → a ≡ false
-or_left false b e = refl
-or_left true b e = e
-
-or_right : (a b : Bool) → (a || b) ≡ false → b ≡ false
-or_right false b e = e
-or_right true b e = absurd (cc)
-
-or_none : (a b : Bool) → a ≡ false → b ≡ false → (a || b) ≡ false
-or_none false b e f = f
-or_none true b e f = absurd (cc)
+use Rattle.lx_cap_lists.proofs.MoreParts.{either_set}
+use Rattle.lx_caps.proofs.Tests.{none_left, none_right}
 
 -- a number that is not 0 has a bit
 pub some_bit : (w m : ℕ) → ((k : ℕ) → w ≤ k → bit_at m k ≡ 0) → nat_eq m 0 ≡ false → IsMask w m
@@ -57,10 +45,10 @@ left_high mask bits k out =
 holder_cut : (q : Holder) (bits : ℕ) (es : List (ℕ × Entry)) → is_holder q es ≡ false → is_holder q (cut_all bits es) ≡ false
 holder_cut q bits [] h = refl
 holder_cut q bits (e ∷ es) h =
-    let rest = holder_cut q bits es (or_right (same_holder q e.1.holder) (is_holder q es) h) in
+    let rest = holder_cut q bits es (none_right (same_holder q e.1.holder) (is_holder q es) h) in
     elim (nat_eq (left_of e.1.mask bits) 0) as (λ t. is_holder q (cond t (cut_all bits es) ((e.0, with_mask e.1 (left_of e.1.mask bits)) ∷ cut_all bits es)) ≡ false) [
       | true ↦ rest
-      | false ↦ or_none (same_holder q e.1.holder) (is_holder q (cut_all bits es)) (or_left (same_holder q e.1.holder) (is_holder q es) h) rest
+      | false ↦ or_from (same_holder q e.1.holder) (is_holder q (cut_all bits es)) (none_left (same_holder q e.1.holder) (is_holder q es) h) rest
     ]
 
 pub nodes_cut : (w bits : ℕ) (es : List (ℕ × Entry)) → AreNodes w es → AreNodes w (cut_all bits es)
@@ -75,12 +63,8 @@ nodes_cut w bits (e ∷ es) h =
 holder_widened : (q : Holder) (xs ys : List (ℕ × Entry)) (n : ℕ) (v : Entry) (m : ℕ) → is_holder q (xs ++ (n, v) ∷ ys) ≡ false → is_holder q (xs ++ (n, with_mask v m) ∷ ys) ≡ false
 holder_widened q [] ys n v m h = h
 holder_widened q (x ∷ xs) ys n v m h =
-    or_none (same_holder q x.1.holder) (is_holder q (xs ++ (n, with_mask v m) ∷ ys)) (or_left (same_holder q x.1.holder) (is_holder q (xs ++ (n, v) ∷ ys)) h)
-    (holder_widened q xs ys n v m (or_right (same_holder q x.1.holder) (is_holder q (xs ++ (n, v) ∷ ys)) h))
-
-or_true : (a b : Bool) → a ≡ true → (a || b) ≡ true
-or_true true b e = refl
-or_true false b e = absurd (cc)
+    or_from (same_holder q x.1.holder) (is_holder q (xs ++ (n, with_mask v m) ∷ ys)) (none_left (same_holder q x.1.holder) (is_holder q (xs ++ (n, v) ∷ ys)) h)
+    (holder_widened q xs ys n v m (none_right (same_holder q x.1.holder) (is_holder q (xs ++ (n, v) ∷ ys)) h))
 
 -- a bit of either number
 high_either : (m v more k : ℕ) → m ≡ bit_or v more → bit_at v k ≡ 0 → bit_at more k ≡ 0 → bit_at m k ≡ 0
@@ -90,7 +74,7 @@ mask_widened : (w v m more : ℕ) → m ≡ bit_or v more → ((k : ℕ) → w �
 mask_widened w v m more is high mask = record {
   bit = mask.bit;
   within = mask.within;
-  set = ap (λ n. is_set n mask.bit) is ∙ (set_in_either v more mask.bit ∙ or_true (is_set v mask.bit) (is_set more mask.bit) mask.set);
+  set = ap (λ n. is_set n mask.bit) is ∙ (either_set v more mask.bit ∙ or_true (is_set v mask.bit) (is_set more mask.bit) mask.set);
   none = λ k h. high_either m v more k is (mask.none k h) (high k h);
 }
 
@@ -102,10 +86,10 @@ nodes_widened w (x ∷ xs) ys n v m more is high h = (holder_widened x.1.holder 
 holder_without : (q : Holder) (n : ℕ) (es : List (ℕ × Entry)) → is_holder q es ≡ false → is_holder q (without n es) ≡ false
 holder_without q n [] h = refl
 holder_without q n (e ∷ es) h =
-    let rest = holder_without q n es (or_right (same_holder q e.1.holder) (is_holder q es) h) in
+    let rest = holder_without q n es (none_right (same_holder q e.1.holder) (is_holder q es) h) in
     elim (nat_eq n e.0) as (λ t. is_holder q (cond t (without n es) (e ∷ without n es)) ≡ false) [
       | true ↦ rest
-      | false ↦ or_none (same_holder q e.1.holder) (is_holder q (without n es)) (or_left (same_holder q e.1.holder) (is_holder q es) h) rest
+      | false ↦ or_from (same_holder q e.1.holder) (is_holder q (without n es)) (none_left (same_holder q e.1.holder) (is_holder q es) h) rest
     ]
 
 pub nodes_without : (w n : ℕ) (es : List (ℕ × Entry)) → AreNodes w es → AreNodes w (without n es)
@@ -123,7 +107,7 @@ pub nodes_at_one : (old new : List (List (ℕ × Entry))) (place : ℕ) → (Are
 unfolding AllNodes
 nodes_at_one old new place here others all l =
     (elim (nat_eq l place) as (λ t. nat_eq l place ≡ t → AreNodes (width_of l) (nodes_at new l)) [
-      | true ↦ λ e. let same = same_from_eq l place e in subst (λ k. AreNodes (width_of k) (nodes_at new k)) (sym same) (here (all place))
+      | true ↦ λ e. let same = eqb-true l place e in subst (λ k. AreNodes (width_of k) (nodes_at new k)) (sym same) (here (all place))
       | false ↦ λ e. subst (AreNodes (width_of l)) (sym (others l (λ same. grind (arith, nat_tests, e, same)))) (all l)
     ]) refl
 

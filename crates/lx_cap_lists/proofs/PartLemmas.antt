@@ -1,13 +1,14 @@
 -- The parts of memory and their lists.
-use Rattle.std.proofs.Common.{◌≡◌, ◌≢◌, ℕ, suc, ◌+◌, ◌-◌, ◌/◌, ◌%◌, ◌^◌, ◌<◌, Bool, true, false, not, ◌&&◌, ◌||◌, nat_eq, nat_lt, nat_le, cond, List, length, Option, Some, None, refl, sym, ap, ◌∙◌, arith}
+use Rattle.std.proofs.Common.{◌≡◌, ◌≢◌, ℕ, suc, ◌+◌, ◌-◌, ◌/◌, ◌%◌, ◌<◌, Bool, true, false, not, ◌&&◌, ◌||◌, nat_eq, nat_lt, nat_le, cond, List, length, Option, Some, None, refl, sym, ap, ◌∙◌, arith}
 use Rattle.std.proofs.lemmas.Bool.Decides.{nat_tests}
-use Rattle.lx_caps.specs.Regions.{covers, mapped}
+use Rattle.lx_caps.specs.Regions.{covers}
 use Rattle.lx_cap_nodes.specs.Words.{nodes_at}
 use Rattle.lx_cap_lists.specs.Pieces.{lies_in}
 use Rattle.lx_cap_lists.specs.declared.piece.Piece.{Piece}
 use Rattle.lx_cap_lists.specs.declared.entry.Entry.{Entry}
 use Rattle.lx_cap_lists.specs.Tables.{part_list, count_in, work_in}
 use Rattle.lx_cap_lists.proofs.Ranges.{covered, covered_more, none_before, all_before}
+use Rattle.lx_caps.proofs.Tests.{and_true}
 
 -- the part of a list
 abbrev part_of : ℕ → ℕ
@@ -39,10 +40,6 @@ piece_bit piece part at size b t same lies is bit =
     let here : nat_eq piece.part (b / 64) ≡ true = ap (λ p. nat_eq p (b / 64)) same ∙ is in
     bit ∙ (sym (ap (λ c. c && (nat_le piece.from (b % 64) && nat_lt (b % 64) piece.to)) here) ∙ lies)
 
-and_true : (r : Bool) → r ≡ (r && true)
-and_true true = refl
-and_true false = refl
-
 -- bytes that are taken
 untouched : (r c : Bool) → r ≡ (r && not (c && false))
 untouched true true = refl
@@ -51,11 +48,6 @@ untouched false c = refl
 
 pub not_taken : (r c e : Bool) → e ≡ false → r ≡ (r && not (c && e))
 not_taken r c e is = untouched r c ∙ ap (λ (t : Bool). r && not (c && t)) (sym is)
-
-pub not_given : (a c e r : Bool) → e ≡ false → r ≡ ((a && (c && e)) || r)
-not_given true true e r is = ap (λ (t : Bool). t || r) (sym is)
-not_given true false e r is = refl
-not_given false c e r is = refl
 
 both_taken : (r c e : Bool) → ((r && not c) && not e) ≡ (r && not (c || e))
 both_taken false c e = refl
@@ -74,39 +66,12 @@ taken_more r now new at size part b was is =
 pub taken_all : (r now : Bool) (at size end b : ℕ) → 0 < size → end ≡ (at + size + 63) / 64 → now ≡ (r && not (covered at size end b)) → now ≡ (r && not (covers at size b))
 taken_all r now at size end b some is was = was ∙ ap (λ (t : Bool). r && not t) (all_before at size b end some is)
 
--- bytes that are given
-or_given : (a c e r : Bool) → ((a && e) || ((a && c) || r)) ≡ ((a && (c || e)) || r)
-or_given false c e r = refl
-or_given true true true r = refl
-or_given true true false r = refl
-or_given true false true r = refl
-or_given true false false r = refl
-
-pub given_none : (a r : Bool) (at size b : ℕ) → r ≡ ((a && covered at size (at / 64) b) || r)
-given_none true r at size b = ap (λ (t : Bool). t || r) (sym (none_before at size b))
-given_none false r at size b = refl
-
-pub given_more : (a r now new : Bool) (at size part b : ℕ) → now ≡ ((a && covered at size part b) || r) → new ≡ ((a && (covers at size b && nat_eq part (b / 64))) || now) → new ≡ ((a && covered at size (part + 1) b) || r)
-given_more a r now new at size part b was is =
-    is ∙ ap (λ (t : Bool). (a && (covers at size b && nat_eq part (b / 64))) || t) was
-    ∙ or_given a (covered at size part b) (covers at size b && nat_eq part (b / 64)) r
-    ∙ ap (λ (t : Bool). (a && t) || r) (sym (covered_more at size part b))
-
-pub given_all : (a r now : Bool) (at size end b : ℕ) → 0 < size → end ≡ (at + size + 63) / 64 → now ≡ ((a && covered at size end b) || r) → now ≡ ((a && covers at size b) || r)
-given_all a r now at size end b some is was = was ∙ ap (λ (t : Bool). (a && t) || r) (all_before at size b end some is)
-
-pub ne_from_test : (m n : ℕ) → nat_eq m n ≡ false → m ≢ n
-ne_from_test m n e = λ same. grind (arith, nat_tests, e, same)
-
 -- the work of one part more
 pub work_more : (places : List (List (ℕ × Entry))) (part end : ℕ) → part < end → work_in places part (end - part) ≡ 1 + count_in places (part_list part) + work_in places (part + 1) (end - (part + 1))
 work_more places part end lt = ap (work_in places part) (let e : end - part ≡ suc (end - (part + 1)) = omega arith in e)
 
-pub placed_within : (at size : ℕ) → mapped at size ≡ true → 0 < size → at + size + 63 < 2 ^ 64
-placed_within at size is some = grind (arith, nat_tests, is, some)
-
 -- a part's count by lists that are the same there
-same_count_by : (first now : List (List (ℕ × Entry))) (o : Option ℕ) → ((k : ℕ) → o ≡ Some k → nodes_at now k ≡ nodes_at first k) → count_in now o ≡ count_in first o
+pub same_count_by : (first now : List (List (ℕ × Entry))) (o : Option ℕ) → ((k : ℕ) → o ≡ Some k → nodes_at now k ≡ nodes_at first k) → count_in now o ≡ count_in first o
 same_count_by first now None h = refl
 same_count_by first now (Some k) h = ap length (h k refl)
 

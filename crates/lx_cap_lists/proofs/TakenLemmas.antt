@@ -1,6 +1,7 @@
 -- Nodes that are taken out: what is left, and what others have stays.
-use Rattle.std.proofs.Common.{◌≡◌, ◌≢◌, ℕ, Bool, true, false, not, ◌&&◌, ◌||◌, nat_eq, cond, List, [], ◌∷◌, ◌++◌, map, Option, Some, None, refl, sym, ap, ◌∙◌}
+use Rattle.std.proofs.Common.{◌≡◌, ◌≢◌, ℕ, Bool, true, false, ◌&&◌, ◌||◌, nat_eq, cond, List, [], ◌∷◌, ◌++◌, map, Option, Some, None, refl, sym, ap, ◌∙◌, eqb-true}
 use Rattle.std.proofs.Math.ListN as listn
+use Rattle.std.proofs.lemmas.Bool.{and_parts}
 use Rattle.lx_cap_nodes.specs.declared.pool.Family.TheVariants as family
 use Rattle.lx_cap_nodes.specs.Names.{first_of}
 use Rattle.lx_cap_nodes.specs.Pool.{Pool}
@@ -10,8 +11,6 @@ use Rattle.lx_cap_lists.specs.declared.holder.Holder.{Holder}
 use Rattle.lx_cap_lists.specs.Bits.{is_set}
 use Rattle.lx_cap_lists.specs.Entries.{gives_bit, bit_among}
 use Rattle.lx_cap_lists.specs.Kept.{all_nodes}
-use Rattle.lx_cap_lists.proofs.WalkLemmas.{same_from_eq}
-use Rattle.lx_cap_lists.proofs.HeldLemmas.{and_yes}
 
 -- a list by its first node
 pub first_split : (es : List (ℕ × Entry)) (n : ℕ) → first_of (names es) ≡ Some n → (v : Entry) × (ys : List (ℕ × Entry)) × (es ≡ (n, v) ∷ ys)
@@ -38,12 +37,12 @@ bit_without among n k (e ∷ es) out =
     let rest = bit_without among n k es (λ xs u ys is. out (e ∷ xs) u ys (ap (λ r. e ∷ r) is)) in
     (elim (nat_eq n e.0) as (λ t. nat_eq n e.0 ≡ t → bit_among among (cond t (without n es) (e ∷ without n es)) k ≡ (gives_bit among k e.1 || bit_among among es k)) [
       | true ↦ λ at.
-          let gone : gives_bit among k e.1 ≡ false = no_bit among k e.1 (out [] e.1 es (ap (λ j. (j, e.1) ∷ es) (sym (same_from_eq n e.0 at)))) in
+          let gone : gives_bit among k e.1 ≡ false = no_bit among k e.1 (out [] e.1 es (ap (λ j. (j, e.1) ∷ es) (sym (eqb-true n e.0 at)))) in
           rest ∙ sym (ap (λ b. b || bit_among among es k) gone)
       | false ↦ λ at. ap (λ b. gives_bit among k e.1 || b) rest
     ]) refl
 
-same_some : (a b : Entry) (o : Option Entry) → o ≡ Some a → o ≡ Some b → a ≡ b
+pub same_some : (a b : Entry) (o : Option Entry) → o ≡ Some a → o ≡ Some b → a ≡ b
 same_some a b o e f = cc
 
 pub bits_stay : (pool : Pool Entry) (new : List (List (ℕ × Entry))) (n : ℕ) (v : Entry) → PoolLaws pool → value_in n pool.places ≡ Some v → new ≡ map (without n) pool.places
@@ -57,12 +56,4 @@ pub still_empty : (old new : List (List (ℕ × Entry))) (n : ℕ) → new ≡ m
 still_empty old new n is l none = ap (λ ls. nodes_at ls l) is ∙ (listn.get_or-map (without n) old l [] ∙ ap (without n) none)
 
 pub all_rest : (p : Entry → Bool) (e : ℕ × Entry) (es : List (ℕ × Entry)) → all_nodes p (e ∷ es) ≡ true → (p e.1 ≡ true) × (all_nodes p es ≡ true)
-all_rest p e es h = and_yes (p e.1) (all_nodes p es) h
-
-pub not_true : (b : Bool) → not b ≡ true → b ≡ false
-not_true true e = absurd (cc)
-not_true false e = refl
-
-pub not_false : (b : Bool) → b ≡ false → not b ≡ true
-not_false true e = absurd (cc)
-not_false false e = refl
+all_rest p e es h = and_parts (p e.1) (all_nodes p es) h

@@ -1,12 +1,13 @@
 -- What each change of the links does to the lists.
-use Rattle.std.proofs.Common.{◌≡◌, ◌≢◌, ℕ, zero, suc, ◌+◌, ◌<◌, ◌≤◌, Bool, true, false, ◌||◌, cond, List, [], ◌∷◌, length, map, get_or, set, Option, Some, None, refl, sym, ap, ◌∙◌, subst, arith, length-set}
+use Rattle.std.proofs.Common.{◌≡◌, ◌≢◌, ℕ, zero, suc, ◌+◌, ◌<◌, ◌≤◌, Bool, true, false, ◌||◌, cond, List, [], ◌∷◌, length, map, get_or, set, Option, Some, None, refl, sym, ap, ◌∙◌, subst, arith, length-set, eqb-true}
 use Rattle.std.specs.Prelude.{nat_eq}
 use Rattle.std.proofs.lemmas.List.{get_or-set_same, get_or-set_other, get_or_past, length-map}
 use Rattle.std.proofs.Math.ListN as listn
+use Rattle.std.proofs.lemmas.Bool.{or_right as or_true}
 use Rattle.lx_cap_nodes.specs.declared.links.Link.{Link}
 use Rattle.lx_cap_nodes.specs.Links.{at_list, no_link, link_at, head_at, with_previous, with_next, passing, heads_passing, IsWithin, Below, Fits, IsList, IsFamily}
 use Rattle.lx_cap_nodes.specs.Names.{has, is_listed, first_of, next_of, next_in, drop_name, Apart}
-use Rattle.lx_cap_nodes.proofs.LinkLemmas.{same_from_eq, eq_self, ne_from_eq, eq_from_ne, or_left, or_right, or_other, or_true, link-same, link-other, has_apart, fits-other, IsOut, fits-with_next, fits-with_previous, length-with_next, length-with_previous, fits-before, list_is, below_has, first_has, previous_has, next_is, next_has, drop_out, apart_drop, below_drop, below_more}
+use Rattle.lx_cap_nodes.proofs.LinkLemmas.{eq_self, ne_from_eq, eq_from_ne, or_left, or_right, or_other, link-same, link-other, has_apart, fits-other, IsOut, fits-with_next, fits-with_previous, length-with_next, length-with_previous, fits-before, list_is, below_has, first_has, previous_has, next_is, next_has, drop_out, apart_drop, below_drop, below_more}
 
 -- a list without the node's number where it is the first
 unlink_first : (links : List Link) (l : ℕ) (b : Option ℕ) (m : ℕ) (ns : List ℕ) → Fits links l b (m ∷ ns) → Apart (m ∷ ns) → Below (length links) (m ∷ ns) → IsOut b ns → Fits (passing links (link_at links m)) l b ns
@@ -50,8 +51,8 @@ stays_linked links l b m n (k ∷ ns) fits apart below ne «in» =
     link-with_previous (with_next links x.previous x.next) x.next x.previous m behind
     ∙ (elim (nat_eq n k) as (λ t. nat_eq n k ≡ t → link_at (with_next links x.previous x.next) m ≡ record { previous = b; next = first_of (cond t (drop_name n ns) (k ∷ drop_name n ns)); list = l }) [
       | true ↦ λ e.
-          let at : x ≡ record { previous = Some m; next = first_of ns; list = l } = ap (λ j. link_at links j) (same_from_eq n k e) ∙ fits.1.0 in
-          let gone : drop_name n ns ≡ ns = drop_out n ns (subst (λ j. has j ns ≡ false) (sym (same_from_eq n k e)) apart.1.0) in
+          let at : x ≡ record { previous = Some m; next = first_of ns; list = l } = ap (λ j. link_at links j) (eqb-true n k e) ∙ fits.1.0 in
+          let gone : drop_name n ns ≡ ns = drop_out n ns (subst (λ j. has j ns ≡ false) (sym (eqb-true n k e)) apart.1.0) in
           subst (λ (y : Link). link_at (with_next links y.previous y.next) m ≡ record { previous = b; next = first_of (drop_name n ns); list = l }) (sym at)
           (link-same links m _ below.0 ∙ (ap (λ (y : Link). record { previous = y.previous; next = first_of ns; list = y.list }) fits.0 ∙ ap (λ js. record { previous = b; next = first_of js; list = l }) (sym gone)))
       | false ↦ λ e.
@@ -68,7 +69,7 @@ unlink_fits links l b n [] fits apart below out «in» = absurd (cc)
 unlink_fits links l b n (m ∷ ns) fits apart below out «in» =
     (elim (nat_eq n m) as (λ t. nat_eq n m ≡ t → Fits (passing links (link_at links n)) l b (cond t (drop_name n ns) (m ∷ drop_name n ns))) [
       | true ↦ λ e.
-          let same = same_from_eq n m e in
+          let same = eqb-true n m e in
           let gone : drop_name n ns ≡ ns = drop_out n ns (subst (λ j. has j ns ≡ false) (sym same) apart.0) in
           subst (λ js. Fits (passing links (link_at links n)) l b js) (sym gone)
           (subst (λ j. Fits (passing links (link_at links j)) l b ns) (sym same) (unlink_first links l b m ns fits apart below (out_less b m ns out)))
@@ -153,7 +154,7 @@ put_family links heads lists l n family in_use within fresh =
       each = λ k. (elim (nat_eq k l) as (λ t. nat_eq k l ≡ t → IsList after (head_at (set heads l (Some n)) k) k (at_list (set lists l (n ∷ at_list lists l)) k)) [
         | true ↦ λ e.
             let lt : l < length lists = subst (λ m. l < m) (sym family.count) in_use in
-            subst (λ j. IsList after (head_at (set heads l (Some n)) j) j (at_list (set lists l (n ∷ at_list lists l)) j)) (sym (same_from_eq k l e))
+            subst (λ j. IsList after (head_at (set heads l (Some n)) j) j (at_list (set lists l (n ∷ at_list lists l)) j)) (sym (eqb-true k l e))
             (subst (λ (o : Option ℕ). IsList after o l (at_list (set lists l (n ∷ at_list lists l)) l)) (sym (get_or-set_same heads l (Some n) None in_use))
             (subst (λ ns. IsList after (Some n) l ns) (sym (get_or-set_same lists l (n ∷ at_list lists l) [] lt))
             (put_here links (head_at heads l) l (at_list lists l) n here (unlisted_at lists n fresh l) within)))
@@ -171,7 +172,7 @@ put_family links heads lists l n family in_use within fresh =
 first_stays : (links : List Link) (l n : ℕ) (m : ℕ) (ns : List ℕ) (q : ℕ) → Fits links l None (m ∷ ns) → has n (m ∷ ns) ≡ true → (link_at links n).previous ≡ Some q → first_of (drop_name n (m ∷ ns)) ≡ Some m
 first_stays links l n m ns q fits «in» previous =
     (elim (nat_eq n m) as (λ t. nat_eq n m ≡ t → first_of (cond t (drop_name n ns) (m ∷ drop_name n ns)) ≡ Some m) [
-      | true ↦ λ e. let at : (link_at links n).previous ≡ None = ap (λ j. (link_at links j).previous) (same_from_eq n m e) ∙ ap (λ (x : Link). x.previous) fits.0 in absurd (cc (at, previous))
+      | true ↦ λ e. let at : (link_at links n).previous ≡ None = ap (λ j. (link_at links j).previous) (eqb-true n m e) ∙ ap (λ (x : Link). x.previous) fits.0 in absurd (cc (at, previous))
       | false ↦ λ e. refl
     ]) refl
 
@@ -179,7 +180,7 @@ first_goes : (links : List Link) (l n : ℕ) (m : ℕ) (ns : List ℕ) → Fits 
 first_goes links l n m ns fits apart «in» previous =
     (elim (nat_eq n m) as (λ t. nat_eq n m ≡ t → first_of (cond t (drop_name n ns) (m ∷ drop_name n ns)) ≡ (link_at links n).next) [
       | true ↦ λ e.
-          let same = same_from_eq n m e in
+          let same = eqb-true n m e in
           ap first_of (drop_out n ns (subst (λ j. has j ns ≡ false) (sym same) apart.0)) ∙ sym (ap (λ j. (link_at links j).next) same ∙ ap (λ (x : Link). x.next) fits.0)
       | false ↦ λ e. let found = previous_has links l m n ns fits.1 (or_other (nat_eq n m) (has n ns) «in» e) in absurd (cc (found.1, previous))
     ]) refl
@@ -193,7 +194,7 @@ previous_in : (links : List Link) (l n j : ℕ) (ns : List ℕ) → Fits links l
 previous_in links l n j [] fits «in» is = absurd (cc)
 previous_in links l n j (m ∷ ns) fits «in» is =
     (elim (nat_eq n m) as (λ t. nat_eq n m ≡ t → has j (m ∷ ns) ≡ true) [
-      | true ↦ λ e. let at : (link_at links n).previous ≡ None = ap (λ i. (link_at links i).previous) (same_from_eq n m e) ∙ ap (λ (x : Link). x.previous) fits.0 in absurd (cc (at, is))
+      | true ↦ λ e. let at : (link_at links n).previous ≡ None = ap (λ i. (link_at links i).previous) (eqb-true n m e) ∙ ap (λ (x : Link). x.previous) fits.0 in absurd (cc (at, is))
       | false ↦ λ e. let found = previous_has links l m n ns fits.1 (or_other (nat_eq n m) (has n ns) «in» e) in
           let same : found.0 ≡ j = cc (found.1, is) in subst (λ i. has i (m ∷ ns) ≡ true) same found.2
     ]) refl
@@ -247,7 +248,7 @@ out_family links heads lists n family listed =
       each = λ k. subst (λ ns. IsList after (head_at heads1 k) k ns) (sym (listn.get_or-map (drop_name n) lists k []))
           ((elim (nat_eq k l) as (λ t. nat_eq k l ≡ t → IsList after (head_at heads1 k) k (drop_name n (at_list lists k))) [
             | true ↦ λ e.
-                subst (λ j. IsList after (head_at heads1 j) j (drop_name n (at_list lists j))) (sym (same_from_eq k l e))
+                subst (λ j. IsList after (head_at heads1 j) j (drop_name n (at_list lists j))) (sym (eqb-true k l e))
                 (out_here links (head_at heads l) l (at_list lists l) n (head_at heads1 l) here found.2
                 (ap (λ j. head_at (heads_passing heads x.previous j x.next) l) at ∙ head_here heads x.previous l x.next in_use ∙ first_after links l n (at_list lists l) (head_at heads l) here found.2 x.previous refl))
             | false ↦ λ e.

@@ -1,15 +1,12 @@
 -- How the links change as a node comes and goes.
-use Rattle.std.proofs.Common.{◌≡◌, ◌≢◌, ℕ, zero, suc, ◌+◌, ◌<◌, ◌≤◌, Bool, true, false, ◌||◌, cond, eqb, List, [], ◌∷◌, ◌++◌, length, map, get_or, set, Option, Some, None, refl, sym, ap, ◌∙◌, subst, arith, length-set}
+use Rattle.std.proofs.Common.{◌≡◌, ◌≢◌, ℕ, zero, suc, ◌+◌, ◌<◌, ◌≤◌, Bool, true, false, ◌||◌, cond, eqb, List, [], ◌∷◌, ◌++◌, length, map, get_or, set, Option, Some, None, refl, sym, ap, ◌∙◌, subst, arith, length-set, eqb-true}
 use Rattle.std.specs.Prelude.{nat_eq}
 use Rattle.std.proofs.lemmas.Bool.Decides.{nat_tests}
 use Rattle.std.proofs.lemmas.List.{get_or-set_same, get_or-set_other, get_or_past, get_or-map, length-map, ext_get_or, get_or_append_left, length_push}
+use Rattle.std.proofs.lemmas.Bool.{or_right as or_true}
 use Rattle.lx_cap_nodes.specs.declared.links.Link.{Link}
 use Rattle.lx_cap_nodes.specs.Links.{at_list, no_link, link_at, head_at, with_previous, with_next, IsWithin, Below, Fits, IsList, IsFamily, walk, lists_of}
 use Rattle.lx_cap_nodes.specs.Names.{has, is_listed, first_of, next_of, next_in, drop_name, Apart}
-
--- tests on numbers
-pub same_from_eq : (m n : ℕ) → nat_eq m n ≡ true → m ≡ n
-same_from_eq m n e = grind (arith, nat_tests, e)
 
 pub eq_self : (n : ℕ) → nat_eq n n ≡ true
 eq_self n = grind (arith, nat_tests)
@@ -31,10 +28,6 @@ or_right true b e = absurd (cc)
 pub or_other : (a b : Bool) → (a || b) ≡ true → a ≡ false → b ≡ true
 or_other false b e f = e
 or_other true b e f = absurd (cc)
-
-pub or_true : (a b : Bool) → b ≡ true → (a || b) ≡ true
-or_true true b e = refl
-or_true false b e = e
 
 -- a written link is read back, and the others stay
 pub link-same : (links : List Link) (n : ℕ) (x : Link) → n < length links → link_at (set links n x) n ≡ x
@@ -88,7 +81,7 @@ pub list_is : (links : List Link) (l : ℕ) (before : Option ℕ) (ns : List ℕ
 list_is links l before [] n fits «in» = absurd (cc)
 list_is links l before (m ∷ ns) n fits «in» =
     (elim (nat_eq n m) as (λ b. nat_eq n m ≡ b → (link_at links n).list ≡ l) [
-      | true ↦ λ e. ap (λ k. (link_at links k).list) (same_from_eq n m e) ∙ ap (λ (x : Link). x.list) fits.0
+      | true ↦ λ e. ap (λ k. (link_at links k).list) (eqb-true n m e) ∙ ap (λ (x : Link). x.list) fits.0
       | false ↦ λ e. list_is links l (Some m) ns n fits.1 (or_other (nat_eq n m) (has n ns) «in» e)
     ]) refl
 
@@ -96,7 +89,7 @@ pub below_has : (bound : ℕ) (ns : List ℕ) (n : ℕ) → Below bound ns → h
 below_has bound [] n below «in» = absurd (cc)
 below_has bound (m ∷ ns) n below «in» =
     (elim (nat_eq n m) as (λ b. nat_eq n m ≡ b → n < bound) [
-      | true ↦ λ e. subst (λ k. k < bound) (sym (same_from_eq n m e)) below.0
+      | true ↦ λ e. subst (λ k. k < bound) (sym (eqb-true n m e)) below.0
       | false ↦ λ e. below_has bound ns n below.1 (or_other (nat_eq n m) (has n ns) «in» e)
     ]) refl
 
@@ -109,7 +102,7 @@ pub previous_has : (links : List Link) (l b n : ℕ) (ns : List ℕ) → Fits li
 previous_has links l b n [] fits «in» = absurd (cc)
 previous_has links l b n (m ∷ ns) fits «in» =
     (elim (nat_eq n m) as (λ t. nat_eq n m ≡ t → (q : ℕ) × ((link_at links n).previous ≡ Some q) × (has q (b ∷ m ∷ ns) ≡ true)) [
-      | true ↦ λ e. (b, ap (λ k. (link_at links k).previous) (same_from_eq n m e) ∙ ap (λ (x : Link). x.previous) fits.0, ap (λ t. t || has b (m ∷ ns)) (eq_self b))
+      | true ↦ λ e. (b, ap (λ k. (link_at links k).previous) (eqb-true n m e) ∙ ap (λ (x : Link). x.previous) fits.0, ap (λ t. t || has b (m ∷ ns)) (eq_self b))
       | false ↦ λ e. let found = previous_has links l m n ns fits.1 (or_other (nat_eq n m) (has n ns) «in» e) in
           (found.0, found.1, or_true (nat_eq found.0 b) (has found.0 (m ∷ ns)) found.2)
     ]) refl
@@ -118,7 +111,7 @@ pub next_is : (links : List Link) (l n : ℕ) (before : Option ℕ) (ns : List �
 next_is links l n before [] fits «in» = absurd (cc)
 next_is links l n before (m ∷ ns) fits «in» =
     (elim (nat_eq n m) as (λ t. nat_eq n m ≡ t → (link_at links n).next ≡ cond t (first_of ns) (next_of n ns)) [
-      | true ↦ λ e. ap (λ k. (link_at links k).next) (same_from_eq n m e) ∙ ap (λ (x : Link). x.next) fits.0
+      | true ↦ λ e. ap (λ k. (link_at links k).next) (eqb-true n m e) ∙ ap (λ (x : Link). x.next) fits.0
       | false ↦ λ e. next_is links l n (Some m) ns fits.1 (or_other (nat_eq n m) (has n ns) «in» e)
     ]) refl
 
@@ -180,7 +173,7 @@ pub length_drop : (n : ℕ) (ns : List ℕ) → Apart ns → length ns ≤ lengt
 length_drop n [] apart = omega arith
 length_drop n (m ∷ ns) apart =
     (elim (nat_eq n m) as (λ t. nat_eq n m ≡ t → suc (length ns) ≤ length (cond t (drop_name n ns) (m ∷ drop_name n ns)) + 1) [
-      | true ↦ λ e. let same = drop_out n ns (subst (λ k. has k ns ≡ false) (sym (same_from_eq n m e)) apart.0) in rw same (omega arith)
+      | true ↦ λ e. let same = drop_out n ns (subst (λ k. has k ns ≡ false) (sym (eqb-true n m e)) apart.0) in rw same (omega arith)
       | false ↦ λ e. omega (arith, length_drop n ns apart.1)
     ]) refl
 

@@ -19,20 +19,3 @@ mod links;
 mod pool;
 
 pub use pool::{Family, ListName, NodePool};
-use std::alloc::AllocError;
-use thiserror::Error;
-
-/// Want of memory: the call needed more memory than there was.
-#[derive(Clone, Copy, Debug, PartialEq, Eq, Error)]
-#[error("out of memory")]
-pub struct Memory;
-
-impl From<AllocError> for Memory {
-    ghost use Rattle.std.specs.Prelude.{◌≡◌};
-
-    ghost from_gives = { λ _ e. e ≡ record {} };
-
-    fn from(_: AllocError) -> Self {
-        Memory
-    }
-}

@@ -3,7 +3,7 @@ ghost use Rattle.std.specs.Prelude.{◌≡◌, ◌<◌, ◌∷◌, [], ◌++◌,
 ghost use Rattle.lx_cap_nodes.specs.Links.{IsFamily, IsWithin, at_list, heads_passing, lists_of, with_next, with_previous};
 ghost use Rattle.lx_cap_nodes.specs.Names.{drop_name, first_of, is_listed, next_in};
 
-use crate::Memory;
+use lx_words::Memory;
 
 /// What stands before a node and behind it in its list, and the number of that list.
 #[derive(Clone, Copy)]

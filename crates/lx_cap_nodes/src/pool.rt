@@ -5,21 +5,21 @@ ghost use Rattle.lx_cap_nodes.specs.Names.{first_of, next_in};
 ghost use Rattle.lx_cap_nodes.specs.Slots.{is_used, slot_at};
 ghost use Rattle.lx_cap_nodes.specs.Words.{IsInUse, PoolLaws, is_live, lists_in, names, nodes_at, nodes_of, value_in, with_list, without};
 
-use crate::Memory;
 use crate::links::{Link, add_empty, after_in, first_in, no_link, put_first, take_out};
+use lx_words::Memory;
 use std::alloc::Global;
 use std::marker::Model;
 use std::mem;
 
 /// The lists by places, or those by owners.
-#[derive(Clone, Copy, Debug, PartialEq, Eq)]
+#[derive(Clone, Copy)]
 pub enum Family {
     Place,
     Owner,
 }
 
 /// A list, by its family and its number there.
-#[derive(Clone, Copy, Debug, PartialEq, Eq)]
+#[derive(Clone, Copy)]
 pub enum ListName {
     Place(u64),
     Owner(u64),
@@ -57,7 +57,6 @@ impl<T> Slot<T> {
 }
 
 /// Nodes, each with a value and each at once in a list of places and in a list of owners. Nodes and lists have numbers.
-#[derive(Drop)]
 pub struct NodePool<T> {
     place_links: Vec<Link>,
     place_heads: Vec<Option<usize>>,
@@ -66,6 +65,19 @@ pub struct NodePool<T> {
     slots: Vec<Slot<T>>,
     // The numbers of the nodes that hold no value.
     free: Vec<usize>,
+}
+
+impl<T: Drop> Drop for NodePool<T> {
+    fn drop(self) {
+        let NodePool {
+            place_links: _,
+            place_heads: _,
+            owner_links: _,
+            owner_heads: _,
+            slots: _,
+            free: _,
+        } = self;
+    }
 }
 
 impl<T> Model for NodePool<T> {

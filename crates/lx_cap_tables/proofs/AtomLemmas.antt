@@ -15,10 +15,7 @@ use Rattle.lx_cap_lists.specs.Tables.{Key, same_key, call_key, ref_key, place_in
 use Rattle.lx_cap_lists.proofs.BitLemmas.{bit_cut}
 use Rattle.lx_cap_lists.proofs.KeyLemmas.{same_self, found_last, found_before, not_last, found_within, one_key}
 use Rattle.lx_cap_lists.proofs.PartLemmas.{list_below}
-
-pub behind_far : (o : Option ℕ) (l : ℕ) → behind_parts o ≡ Some l → 0xc000 ≤ l
-behind_far None l e = absurd (cc)
-behind_far (Some i) l e = let is : 0xc000 + i ≡ l = cc in omega (arith, is)
+use Rattle.lx_cap_lists.proofs.KeyPlaces.{behind_far, same_parts}
 
 pub list_within : (atoms : List Key) (k : Key) (i : ℕ) → place_in atoms k ≡ Some i → i < length atoms
 list_within atoms k i e = let h = (found_within (same_key k) 0 atoms i e).1 in omega (arith, h)
@@ -29,13 +26,6 @@ behind_within atoms k l e =
       | None ↦ λ p f. absurd (cc)
       | Some i ↦ λ p f. let is : 0xc000 + i ≡ l = cc in let h = list_within atoms k i p in omega (arith, is, h)
     ]) refl e
-
--- keys are the same where the test says so
-same_parts : (x y : Key) → same_key x y ≡ true → x ≡ y
-same_parts x y e =
-    let a : x.0 ≡ y.0 = grind (arith, nat_tests, e) in
-    let b : x.1 ≡ y.1 = grind (arith, nat_tests, e) in
-    λ j. (a j, b j)
 
 turned : (x y : Key) → same_key x y ≡ false → same_key y x ≡ false
 turned x y e = grind (arith, nat_tests, e)

@@ -1,23 +1,16 @@
 -- A test of some number below a bound.
 use Rattle.std.proofs.Common.{◌≡◌, ℕ, zero, suc, ◌+◌, ◌<◌, Bool, true, false, ◌&&◌, ◌||◌, nat_eq, refl, sym, ap, ◌∙◌, arith}
 use Rattle.std.proofs.lemmas.Bool.Decides.{nat_tests}
+use Rattle.std.proofs.lemmas.Bool.{or_right, or_left}
 use Rattle.lx_cap_lists.specs.Lists.{some_below}
-
-or_yes : (a b : Bool) → b ≡ true → (a || b) ≡ true
-or_yes true b e = refl
-or_yes false b e = e
-
-or_first : (a b : Bool) → a ≡ true → (a || b) ≡ true
-or_first true b e = refl
-or_first false b e = absurd (cc)
 
 pub some_from : (n k : ℕ) (p : ℕ → Bool) → k < n → p k ≡ true → some_below n p ≡ true
 unfolding some_below
 some_from zero k p h is = absurd (omega (arith, h))
 some_from (suc n) k p h is =
     (elim (nat_eq k n) as (λ t. nat_eq k n ≡ t → (p n || some_below n p) ≡ true) [
-      | true ↦ λ e. let at : k ≡ n = grind (arith, nat_tests, e) in or_first (p n) (some_below n p) (ap p (sym at) ∙ is)
-      | false ↦ λ e. or_yes (p n) (some_below n p) (some_from n k p (let lt : k < n = grind (arith, nat_tests, e, h) in lt) is)
+      | true ↦ λ e. let at : k ≡ n = grind (arith, nat_tests, e) in or_left (p n) (some_below n p) (ap p (sym at) ∙ is)
+      | false ↦ λ e. or_right (p n) (some_below n p) (some_from n k p (let lt : k < n = grind (arith, nat_tests, e, h) in lt) is)
     ]) refl
 
 pub some_inside : (n : ℕ) (p : ℕ → Bool) → some_below n p ≡ true → (k : ℕ) × (p k ≡ true)

@@ -2,6 +2,7 @@
 use Rattle.std.proofs.Common.{◌≡◌, ℕ, zero, suc, ◌+◌, ◌-◌, ◌*◌, ◌/◌, ◌≤◌, Bool, true, false, not, ◌&&◌, ◌||◌, nat_eq, nat_le, cond, List, [], ◌∷◌, ◌++◌, length, map, Some, None, refl, sym, ap, ◌∙◌, subst, arith, append_assoc}
 use Rattle.std.proofs.lemmas.Bool.Decides.{nat_tests}
 use Rattle.std.proofs.lemmas.List.{length-map}
+use Rattle.std.proofs.lemmas.Bool.{and_parts, and_from, or_right, or_left}
 use Rattle.lx_caps.specs.declared.Cap.{Cap}
 use Rattle.lx_caps.specs.declared.Cap.TheVariants as cap
 use Rattle.lx_caps.specs.declared.Atom.{Atom}
@@ -19,30 +20,14 @@ use Rattle.lx_cap_lists.specs.Holders.{had, left_by, open_count, same_holder}
 use Rattle.lx_cap_lists.specs.Kept.{AreNodes, AllNodes}
 use Rattle.lx_cap_lists.specs.Tables.{Key, Shows, shown_at, part_list, behind_parts, place_in, place_of, bit_of, call_key, ref_key, count_in, work_in, cap_work}
 use Rattle.lx_cap_tables.specs.Work.{is_among, and_one, count_of, holders, has_now, has_in_part, parts_and_pairs, strip_bound}
-use Rattle.lx_cap_tables.proofs.AtomLemmas.{behind_far}
 use Rattle.lx_cap_tables.proofs.Below.{some_from}
 use Rattle.lx_cap_tables.proofs.Few.{added, added_self, few, ArePassing}
 use Rattle.lx_cap_lists.proofs.BitLemmas.{same_is}
-use Rattle.lx_cap_lists.proofs.HeldLemmas.{and_yes, and_join, byte_of}
 use Rattle.lx_cap_lists.proofs.NodeLemmas.{width_part, width_behind}
 use Rattle.lx_cap_lists.proofs.PartLemmas.{list_below}
 use Rattle.lx_cap_tables.proofs.TieLemmas.{same_self, bit_there}
-
-or_cases : (a b : Bool) → (a || b) ≡ true → a ≡ false → b ≡ true
-or_cases false b e f = e
-or_cases true b e f = absurd (cc)
-
-or_yes : (a b : Bool) → b ≡ true → (a || b) ≡ true
-or_yes true b e = refl
-or_yes false b e = e
-
-or_first : (a b : Bool) → a ≡ true → (a || b) ≡ true
-or_first true b e = refl
-or_first false b e = absurd (cc)
-
-or_none : (a b : Bool) → (a || b) ≡ false → (a ≡ false) × (b ≡ false)
-or_none false b e = (refl, e)
-or_none true b e = absurd (cc)
+use Rattle.lx_caps.proofs.Tests.{byte_of}
+use Rattle.lx_cap_lists.proofs.KeyPlaces.{behind_far}
 
 -- one is added, or the others have it
 one_more : (q p : Holder) (others : List Holder) (x rest : Bool) → ((same_holder q p && x) || rest) ≡ true → (rest ≡ true → is_among same_holder q others ≡ true) → is_among same_holder q (and_one same_holder p others) ≡ true
@@ -54,53 +39,53 @@ one_more q p others x rest is more =
 
 left_has : (t older : ℕ) (among : Holder → Bool) (s : Holder) → left_by t older among s ≡ true → among s ≡ true
 left_has t older among (Keeper q) is = is
-left_has t older among (Borrower u d q) is = (and_yes (not (nat_eq t u && nat_le older d)) (among (Borrower u d q)) is).1
+left_has t older among (Borrower u d q) is = (and_parts (not (nat_eq t u && nat_le older d)) (among (Borrower u d q)) is).1
 
 either : (a b c d : Bool) → (a || b) ≡ true → (a ≡ true → c ≡ true) → (b ≡ true → d ≡ true) → (c || d) ≡ true
-either true b c d e f g = or_first c d (f refl)
-either false b c d e f g = or_yes c d (g e)
+either true b c d e f g = or_left c d (f refl)
+either false b c d e f g = or_right c d (g e)
 
 -- the more holders are asked for, the more is had
 had_more : (a b : Holder → Bool) (h : History) (x : Atom) → ((s : Holder) → a s ≡ true → b s ≡ true) → had a h x ≡ true → had b h x ≡ true
 had_more a b [] x more is = is
 had_more a b (Grant q c ∷ h) x more is =
     either (a (Keeper q) && has c x) (had a h x) (b (Keeper q) && has c x) (had b h x) is
-    (λ e. let both = and_yes (a (Keeper q)) (has c x) e in and_join (b (Keeper q)) (has c x) (more (Keeper q) both.0) both.1) (had_more a b h x more)
-had_more a b (Strip c ∷ h) x more is = let both = and_yes (not (has c x)) (had a h x) is in and_join (not (has c x)) (had b h x) both.0 (had_more a b h x more both.1)
+    (λ e. let both = and_parts (a (Keeper q)) (has c x) e in and_from (b (Keeper q)) (has c x) (more (Keeper q) both.0) both.1) (had_more a b h x more)
+had_more a b (Strip c ∷ h) x more is = let both = and_parts (not (has c x)) (had a h x) is in and_from (not (has c x)) (had b h x) both.0 (had_more a b h x more both.1)
 had_more a b (Zero at size ∷ h) x more is = had_more a b h x more is
 had_more a b (Loan t ∷ h) x more is = had_more a b h x more is
 had_more a b (Lend t q c ∷ h) x more is =
     let s : Holder = Borrower t (open_count h t - 1) q in
     either (lends h t && (a s && has c x)) (had a h x) (lends h t && (b s && has c x)) (had b h x) is
-    (λ e. let both = and_yes (lends h t) (a s && has c x) e in
-    let parts = and_yes (a s) (has c x) both.1 in
-    and_join (lends h t) (b s && has c x) both.0 (and_join (b s) (has c x) (more s parts.0) parts.1)) (had_more a b h x more)
+    (λ e. let both = and_parts (lends h t) (a s && has c x) e in
+    let parts = and_parts (a s) (has c x) both.1 in
+    and_from (lends h t) (b s && has c x) both.0 (and_from (b s) (has c x) (more s parts.0) parts.1)) (had_more a b h x more)
 had_more a b (Shut t n ∷ h) x more is = had_more (left_by t (open_count h t - n) a) (left_by t (open_count h t - n) b) h x (by (open_count h t - n)) is
   where
     by : (older : ℕ) (s : Holder) → left_by t older a s ≡ true → left_by t older b s ≡ true
     by older (Keeper q) e = more (Keeper q) e
     by older (Borrower u d q) e =
-        let both = and_yes (not (nat_eq t u && nat_le older d)) (a (Borrower u d q)) e in
-        and_join (not (nat_eq t u && nat_le older d)) (b (Borrower u d q)) both.0 (more (Borrower u d q) both.1)
+        let both = and_parts (not (nat_eq t u && nat_le older d)) (a (Borrower u d q)) e in
+        and_from (not (nat_eq t u && nat_le older d)) (b (Borrower u d q)) both.0 (more (Borrower u d q) both.1)
 had_more a b (ShutAll t ∷ h) x more is = had_more (left_by t 0 a) (left_by t 0 b) h x by is
   where
     by : (s : Holder) → left_by t 0 a s ≡ true → left_by t 0 b s ≡ true
     by (Keeper q) e = more (Keeper q) e
     by (Borrower u d q) e =
-        let both = and_yes (not (nat_eq t u && nat_le 0 d)) (a (Borrower u d q)) e in
-        and_join (not (nat_eq t u && nat_le 0 d)) (b (Borrower u d q)) both.0 (more (Borrower u d q) both.1)
+        let both = and_parts (not (nat_eq t u && nat_le 0 d)) (a (Borrower u d q)) e in
+        and_from (not (nat_eq t u && nat_le 0 d)) (b (Borrower u d q)) both.0 (more (Borrower u d q) both.1)
 
 holder_known : (h : History) (q : Holder) (x : Atom) → had (same_holder q) h x ≡ true → is_among same_holder q (holders h) ≡ true
 holder_known [] q x is = absurd (cc)
 holder_known (Grant p c ∷ h) q x is = one_more q (Keeper p) (holders h) (has c x) (had (same_holder q) h x) is (holder_known h q x)
-holder_known (Strip c ∷ h) q x is = holder_known h q x (and_yes (not (has c x)) (had (same_holder q) h x) is).1
+holder_known (Strip c ∷ h) q x is = holder_known h q x (and_parts (not (has c x)) (had (same_holder q) h x) is).1
 holder_known (Zero at size ∷ h) q x is = holder_known h q x is
 holder_known (Loan t ∷ h) q x is = holder_known h q x is
 holder_known (Lend t p c ∷ h) q x is = one_more q (Borrower t (open_count h t - 1) p) (holders h) (has c x) (had (same_holder q) h x) (lent (lends h t) is) (holder_known h q x)
   where
     lent : (l : Bool) → ((l && (same_holder q (Borrower t (open_count h t - 1) p) && has c x)) || had (same_holder q) h x) ≡ true → ((same_holder q (Borrower t (open_count h t - 1) p) && has c x) || had (same_holder q) h x) ≡ true
     lent true e = e
-    lent false e = or_yes (same_holder q (Borrower t (open_count h t - 1) p) && has c x) (had (same_holder q) h x) e
+    lent false e = or_right (same_holder q (Borrower t (open_count h t - 1) p) && has c x) (had (same_holder q) h x) e
 holder_known (Shut t n ∷ h) q x is = holder_known h q x (had_more (left_by t (open_count h t - n) (same_holder q)) (same_holder q) h x (left_has t (open_count h t - n) (same_holder q)) is)
 holder_known (ShutAll t ∷ h) q x is = holder_known h q x (had_more (left_by t 0 (same_holder q)) (same_holder q) h x (left_has t 0 (same_holder q)) is)
 
@@ -125,7 +110,7 @@ module _ (places : List (List (ℕ × Entry))) (atoms : List Key) (h : History) 
       let q = e.1.holder in
       shows (same_holder q) x
       ∙ (ap (λ o. shown_at places o (same_holder q) (bit_of x)) at
-      ∙ (ap (λ r. bit_among (same_holder q) r (bit_of x)) is ∙ bit_there (same_holder q) front e.0 e.1 es (bit_of x) (and_join (same_holder q q) (is_set e.1.mask (bit_of x)) (same_self q) set)))
+      ∙ (ap (λ r. bit_among (same_holder q) r (bit_of x)) is ∙ bit_there (same_holder q) front e.0 e.1 es (bit_of x) (and_from (same_holder q q) (is_set e.1.mask (bit_of x)) (same_self q) set)))
 
   part_pass : (part l : ℕ) → part_list part ≡ Some l → (front es : List (ℕ × Entry)) → nodes_at places l ≡ front ++ es → AreNodes 64 es → AreKnown (has_in_part h part) (holders h) (map holder_of es)
   unfolding ArePassing

@@ -1,8 +1,9 @@
 -- Loans that end: their nodes go, and what others have stays.
-use Rattle.std.proofs.Common.{◌≡◌, ◌≢◌, ℕ, suc, ◌+◌, ◌-◌, ◌<◌, ◌≤◌, Bool, true, false, not, ◌&&◌, ◌||◌, nat_eq, nat_lt, nat_le, cond, List, [], ◌∷◌, ◌++◌, length, set, Option, Some, None, refl, sym, ap, ◌∙◌, subst, arith}
+use Rattle.std.proofs.Common.{◌≡◌, ◌≢◌, ℕ, suc, ◌+◌, ◌-◌, ◌<◌, ◌≤◌, Bool, true, false, not, ◌&&◌, ◌||◌, nat_eq, nat_lt, nat_le, cond, List, [], ◌∷◌, ◌++◌, length, set, Option, Some, None, refl, sym, ap, ◌∙◌, subst, arith, eqb-true}
 use Rattle.std.proofs.lemmas.Bool.Decides.{nat_tests}
 use Rattle.std.specs.Prelude.{slice_index_or}
 use Rattle.std.proofs.lemmas.List.{get_or_default, get_or-set_same, get_or-set_other}
+use Rattle.std.proofs.lemmas.Bool.{not-true, not_from_false, and_parts, and_from, or_left, or_right}
 use Rattle.lx_cap_nodes.specs.declared.pool.Family.TheVariants as family
 use Rattle.lx_cap_nodes.specs.declared.pool.ListName.{ListName}
 use Rattle.lx_cap_nodes.specs.declared.pool.ListName.TheVariants as name
@@ -17,10 +18,7 @@ use Rattle.lx_cap_lists.specs.Holders.{left_by}
 use Rattle.lx_cap_lists.specs.Kept.{all_nodes, AreAll, AreEnded, StayBut}
 use Rattle.lx_cap_lists.specs.Loans.{loans_of, is_open, is_on}
 use Rattle.lx_cap_lists.specs.Tables.{Key, loan_key, holder_key, place_in, place_of_spot, is_place, is_in_order, shown_at, count_in, loans_work}
-use Rattle.lx_cap_lists.proofs.WalkLemmas.{same_from_eq}
-use Rattle.lx_cap_lists.proofs.HeldLemmas.{and_yes, and_join}
 use Rattle.lx_cap_lists.proofs.KeyLemmas.{one_key}
-use Rattle.lx_cap_lists.proofs.TakenLemmas.{not_true, not_false}
 use Rattle.lx_cap_tables.proofs.TieLemmas.{all_by_split, all_there, is_there, value_place}
 
 -- who has something in the list of a loan
@@ -29,14 +27,14 @@ on_loan (Keeper q) t d low same = absurd (let h = ap (λ k. k.0) same in omega (
 on_loan (Borrower u e q) t d low same =
     let a = ap (λ k. k.0) same in
     let b = ap (λ k. k.1) same in
-    and_join (nat_eq t u) (nat_le d e && nat_lt e (d + 1)) (grind (arith, nat_tests, a)) (grind (arith, nat_tests, b))
+    and_from (nat_eq t u) (nat_le d e && nat_lt e (d + 1)) (grind (arith, nat_tests, a)) (grind (arith, nat_tests, b))
 
 key_on : (s : Holder) (t d : ℕ) → is_on t d (d + 1) s ≡ true → holder_key s ≡ loan_key t d
 key_on (Keeper q) t d is = absurd (cc)
 key_on (Borrower u e q) t d is =
-    let both = and_yes (nat_eq t u) (nat_le d e && nat_lt e (d + 1)) is in
-    let parts = and_yes (nat_le d e) (nat_lt e (d + 1)) both.1 in
-    let a : t ≡ u = same_from_eq t u both.0 in
+    let both = and_parts (nat_eq t u) (nat_le d e && nat_lt e (d + 1)) is in
+    let parts = and_parts (nat_le d e) (nat_lt e (d + 1)) both.1 in
+    let a : t ≡ u = eqb-true t u both.0 in
     let b : e ≡ d = grind (arith, nat_tests, parts) in
     λ j. (sym a j, b j)
 
@@ -44,7 +42,7 @@ module _ (pool : Pool Entry) (laws : PoolLaws pool) (owners atoms : List Key) (l
   in_owner : (l n : ℕ) (e : Entry) (xs ys : List (ℕ × Entry)) → nodes_at pool.owners l ≡ xs ++ (n, e) ∷ ys → place_in owners (holder_key e.holder) ≡ Some l
   unfolding AreAll
   in_owner l n e xs ys is =
-      is_there (place_in owners (holder_key e.holder)) l (and_yes (is_open loans e.holder) (is_place (place_in owners (holder_key e.holder)) l)
+      is_there (place_in owners (holder_key e.holder)) l (and_parts (is_open loans e.holder) (is_place (place_in owners (holder_key e.holder)) l)
       (all_there (is_in_order owners atoms loans (name.Owner l)) xs n e ys (ap (all_nodes (is_in_order owners atoms loans (name.Owner l))) (sym is) ∙ order (name.Owner l)))).1
 
   -- each node of a loan's list is of the loan
@@ -53,7 +51,7 @@ module _ (pool : Pool Entry) (laws : PoolLaws pool) (owners atoms : List Key) (l
   list_of_loan t d o low at among out =
       all_by_split (λ e. not (among e.holder)) (nodes_at pool.owners o) (λ xs n e ys is.
       let same : holder_key e.holder ≡ loan_key t d = one_key 0 owners (holder_key e.holder) (loan_key t d) o (in_owner o n e xs ys is) at in
-      not_false (among e.holder) (out e.holder (on_loan e.holder t d low same)))
+      not_from_false (among e.holder) (out e.holder (on_loan e.holder t d low same)))
 
   -- a loan whose list is empty has no node
   module _ (t d : ℕ) (none : (o : ℕ) → place_in owners (loan_key t d) ≡ Some o → nodes_at pool.owners o ≡ []) where
@@ -94,14 +92,14 @@ on_less t first end more (Borrower u e q) le is = grind (arith, nat_tests, le, i
 
 all_map : (p q : Entry → Bool) (es : List (ℕ × Entry)) → ((e : Entry) → p e ≡ true → q e ≡ true) → all_nodes p es ≡ true → all_nodes q es ≡ true
 all_map p q [] h is = refl
-all_map p q (e ∷ es) h is = let both = and_yes (p e.1) (all_nodes p es) is in and_join (q e.1) (all_nodes q es) (h e.1 both.0) (all_map p q es h both.1)
+all_map p q (e ∷ es) h is = let both = and_parts (p e.1) (all_nodes p es) is in and_from (q e.1) (all_nodes q es) (h e.1 both.0) (all_map p q es h both.1)
 
 all_both : (p q r : Entry → Bool) (es : List (ℕ × Entry)) → ((e : Entry) → p e ≡ true → q e ≡ true → r e ≡ true) → all_nodes p es ≡ true → all_nodes q es ≡ true → all_nodes r es ≡ true
 all_both p q r [] h a b = refl
 all_both p q r (e ∷ es) h a b =
-    let x = and_yes (p e.1) (all_nodes p es) a in
-    let y = and_yes (q e.1) (all_nodes q es) b in
-    and_join (r e.1) (all_nodes r es) (h e.1 x.0 y.0) (all_both p q r es h x.1 y.1)
+    let x = and_parts (p e.1) (all_nodes p es) a in
+    let y = and_parts (q e.1) (all_nodes q es) b in
+    and_from (r e.1) (all_nodes r es) (h e.1 x.0 y.0) (all_both p q r es h x.1 y.1)
 
 neither : (a b : Bool) → not a ≡ true → not b ≡ true → not (a || b) ≡ true
 neither true b e f = absurd (cc)
@@ -109,12 +107,12 @@ neither false b e f = f
 
 all_none : (p : Entry → Bool) (es : List (ℕ × Entry)) → ((e : Entry) → p e ≡ true) → all_nodes p es ≡ true
 all_none p [] h = refl
-all_none p (e ∷ es) h = and_join (p e.1) (all_nodes p es) (h e.1) (all_none p es h)
+all_none p (e ∷ es) h = and_from (p e.1) (all_nodes p es) (h e.1) (all_none p es h)
 
 pub ended_none : (t first : ℕ) (pool : Pool Entry) → AreEnded t first first pool
 unfolding AreEnded AreAll
-ended_none t first pool (name.Place l) = all_none (λ e. not (is_on t first first e.holder)) (nodes_at pool.places l) (λ e. not_false (is_on t first first e.holder) (on_none t first e.holder))
-ended_none t first pool (name.Owner l) = all_none (λ e. not (is_on t first first e.holder)) (nodes_at pool.owners l) (λ e. not_false (is_on t first first e.holder) (on_none t first e.holder))
+ended_none t first pool (name.Place l) = all_none (λ e. not (is_on t first first e.holder)) (nodes_at pool.places l) (λ e. not_from_false (is_on t first first e.holder) (on_none t first e.holder))
+ended_none t first pool (name.Owner l) = all_none (λ e. not (is_on t first first e.holder)) (nodes_at pool.owners l) (λ e. not_from_false (is_on t first first e.holder) (on_none t first e.holder))
 
 pub ended_more : (t first d : ℕ) (pool : Pool Entry) → first ≤ d → AreEnded t first d pool → AreEnded t d (d + 1) pool → AreEnded t first (d + 1) pool
 unfolding AreEnded AreAll
@@ -137,14 +135,6 @@ pub ended_kept : (t first end : ℕ) (old new : Pool Entry) → ((p : ListName �
 unfolding AreEnded
 ended_kept t first end old new kept a = kept (λ list e. not (is_on t first end e.holder)) a
 
-or_first : (a b : Bool) → a ≡ true → (a || b) ≡ true
-or_first true b e = refl
-or_first false b e = absurd (cc)
-
-or_yes : (a b : Bool) → b ≡ true → (a || b) ≡ true
-or_yes true b e = refl
-or_yes false b e = e
-
 pub stay_none : (t first : ℕ) (lists : List (List (ℕ × Entry))) → StayBut t first first lists lists
 unfolding StayBut
 stay_none t first lists = λ among out l k. refl
@@ -152,18 +142,18 @@ stay_none t first lists = λ among out l k. refl
 pub stay_more : (t first d : ℕ) (old mid new : List (List (ℕ × Entry))) → first ≤ d → StayBut t first d old mid → StayBut t d (d + 1) mid new → StayBut t first (d + 1) old new
 unfolding StayBut
 stay_more t first d old mid new low a b = λ among out l k.
-    b among (λ s on. out s (on_parts t first d s low ∙ or_yes (is_on t first d s) (is_on t d (d + 1) s) on)) l k
-    ∙ a among (λ s on. out s (on_parts t first d s low ∙ or_first (is_on t first d s) (is_on t d (d + 1) s) on)) l k
+    b among (λ s on. out s (on_parts t first d s low ∙ or_right (is_on t first d s) (is_on t d (d + 1) s) on)) l k
+    ∙ a among (λ s on. out s (on_parts t first d s low ∙ or_left (is_on t first d s) (is_on t d (d + 1) s) on)) l k
 
 -- at the end of a loop none is left out
 on_within : (t first end more : ℕ) (s : Holder) → (first < more → more ≤ end) → is_on t first more s ≡ true → is_on t first end s ≡ true
 on_within t first end more (Keeper q) h is = absurd (cc)
 on_within t first end more (Borrower u e q) h is =
-    let both = and_yes (nat_eq t u) (nat_le first e && nat_lt e more) is in
-    let parts = and_yes (nat_le first e) (nat_lt e more) both.1 in
+    let both = and_parts (nat_eq t u) (nat_le first e && nat_lt e more) is in
+    let parts = and_parts (nat_le first e) (nat_lt e more) both.1 in
     let some : first < more = grind (arith, nat_tests, parts) in
     let le = h some in
-    and_join (nat_eq t u) (nat_le first e && nat_lt e end) both.0 (and_join (nat_le first e) (nat_lt e end) parts.0 (let low = parts.1 in grind (arith, nat_tests, low, le)))
+    and_from (nat_eq t u) (nat_le first e && nat_lt e end) both.0 (and_from (nat_le first e) (nat_lt e end) parts.0 (let low = parts.1 in grind (arith, nat_tests, low, le)))
 
 pub stay_all : (t first end more : ℕ) (old new : List (List (ℕ × Entry))) → (first < more → more ≤ end) → StayBut t first more old new → StayBut t first end old new
 unfolding StayBut
@@ -173,20 +163,20 @@ stay_all t first end more old new le a = λ among out l k. a among (λ s on. out
 left_out : (t first end : ℕ) (among : Holder → Bool) (s : Holder) → is_on t first end s ≡ true → left_by t first among s ≡ false
 left_out t first end among (Keeper q) on = absurd (cc)
 left_out t first end among (Borrower u e q) on =
-    let both = and_yes (nat_eq t u) (nat_le first e && nat_lt e end) on in
-    let parts = and_yes (nat_le first e) (nat_lt e end) both.1 in
-    ap (λ b. not b && among (Borrower u e q)) (and_join (nat_eq t u) (nat_le first e) both.0 parts.0)
+    let both = and_parts (nat_eq t u) (nat_le first e && nat_lt e end) on in
+    let parts = and_parts (nat_le first e) (nat_lt e end) both.1 in
+    ap (λ b. not b && among (Borrower u e q)) (and_from (nat_eq t u) (nat_le first e) both.0 parts.0)
 
 left_same : (t first : ℕ) (loans : List ℕ) (among : Holder → Bool) (s : Holder) → is_open loans s ≡ true → not (is_on t first (loans_of loans t) s) ≡ true → left_by t first among s ≡ among s
 left_same t first loans among (Keeper q) is off = refl
 left_same t first loans among (Borrower u e q) is off =
     (elim (nat_eq t u && nat_le first e) as (λ b. (nat_eq t u && nat_le first e) ≡ b → (not b && among (Borrower u e q)) ≡ among (Borrower u e q)) [
       | true ↦ λ on. absurd (
-          let both = and_yes (nat_eq t u) (nat_le first e) on in
-          let same : t ≡ u = same_from_eq t u both.0 in
-          let low : nat_lt e (loans_of loans t) ≡ true = ap (λ v. nat_lt e (loans_of loans v)) same ∙ (and_yes (nat_lt u 16) (nat_lt e (loans_of loans u)) is).1 in
-          let yes : is_on t first (loans_of loans t) (Borrower u e q) ≡ true = and_join (nat_eq t u) (nat_le first e && nat_lt e (loans_of loans t)) both.0 (and_join (nat_le first e) (nat_lt e (loans_of loans t)) both.1 low) in
-          let no = not_true (is_on t first (loans_of loans t) (Borrower u e q)) off in
+          let both = and_parts (nat_eq t u) (nat_le first e) on in
+          let same : t ≡ u = eqb-true t u both.0 in
+          let low : nat_lt e (loans_of loans t) ≡ true = ap (λ v. nat_lt e (loans_of loans v)) same ∙ (and_parts (nat_lt u 16) (nat_lt e (loans_of loans u)) is).1 in
+          let yes : is_on t first (loans_of loans t) (Borrower u e q) ≡ true = and_from (nat_eq t u) (nat_le first e && nat_lt e (loans_of loans t)) both.0 (and_from (nat_le first e) (nat_lt e (loans_of loans t)) both.1 low) in
+          let no = not-true (is_on t first (loans_of loans t) (Borrower u e q)) off in
           cc)
       | false ↦ λ on. refl
     ]) refl
@@ -195,8 +185,8 @@ left_bits : (t first : ℕ) (loans : List ℕ) (among : Holder → Bool) (es : L
     → all_nodes (λ e. is_open loans e.holder) es ≡ true → all_nodes (λ e. not (is_on t first (loans_of loans t) e.holder)) es ≡ true → bit_among (left_by t first among) es k ≡ bit_among among es k
 left_bits t first loans among [] k opened off = refl
 left_bits t first loans among (e ∷ es) k opened off =
-    let a = and_yes (is_open loans e.1.holder) (all_nodes (λ x. is_open loans x.holder) es) opened in
-    let b = and_yes (not (is_on t first (loans_of loans t) e.1.holder)) (all_nodes (λ x. not (is_on t first (loans_of loans t) x.holder)) es) off in
+    let a = and_parts (is_open loans e.1.holder) (all_nodes (λ x. is_open loans x.holder) es) opened in
+    let b = and_parts (not (is_on t first (loans_of loans t) e.1.holder)) (all_nodes (λ x. not (is_on t first (loans_of loans t) x.holder)) es) off in
     ap (λ r. (r && is_set e.1.mask k) || bit_among (left_by t first among) es k) (left_same t first loans among e.1.holder a.0 b.0)
     ∙ ap (λ r. gives_bit among k e.1 || r) (left_bits t first loans among es k a.1 b.1)
 
@@ -207,7 +197,7 @@ module _ (t first : ℕ) (loans : List ℕ) (owners atoms : List Key) (old new :
   left_at among l k =
       sym (stays (left_by t first among) (left_out t first (loans_of loans t) among) l k)
       ∙ left_bits t first loans among (nodes_at new.places l) k
-      (all_map (is_in_order owners atoms loans (name.Place l)) (λ e. is_open loans e.holder) (nodes_at new.places l) (λ e h. (and_yes (is_open loans e.holder) (is_place (place_of_spot atoms e.spot) l) h).0) (order (name.Place l)))
+      (all_map (is_in_order owners atoms loans (name.Place l)) (λ e. is_open loans e.holder) (nodes_at new.places l) (λ e h. (and_parts (is_open loans e.holder) (is_place (place_of_spot atoms e.spot) l) h).0) (order (name.Place l)))
       (gone (name.Place l))
 
   pub shown_left : (among : Holder → Bool) (o : Option ℕ) (k : ℕ) → shown_at old.places o (left_by t first among) k ≡ shown_at new.places o among k
@@ -228,20 +218,20 @@ loans_other loans t n u ne = get_or-set_other loans t u n 0 ne
 pub loans_set : (loans : List ℕ) (t n u : ℕ) → t < length loans → loans_of (set loans t n) u ≡ cond (nat_eq t u) n (loans_of loans u)
 loans_set loans t n u h =
     (elim (nat_eq t u) as (λ b. nat_eq t u ≡ b → loans_of (set loans t n) u ≡ cond b n (loans_of loans u)) [
-      | true ↦ λ e. ap (loans_of (set loans t n)) (sym (same_from_eq t u e)) ∙ loans_here loans t n h
+      | true ↦ λ e. ap (loans_of (set loans t n)) (sym (eqb-true t u e)) ∙ loans_here loans t n h
       | false ↦ λ e. loans_other loans t n u (λ same. grind (arith, nat_tests, e, same))
     ]) refl
 
 open_left : (loans : List ℕ) (t first : ℕ) (s : Holder) → t < length loans → is_open loans s ≡ true → not (is_on t first (loans_of loans t) s) ≡ true → is_open (set loans t first) s ≡ true
 open_left loans t first (Keeper q) h is off = refl
 open_left loans t first (Borrower u e q) h is off =
-    let both = and_yes (nat_lt u 16) (nat_lt e (loans_of loans u)) is in
-    and_join (nat_lt u 16) (nat_lt e (loans_of (set loans t first) u)) both.0 (ap (nat_lt e) (loans_set loans t first u h)
+    let both = and_parts (nat_lt u 16) (nat_lt e (loans_of loans u)) is in
+    and_from (nat_lt u 16) (nat_lt e (loans_of (set loans t first) u)) both.0 (ap (nat_lt e) (loans_set loans t first u h)
     ∙ (elim (nat_eq t u) as (λ b. nat_eq t u ≡ b → nat_lt e (cond b first (loans_of loans u)) ≡ true) [
       | true ↦ λ on.
-          let same : t ≡ u = same_from_eq t u on in
+          let same : t ≡ u = eqb-true t u on in
           let low : nat_lt e (loans_of loans t) ≡ true = ap (λ v. nat_lt e (loans_of loans v)) same ∙ both.1 in
-          let out = not_true (is_on t first (loans_of loans t) (Borrower u e q)) off in
+          let out = not-true (is_on t first (loans_of loans t) (Borrower u e q)) off in
           let less : (nat_le first e && nat_lt e (loans_of loans t)) ≡ false = ap (λ b. b && (nat_le first e && nat_lt e (loans_of loans t))) (sym on) ∙ out in
           grind (arith, nat_tests, less, low)
       | false ↦ λ on. both.1
@@ -252,24 +242,24 @@ pub order_left : (owners atoms : List Key) (loans : List ℕ) (t first : ℕ) (p
 unfolding AreAll AreEnded
 order_left owners atoms loans t first pool h order gone (name.Place l) =
     all_both (is_in_order owners atoms loans (name.Place l)) (λ e. not (is_on t first (loans_of loans t) e.holder)) (is_in_order owners atoms (set loans t first) (name.Place l)) (nodes_at pool.places l)
-    (λ e a b. let both = and_yes (is_open loans e.holder) (is_place (place_of_spot atoms e.spot) l) a in
-    and_join (is_open (set loans t first) e.holder) (is_place (place_of_spot atoms e.spot) l) (open_left loans t first e.holder h both.0 b) both.1)
+    (λ e a b. let both = and_parts (is_open loans e.holder) (is_place (place_of_spot atoms e.spot) l) a in
+    and_from (is_open (set loans t first) e.holder) (is_place (place_of_spot atoms e.spot) l) (open_left loans t first e.holder h both.0 b) both.1)
     (order (name.Place l)) (gone (name.Place l))
 order_left owners atoms loans t first pool h order gone (name.Owner l) =
     all_both (is_in_order owners atoms loans (name.Owner l)) (λ e. not (is_on t first (loans_of loans t) e.holder)) (is_in_order owners atoms (set loans t first) (name.Owner l)) (nodes_at pool.owners l)
-    (λ e a b. let both = and_yes (is_open loans e.holder) (is_place (place_in owners (holder_key e.holder)) l) a in
-    and_join (is_open (set loans t first) e.holder) (is_place (place_in owners (holder_key e.holder)) l) (open_left loans t first e.holder h both.0 b) both.1)
+    (λ e a b. let both = and_parts (is_open loans e.holder) (is_place (place_in owners (holder_key e.holder)) l) a in
+    and_from (is_open (set loans t first) e.holder) (is_place (place_in owners (holder_key e.holder)) l) (open_left loans t first e.holder h both.0 b) both.1)
     (order (name.Owner l)) (gone (name.Owner l))
 
 -- one loan more
 open_more : (loans : List ℕ) (t n : ℕ) (s : Holder) → t < length loans → loans_of loans t ≤ n → is_open loans s ≡ true → is_open (set loans t n) s ≡ true
 open_more loans t n (Keeper q) h le is = refl
 open_more loans t n (Borrower u e q) h le is =
-    let both = and_yes (nat_lt u 16) (nat_lt e (loans_of loans u)) is in
-    and_join (nat_lt u 16) (nat_lt e (loans_of (set loans t n) u)) both.0 (ap (nat_lt e) (loans_set loans t n u h)
+    let both = and_parts (nat_lt u 16) (nat_lt e (loans_of loans u)) is in
+    and_from (nat_lt u 16) (nat_lt e (loans_of (set loans t n) u)) both.0 (ap (nat_lt e) (loans_set loans t n u h)
     ∙ (elim (nat_eq t u) as (λ b. nat_eq t u ≡ b → nat_lt e (cond b n (loans_of loans u)) ≡ true) [
       | true ↦ λ on.
-          let low : nat_lt e (loans_of loans t) ≡ true = ap (λ v. nat_lt e (loans_of loans v)) (same_from_eq t u on) ∙ both.1 in
+          let low : nat_lt e (loans_of loans t) ≡ true = ap (λ v. nat_lt e (loans_of loans v)) (eqb-true t u on) ∙ both.1 in
           grind (arith, nat_tests, low, le)
       | false ↦ λ on. both.1
     ]) refl)
@@ -278,12 +268,12 @@ pub order_opened : (owners atoms : List Key) (loans : List ℕ) (t n : ℕ) (poo
 unfolding AreAll
 order_opened owners atoms loans t n pool h le order (name.Place l) =
     all_map (is_in_order owners atoms loans (name.Place l)) (is_in_order owners atoms (set loans t n) (name.Place l)) (nodes_at pool.places l)
-    (λ e a. let both = and_yes (is_open loans e.holder) (is_place (place_of_spot atoms e.spot) l) a in
-    and_join (is_open (set loans t n) e.holder) (is_place (place_of_spot atoms e.spot) l) (open_more loans t n e.holder h le both.0) both.1) (order (name.Place l))
+    (λ e a. let both = and_parts (is_open loans e.holder) (is_place (place_of_spot atoms e.spot) l) a in
+    and_from (is_open (set loans t n) e.holder) (is_place (place_of_spot atoms e.spot) l) (open_more loans t n e.holder h le both.0) both.1) (order (name.Place l))
 order_opened owners atoms loans t n pool h le order (name.Owner l) =
     all_map (is_in_order owners atoms loans (name.Owner l)) (is_in_order owners atoms (set loans t n) (name.Owner l)) (nodes_at pool.owners l)
-    (λ e a. let both = and_yes (is_open loans e.holder) (is_place (place_in owners (holder_key e.holder)) l) a in
-    and_join (is_open (set loans t n) e.holder) (is_place (place_in owners (holder_key e.holder)) l) (open_more loans t n e.holder h le both.0) both.1) (order (name.Owner l))
+    (λ e a. let both = and_parts (is_open loans e.holder) (is_place (place_in owners (holder_key e.holder)) l) a in
+    and_from (is_open (set loans t n) e.holder) (is_place (place_in owners (holder_key e.holder)) l) (open_more loans t n e.holder h le both.0) both.1) (order (name.Owner l))
 
 -- the most loans of a thread
 pub deep_set : (loans : List ℕ) (t n deepest : ℕ) → t < length loans → ((u : ℕ) → loans_of loans u ≤ deepest) → n ≤ deepest → (u : ℕ) → loans_of (set loans t n) u ≤ deepest
@@ -297,10 +287,6 @@ one_loan_more lists owners t older end lt = ap (loans_work lists owners t older)
 
 pub no_loan_more : (lists : List (List (ℕ × Entry))) (owners : List Key) (t older end : ℕ) → end ≤ older → loans_work lists owners t older (end - older) ≡ 0
 no_loan_more lists owners t older end le = ap (loans_work lists owners t older) (let e : end - older ≡ 0 = omega arith in e)
-
-pub same_loan : (first now : List (List (ℕ × Entry))) (o : Option ℕ) → ((k : ℕ) → o ≡ Some k → nodes_at now k ≡ nodes_at first k) → count_in now o ≡ count_in first o
-same_loan first now None h = refl
-same_loan first now (Some k) h = ap length (h k refl)
 
 -- two loans have two lists
 pub other_loan : (owners : List Key) (t older d k : ℕ) → place_in owners (loan_key t older) ≡ Some k → place_in owners (loan_key t d) ≡ Some k → older < d → ⊥

@@ -1,33 +1,19 @@
 -- Things that differ, each of which passes and is among others, are no more than those that pass.
 use Rattle.std.proofs.Common.{◌≡◌, suc, ◌≤◌, Bool, true, false, ◌||◌, cond, List, [], ◌∷◌, length, refl, sym, ap, ◌∙◌, subst, arith}
+use Rattle.std.proofs.lemmas.Bool.{or_right, or_left, or_parts}
 use Rattle.lx_cap_tables.specs.Work.{is_among, and_one, count_of}
-
-or_cases : (a b : Bool) → (a || b) ≡ true → a ≡ false → b ≡ true
-or_cases false b e f = e
-or_cases true b e f = absurd (cc)
-
-or_yes : (a b : Bool) → b ≡ true → (a || b) ≡ true
-or_yes true b e = refl
-or_yes false b e = e
-
-or_first : (a b : Bool) → a ≡ true → (a || b) ≡ true
-or_first true b e = refl
-or_first false b e = absurd (cc)
-
-or_none : (a b : Bool) → (a || b) ≡ false → (a ≡ false) × (b ≡ false)
-or_none false b e = (refl, e)
-or_none true b e = absurd (cc)
+use Rattle.lx_caps.proofs.Tests.{or_other}
 
 module _ {P : Type 0} (same : P → P → Bool) (same_is : (p q : P) → same p q ≡ true → p ≡ q) (same_self : (p : P) → same p p ≡ true) where
   -- one more
   pub added : (q p : P) (others : List P) → is_among same q others ≡ true → is_among same q (and_one same p others) ≡ true
-  added q p others h = elim (is_among same p others) as (λ t. is_among same q (cond t others (p ∷ others)) ≡ true) [ true ↦ h | false ↦ or_yes (same q p) (is_among same q others) h ]
+  added q p others h = elim (is_among same p others) as (λ t. is_among same q (cond t others (p ∷ others)) ≡ true) [ true ↦ h | false ↦ or_right (same q p) (is_among same q others) h ]
 
   pub added_self : (p : P) (others : List P) → is_among same p (and_one same p others) ≡ true
   added_self p others =
       (elim (is_among same p others) as (λ t. is_among same p others ≡ t → is_among same p (cond t others (p ∷ others)) ≡ true) [
         | true ↦ λ e. e
-        | false ↦ λ e. or_first (same p p) (is_among same p others) (same_self p)
+        | false ↦ λ e. or_left (same p p) (is_among same p others) (same_self p)
       ]) refl
 
   -- these but for one
@@ -55,7 +41,7 @@ module _ {P : Type 0} (same : P → P → Bool) (same_is : (p q : P) → same p 
             let rest = count_drop_le p q rs in
             subst (λ t. suc (count_of p (drop_one q rs)) ≤ cond t (suc (count_of p rs)) (count_of p rs)) (sym here) (omega (arith, rest))
         | false ↦ λ e.
-            let rest = count_drop p q rs (or_cases (same q r) (is_among same q rs) h e) pass in
+            let rest = count_drop p q rs (or_other (same q r) (is_among same q rs) h e) pass in
             elim (p r) as (λ t. suc (cond t (suc (count_of p (drop_one q rs))) (count_of p (drop_one q rs))) ≤ cond t (suc (count_of p rs)) (count_of p rs)) [ true ↦ omega (arith, rest) | false ↦ rest ]
       ]) refl
 
@@ -66,10 +52,10 @@ module _ {P : Type 0} (same : P → P → Bool) (same_is : (p q : P) → same p 
       (elim (same r s) as (λ t. same r s ≡ t → (t || is_among same r rs) ≡ true → is_among same r (cond (same q s) (drop_one q rs) (s ∷ drop_one q rs)) ≡ true) [
         | true ↦ λ e f.
             let other : same q s ≡ false = ap (same q) (sym (same_is r s e)) ∙ ne in
-            ap (λ t. is_among same r (cond t (drop_one q rs) (s ∷ drop_one q rs))) other ∙ or_first (same r s) (is_among same r (drop_one q rs)) e
+            ap (λ t. is_among same r (cond t (drop_one q rs) (s ∷ drop_one q rs))) other ∙ or_left (same r s) (is_among same r (drop_one q rs)) e
         | false ↦ λ e f.
             let rest = among_drop q r rs f ne in
-            elim (same q s) as (λ t. is_among same r (cond t (drop_one q rs) (s ∷ drop_one q rs)) ≡ true) [ true ↦ rest | false ↦ or_yes (same r s) (is_among same r (drop_one q rs)) rest ]
+            elim (same q s) as (λ t. is_among same r (cond t (drop_one q rs) (s ∷ drop_one q rs)) ≡ true) [ true ↦ rest | false ↦ or_right (same r s) (is_among same r (drop_one q rs)) rest ]
       ]) refl h
 
   -- each passes and is among these, and no two are the same
@@ -81,7 +67,7 @@ module _ {P : Type 0} (same : P → P → Bool) (same_is : (p q : P) → same p 
   unfolding ArePassing
   passing_drop p q rs [] out all = tt
   passing_drop p q rs (e ∷ es) out all =
-      let ne = or_none (same q e) (is_among same q es) out in
+      let ne = or_parts (same q e) (is_among same q es) out in
       (all.0, among_drop q e rs all.1 ne.0, all.2, passing_drop p q rs es ne.1 all.3)
 
   pub few : (p : P → Bool) (rs es : List P) → ArePassing p rs es → length es ≤ count_of p rs

@@ -1,21 +1,20 @@
 -- What holders have, and what principals own and keep.
-use Rattle.std.proofs.Common.{◌≡◌, ◌∙◌, inl, inr, refl, sym, ap, ℕ, zero, suc, ◌-◌, ◌<◌, Bool, true, false, not, ◌&&◌, ◌||◌, nat_eq, nat_lt, nat_le, [], ◌∷◌, length, drop, arith}
+use Rattle.std.proofs.Common.{◌≡◌, ◌∙◌, inl, inr, refl, sym, ap, ℕ, zero, suc, ◌-◌, ◌<◌, Bool, true, false, not, ◌&&◌, ◌||◌, nat_eq, nat_lt, nat_le, [], ◌∷◌, length, drop, arith, eqb-true}
 use Rattle.std.proofs.lemmas.Bool.{cases_Bool, cond-true, cond-false}
 use Rattle.std.proofs.lemmas.Bool.Decides.{nat_tests}
 use Rattle.std.proofs.lemmas.List.{length-drop}
 use Rattle.lx_caps.specs.declared.Principal.{Principal}
 use Rattle.lx_caps.specs.declared.Atom.{Atom}
 use Rattle.lx_caps.specs.declared.Act.TheVariants.{Grant, Strip, Zero, Loan, Lend, Shut, ShutAll}
-use Rattle.lx_caps.specs.Loans.{Ends, Newest, Every, Endings, none_end, with_ends, opened_by, before_loan, and_more, before_shut, before_shut_all, goes_on, lends}
+use Rattle.lx_caps.specs.Loans.{Ends, Newest, Every, Endings, none_end, opened_by, before_loan, and_more, before_shut, before_shut_all, goes_on, lends}
 use Rattle.lx_caps.specs.LoanLaws.{open_loans}
 use Rattle.lx_caps.specs.Owners.{leaves}
 use Rattle.lx_caps.specs.History.{History, has, kept_among, owned_among, same_principal}
 use Rattle.lx_cap_lists.specs.declared.holder.Holder.{Holder}
 use Rattle.lx_cap_lists.specs.declared.holder.Holder.TheVariants.{Keeper, Borrower}
 use Rattle.lx_cap_lists.specs.Holders.{by_all, by_keepers, open_count, left_by, had, same_holder}
-
-same_ℕ : (m n : ℕ) → nat_eq m n ≡ true → m ≡ n
-same_ℕ m n e = grind (arith, nat_tests, e)
+use Rattle.lx_caps.proofs.Tests.{and_none, second_true, and_yes}
+use Rattle.lx_caps.proofs.Endings.{with_here, with_other, opened_other}
 
 -- how many loans go on
 pub count_loan_here : (t : ℕ) (h : History) (u : ℕ) → nat_eq t u ≡ true → open_count (Loan t ∷ h) u ≡ suc (open_count h u)
@@ -36,10 +35,6 @@ count_all_here t h u is = ap length (cond-true (nat_eq t u) [] (open_loans h u) 
 pub count_all_other : (t : ℕ) (h : History) (u : ℕ) → nat_eq t u ≡ false → open_count (ShutAll t ∷ h) u ≡ open_count h u
 count_all_other t h u out = ap length (cond-false (nat_eq t u) [] (open_loans h u) out)
 
-and_second : (a b : Bool) → (a && b) ≡ true → b ≡ true
-and_second true b e = e
-and_second false b e = absurd (cc)
-
 -- a thread that lends has a loan
 pub some_loan : (h : History) (t : ℕ) → lends h t ≡ true → 0 < open_count h t
 some_loan [] t is = absurd (cc)
@@ -57,12 +52,12 @@ some_loan (Loan u ∷ h) t is = elim (cases_Bool (nat_eq u t)) [
 some_loan (Lend u q c ∷ h) t is = some_loan h t is
 some_loan (Shut u n ∷ h) t is = elim (cases_Bool (nat_eq u t)) [
   | inl here ↦
-      (let some = some_loan h t (and_second (not (nat_eq u t && nat_lt 0 n)) (lends h t) is) in
+      (let some = some_loan h t (second_true (not (nat_eq u t && nat_lt 0 n)) (lends h t) is) in
       let none : n ≡ 0 = by n (ap (λ b. not (b && nat_lt 0 n) && lends h t) (sym here) ∙ is) in
       let e = count_shut_here u n h t here in
       omega (arith, e, some, none))
   | inr out ↦
-      (let some = some_loan h t (and_second (not (nat_eq u t && nat_lt 0 n)) (lends h t) is) in
+      (let some = some_loan h t (second_true (not (nat_eq u t && nat_lt 0 n)) (lends h t) is) in
       let e = count_shut_other u n h t out in
       omega (arith, e, some))
 ]
@@ -73,7 +68,7 @@ some_loan (Shut u n ∷ h) t is = elim (cases_Bool (nat_eq u t)) [
 some_loan (ShutAll u ∷ h) t is = elim (cases_Bool (nat_eq u t)) [
   | inl here ↦ absurd (let no : false ≡ true = ap (λ b. not b && lends h t) (sym here) ∙ is in cc)
   | inr out ↦
-      (let some = some_loan h t (and_second (not (nat_eq u t)) (lends h t) is) in
+      (let some = some_loan h t (second_true (not (nat_eq u t)) (lends h t) is) in
       let e = count_all_other u h t out in
       omega (arith, e, some))
 ]
@@ -131,7 +126,7 @@ had_within a b (Shut t n ∷ h) x same = had_within (left_by t (open_count h t -
       | inl gone ↦ ap (λ r. not r && a (Borrower u d p)) gone ∙ sym (ap (λ r. not r && b (Borrower u d p)) gone)
       | inr left ↦ ap (λ r. not (nat_eq t u && nat_le (open_count h t - n) d) && r) (same (Borrower u d p) (elim (cases_Bool (nat_eq t u)) [
         | inl here ↦
-            (let at = same_ℕ t u here in
+            (let at = eqb-true t u here in
             let e = count_shut_here t n h u here in
             let less : nat_le (open_count h t - n) d ≡ false = ap (λ r. r && nat_le (open_count h t - n) d) (sym here) ∙ left in
             let less_here : nat_le (open_count h u - n) d ≡ false = ap (λ v. nat_le (open_count h v - n) d) (sym at) ∙ less in
@@ -164,21 +159,10 @@ fewer (Newest zero) = Newest zero
 fewer (Newest (suc k)) = Newest k
 fewer Every = Every
 
-with_here : (t : ℕ) (e : Ends) (ends : Endings) (u : ℕ) → nat_eq t u ≡ true → with_ends t e ends u ≡ e
-with_here t e ends u is = cond-true (nat_eq t u) e (ends u) is
-
-with_other : (t : ℕ) (e : Ends) (ends : Endings) (u : ℕ) → nat_eq t u ≡ false → with_ends t e ends u ≡ ends u
-with_other t e ends u out = cond-false (nat_eq t u) e (ends u) out
-
 opened_here : (e : Ends) (t : ℕ) (ends : Endings) (u : ℕ) → nat_eq t u ≡ true → ends u ≡ e → opened_by e t ends u ≡ fewer e
 opened_here (Newest zero) t ends u is e = e
 opened_here (Newest (suc k)) t ends u is e = with_here t (Newest k) ends u is
 opened_here Every t ends u is e = e
-
-opened_other : (e : Ends) (t : ℕ) (ends : Endings) (u : ℕ) → nat_eq t u ≡ false → opened_by e t ends u ≡ ends u
-opened_other (Newest zero) t ends u out = refl
-opened_other (Newest (suc k)) t ends u out = with_other t (Newest k) ends u out
-opened_other Every t ends u out = refl
 
 loan_numbers : (e : Ends) (c d : ℕ) → nat_lt d c ≡ true → survives (fewer e) c d ≡ survives e (suc c) d
 loan_numbers (Newest zero) c d w = grind (arith, nat_tests, w)
@@ -193,14 +177,6 @@ and_swap : (a b c : Bool) → (a && (b && c)) ≡ (b && (a && c))
 and_swap true b c = refl
 and_swap false true c = refl
 and_swap false false c = refl
-
-and_no : (a : Bool) → (a && false) ≡ false
-and_no true = refl
-and_no false = refl
-
-and_yes : (a : Bool) → (a && true) ≡ a
-and_yes true = refl
-and_yes false = refl
 
 -- a lend on the newest loan
 newest_lasts : (e : Ends) (c : ℕ) → 0 < c → survives e c (c - 1) ≡ goes_on e
@@ -218,7 +194,7 @@ lend_order false false a x = refl
 
 lend_is : (h : History) (t : ℕ) (l a x : Bool) (e : Ends) → lends h t ≡ l → (goes_on e && (l && (a && x))) ≡ (l && ((a && survives e (open_count h t) (open_count h t - 1)) && x))
 lend_is h t true a x e is = lend_order (goes_on e) true a x ∙ ap (λ g. (a && g) && x) (sym (newest_lasts e (open_count h t) (some_loan h t is)))
-lend_is h t false a x e is = and_no (goes_on e)
+lend_is h t false a x e is = and_none (goes_on e)
 
 pub owned_had : (among : Principal → Bool) (ends : Endings) (h : History) (x : Atom) → owned_among among ends h x ≡ had (surviving among ends (open_count h)) h x
 owned_had among ends [] x = refl
@@ -231,8 +207,8 @@ owned_had among ends (Loan t ∷ h) x = owned_had among (before_loan t ends) h x
     by (Keeper q) w = refl
     by (Borrower u d q) w = ap (λ r. among q && r) (elim (cases_Bool (nat_eq t u)) [
       | inl here ↦
-          ap (λ e. survives e (open_count h u) d) (opened_here (ends t) t ends u here (ap ends (sym (same_ℕ t u here))))
-          ∙ (loan_numbers (ends t) (open_count h u) d w ∙ (ap (λ v. survives (ends v) (suc (open_count h u)) d) (same_ℕ t u here) ∙ ap (λ c. survives (ends u) c d) (sym (count_loan_here t h u here))))
+          ap (λ e. survives e (open_count h u) d) (opened_here (ends t) t ends u here (ap ends (sym (eqb-true t u here))))
+          ∙ (loan_numbers (ends t) (open_count h u) d w ∙ (ap (λ v. survives (ends v) (suc (open_count h u)) d) (eqb-true t u here) ∙ ap (λ c. survives (ends u) c d) (sym (count_loan_here t h u here))))
       | inr out ↦ ap (λ e. survives e (open_count h u) d) (opened_other (ends t) t ends u out) ∙ ap (λ c. survives (ends u) c d) (sym (count_loan_other t h u out))
     ])
 owned_had among ends (Lend t q c ∷ h) x =
@@ -248,9 +224,9 @@ owned_had among ends (Shut t n ∷ h) x = owned_had among (before_shut t n ends)
           ap (λ e. among q && survives e (open_count h u) d) (with_here t (and_more n (ends t)) ends u here)
           ∙ (ap (λ r. among q && r) (shut_numbers (ends t) (open_count h u) n d w)
           ∙ (and_swap (among q) (not (nat_le (open_count h u - n) d)) (survives (ends t) (open_count h u - n) d)
-          ∙ (ap (λ v. not (nat_le (open_count h u - n) d) && (among q && survives (ends v) (open_count h u - n) d)) (same_ℕ t u here)
+          ∙ (ap (λ v. not (nat_le (open_count h u - n) d) && (among q && survives (ends v) (open_count h u - n) d)) (eqb-true t u here)
           ∙ (ap (λ c. not (nat_le (open_count h u - n) d) && (among q && survives (ends u) c d)) (sym (count_shut_here t n h u here))
-          ∙ (ap (λ v. not (nat_le (open_count h v - n) d) && (among q && survives (ends u) (open_count (Shut t n ∷ h) u) d)) (sym (same_ℕ t u here))
+          ∙ (ap (λ v. not (nat_le (open_count h v - n) d) && (among q && survives (ends u) (open_count (Shut t n ∷ h) u) d)) (sym (eqb-true t u here))
           ∙ ap (λ r. not (r && nat_le (open_count h t - n) d) && (among q && survives (ends u) (open_count (Shut t n ∷ h) u) d)) (sym here))))))
       | inr out ↦
           ap (λ e. among q && survives e (open_count h u) d) (with_other t (and_more n (ends t)) ends u out)
@@ -267,8 +243,8 @@ owned_had among ends (ShutAll t ∷ h) x = owned_had among (before_shut_all t en
           (let low : nat_le 0 d ≡ true = grind (arith, nat_tests) in
           let gone : (nat_eq t u && nat_le 0 d) ≡ true = ap (λ r. r && nat_le 0 d) here ∙ low in
           ap (λ e. among q && survives e (open_count h u) d) (with_here t Every ends u here)
-          ∙ (ap (λ r. among q && r) (and_no (nat_lt d (open_count h u)))
-          ∙ (and_no (among q) ∙ ap (λ r. not r && (among q && survives (ends u) (open_count (ShutAll t ∷ h) u) d)) (sym gone))))
+          ∙ (ap (λ r. among q && r) (and_none (nat_lt d (open_count h u)))
+          ∙ (and_none (among q) ∙ ap (λ r. not r && (among q && survives (ends u) (open_count (ShutAll t ∷ h) u) d)) (sym gone))))
       | inr out ↦
           ap (λ e. among q && survives e (open_count h u) d) (with_other t Every ends u out)
           ∙ (ap (λ c. among q && survives (ends u) c d) (sym (count_all_other t h u out))
@@ -290,17 +266,17 @@ kept_is among (Grant q c ∷ h) x = ap (λ r. (among q && has c x) || r) (kept_i
 kept_is among (Strip c ∷ h) x = ap (λ r. not (has c x) && r) (kept_is among h x)
 kept_is among (Zero at size ∷ h) x = kept_is among h x
 kept_is among (Loan t ∷ h) x = kept_is among h x
-kept_is among (Lend t q c ∷ h) x = kept_is among h x ∙ sym (ap (λ r. r || had (by_keepers among) h x) (and_no (lends h t)))
+kept_is among (Lend t q c ∷ h) x = kept_is among h x ∙ sym (ap (λ r. r || had (by_keepers among) h x) (and_none (lends h t)))
 kept_is among (Shut t n ∷ h) x = kept_is among h x ∙ had_within (by_keepers among) (left_by t (open_count h t - n) (by_keepers among)) h x by
   where
     by : (s : Holder) → is_within h s ≡ true → by_keepers among s ≡ left_by t (open_count h t - n) (by_keepers among) s
     by (Keeper q) w = refl
-    by (Borrower u d q) w = sym (and_no (not (nat_eq t u && nat_le (open_count h t - n) d)))
+    by (Borrower u d q) w = sym (and_none (not (nat_eq t u && nat_le (open_count h t - n) d)))
 kept_is among (ShutAll t ∷ h) x = kept_is among h x ∙ had_within (by_keepers among) (left_by t 0 (by_keepers among)) h x by
   where
     by : (s : Holder) → is_within h s ≡ true → by_keepers among s ≡ left_by t 0 (by_keepers among) s
     by (Keeper q) w = refl
-    by (Borrower u d q) w = sym (and_no (not (nat_eq t u && nat_le 0 d)))
+    by (Borrower u d q) w = sym (and_none (not (nat_eq t u && nat_le 0 d)))
 
 -- who keeps something is its keeper
 pub keeper_is : (q : Principal) (s : Holder) → same_holder (Keeper q) s ≡ by_keepers (same_principal q) s

@@ -1,7 +1,8 @@
 -- The nodes of a loan are no more than those who have something on it, spot by spot.
-use Rattle.std.proofs.Common.{◌≡◌, ℕ, zero, suc, ◌+◌, ◌-◌, ◌*◌, ◌/◌, ◌<◌, ◌≤◌, min, Bool, true, false, not, ◌&&◌, ◌||◌, nat_eq, nat_le, List, [], ◌∷◌, ◌++◌, map, Some, None, refl, sym, ap, ◌∙◌, subst, arith, append_assoc}
+use Rattle.std.proofs.Common.{◌≡◌, ℕ, zero, suc, ◌+◌, ◌-◌, ◌*◌, ◌/◌, ◌<◌, ◌≤◌, min, Bool, true, false, not, ◌&&◌, ◌||◌, nat_eq, nat_le, List, [], ◌∷◌, ◌++◌, map, Some, None, refl, sym, ap, ◌∙◌, subst, arith, append_assoc, eqb-true}
 use Rattle.std.proofs.lemmas.Bool.Decides.{nat_tests}
 use Rattle.std.proofs.lemmas.List.{length-map}
+use Rattle.std.proofs.lemmas.Bool.{and_parts, and_from, or_right, or_left}
 use Rattle.lx_caps.specs.declared.Principal.{Principal}
 use Rattle.lx_caps.specs.declared.Cap.{Cap}
 use Rattle.lx_caps.specs.declared.Cap.TheVariants as cap
@@ -26,26 +27,17 @@ use Rattle.lx_cap_lists.specs.Kept.{AreAll, IsMask, width_of, AreNodes, AllNodes
 use Rattle.lx_cap_lists.specs.Loans.{loans_of, is_on}
 use Rattle.lx_cap_lists.specs.Tables.{Key, Shows, loan_key, holder_key, place_in, part_list, place_of_spot, call_key, ref_key, is_in_order, count_in, loans_work}
 use Rattle.lx_cap_tables.specs.Work.{is_among, and_one, count_of, same_spot, parts_from, spots_of, Pair, same_pair, and_each, lent_pairs, has_now, has_at, is_lent, loans_and_pairs, shut_bound}
-use Rattle.lx_cap_tables.proofs.AtomLemmas.{behind_far}
 use Rattle.lx_cap_tables.proofs.Below.{some_from}
 use Rattle.lx_cap_lists.proofs.BitLemmas.{same_is}
 use Rattle.lx_cap_tables.proofs.BoundLemmas.{has_bit}
 use Rattle.lx_cap_tables.proofs.EndLemmas.{on_loan}
 use Rattle.lx_cap_lists.proofs.KeyLemmas.{one_key}
 use Rattle.lx_cap_tables.proofs.Few.{added, added_self, few, ArePassing}
-use Rattle.lx_cap_lists.proofs.HeldLemmas.{and_yes, and_join, byte_of}
 use Rattle.lx_cap_lists.proofs.NodeLemmas.{width_part, width_behind}
 use Rattle.lx_cap_lists.proofs.PartLemmas.{list_below}
 use Rattle.lx_cap_tables.proofs.TieLemmas.{in_place, in_owner, value_place, same_self}
-use Rattle.lx_cap_lists.proofs.WalkLemmas.{same_from_eq, eq_self}
-
-or_yes : (a b : Bool) → b ≡ true → (a || b) ≡ true
-or_yes true b e = refl
-or_yes false b e = e
-
-or_first : (a b : Bool) → a ≡ true → (a || b) ≡ true
-or_first true b e = refl
-or_first false b e = absurd (cc)
+use Rattle.lx_caps.proofs.Tests.{eq_itself, byte_of}
+use Rattle.lx_cap_lists.proofs.KeyPlaces.{behind_far}
 
 or_parts : (a b : Bool) → (a || b) ≡ true → (a ≡ false → b ≡ true)
 or_parts true b e f = absurd (cc)
@@ -53,31 +45,31 @@ or_parts false b e f = e
 
 -- the same spot and the same pair
 spot_is : (p q : Spot) → same_spot p q ≡ true → p ≡ q
-spot_is (spot.Part p) (spot.Part q) e = ap spot.Part (same_from_eq p q e)
+spot_is (spot.Part p) (spot.Part q) e = ap spot.Part (eqb-true p q e)
 spot_is (spot.Part p) (spot.Call b) e = absurd (cc)
 spot_is (spot.Part p) (spot.Ref u b) e = absurd (cc)
 spot_is (spot.Call a) (spot.Part q) e = absurd (cc)
-spot_is (spot.Call a) (spot.Call b) e = ap spot.Call (same_from_eq a b e)
+spot_is (spot.Call a) (spot.Call b) e = ap spot.Call (eqb-true a b e)
 spot_is (spot.Call a) (spot.Ref u b) e = absurd (cc)
 spot_is (spot.Ref t a) (spot.Part q) e = absurd (cc)
 spot_is (spot.Ref t a) (spot.Call b) e = absurd (cc)
 spot_is (spot.Ref t a) (spot.Ref u b) e =
-    let both = and_yes (nat_eq t u) (nat_eq a b) e in ap (λ k. spot.Ref k a) (same_from_eq t u both.0) ∙ ap (λ k. spot.Ref u k) (same_from_eq a b both.1)
+    let both = and_parts (nat_eq t u) (nat_eq a b) e in ap (λ k. spot.Ref k a) (eqb-true t u both.0) ∙ ap (λ k. spot.Ref u k) (eqb-true a b both.1)
 
 spot_self : (p : Spot) → same_spot p p ≡ true
-spot_self (spot.Part p) = eq_self p
-spot_self (spot.Call a) = eq_self a
-spot_self (spot.Ref t a) = and_join (nat_eq t t) (nat_eq a a) (eq_self t) (eq_self a)
+spot_self (spot.Part p) = eq_itself p
+spot_self (spot.Call a) = eq_itself a
+spot_self (spot.Ref t a) = and_from (nat_eq t t) (nat_eq a a) (eq_itself t) (eq_itself a)
 
 pair_is : (x y : Pair) → same_pair x y ≡ true → x ≡ y
 pair_is x y e =
-    let both = and_yes (same_spot x.0 y.0) (same_holder x.1 y.1) e in
+    let both = and_parts (same_spot x.0 y.0) (same_holder x.1 y.1) e in
     let a = spot_is x.0 y.0 both.0 in
     let b = same_is x.1 y.1 both.1 in
     λ j. (a j, b j)
 
 pair_self : (x : Pair) → same_pair x x ≡ true
-pair_self x = and_join (same_spot x.0 x.0) (same_holder x.1 x.1) (spot_self x.0) (same_self x.1)
+pair_self x = and_from (same_spot x.0 x.0) (same_holder x.1 x.1) (spot_self x.0) (same_self x.1)
 
 -- the spot of an atom
 abbrev spot_of : Atom → Spot
@@ -104,11 +96,11 @@ cap_has (cap.Write at (suc n)) (atom.Byte b) h =
 cap_has (cap.Write at size) (atom.Call b) h = absurd (cc)
 cap_has (cap.Write at size) (atom.Ref u b) h = absurd (cc)
 cap_has (cap.Call a) (atom.Byte b) h = absurd (cc)
-cap_has (cap.Call a) (atom.Call b) h = or_first (nat_eq b a) false (grind (arith, nat_tests, h))
+cap_has (cap.Call a) (atom.Call b) h = or_left (nat_eq b a) false (grind (arith, nat_tests, h))
 cap_has (cap.Call a) (atom.Ref u b) h = absurd (cc)
 cap_has (cap.Ref t a) (atom.Byte b) h = absurd (cc)
 cap_has (cap.Ref t a) (atom.Call b) h = absurd (cc)
-cap_has (cap.Ref t a) (atom.Ref u b) h = let both = and_yes (nat_eq t u) (nat_eq a b) h in or_first (nat_eq u t && nat_eq b a) false (grind (arith, nat_tests, both))
+cap_has (cap.Ref t a) (atom.Ref u b) h = let both = and_parts (nat_eq t u) (nat_eq a b) h in or_left (nat_eq u t && nat_eq b a) false (grind (arith, nat_tests, both))
 
 abbrev is_pair : Pair → List Pair → Bool
 is_pair x xs = is_among same_pair x xs
@@ -137,15 +129,15 @@ unfolding NoKeeper Only
 lent_pair among s [] x none only is = absurd (cc)
 lent_pair among s (Grant q c ∷ h) x none only is =
     lent_pair among s h x none only (or_parts (among (Keeper q) && has c x) (had among h x) is (ap (λ b. b && has c x) (none q)))
-lent_pair among s (Strip c ∷ h) x none only is = lent_pair among s h x none only (and_yes (not (has c x)) (had among h x) is).1
+lent_pair among s (Strip c ∷ h) x none only is = lent_pair among s h x none only (and_parts (not (has c x)) (had among h x) is).1
 lent_pair among s (Zero at size ∷ h) x none only is = lent_pair among s h x none only is
 lent_pair among s (Loan t ∷ h) x none only is = lent_pair among s h x none only is
 lent_pair among s (Lend t q c ∷ h) x none only is =
     let r : Holder = Borrower t (open_count h t - 1) q in
     (elim (lends h t && (among r && has c x)) as (λ b. (lends h t && (among r && has c x)) ≡ b → (b || had among h x) ≡ true → is_pair (spot_of x, s) (and_each (spots_of c) r (lent_pairs h)) ≡ true) [
       | true ↦ λ e f.
-          let both = and_yes (lends h t) (among r && has c x) e in
-          let parts = and_yes (among r) (has c x) both.1 in
+          let both = and_parts (lends h t) (among r && has c x) e in
+          let parts = and_parts (among r) (has c x) both.1 in
           subst (λ v. is_pair (spot_of x, v) (and_each (spots_of c) r (lent_pairs h)) ≡ true) (only r parts.0) (each_has (spot_of x) r (spots_of c) (lent_pairs h) (cap_has c x parts.1))
       | false ↦ λ e f. each_keeps (spot_of x, s) r (spots_of c) (lent_pairs h) (lent_pair among s h x none only f)
     ]) refl is
@@ -153,12 +145,12 @@ lent_pair among s (Shut t n ∷ h) x none only is = lent_pair (left_by t (open_c
   where
     less_only : (u older : ℕ) (a : Holder → Bool) (v : Holder) → ((r : Holder) → a r ≡ true → r ≡ v) → (r : Holder) → left_by u older a r ≡ true → r ≡ v
     less_only u older a v only (Keeper q) e = only (Keeper q) e
-    less_only u older a v only (Borrower w d q) e = only (Borrower w d q) (and_yes (not (nat_eq u w && nat_le older d)) (a (Borrower w d q)) e).1
+    less_only u older a v only (Borrower w d q) e = only (Borrower w d q) (and_parts (not (nat_eq u w && nat_le older d)) (a (Borrower w d q)) e).1
 lent_pair among s (ShutAll t ∷ h) x none only is = lent_pair (left_by t 0 among) s h x none (less_only t 0 among s only) is
   where
     less_only : (u older : ℕ) (a : Holder → Bool) (v : Holder) → ((r : Holder) → a r ≡ true → r ≡ v) → (r : Holder) → left_by u older a r ≡ true → r ≡ v
     less_only u older a v only (Keeper q) e = only (Keeper q) e
-    less_only u older a v only (Borrower w d q) e = only (Borrower w d q) (and_yes (not (nat_eq u w && nat_le older d)) (a (Borrower w d q)) e).1
+    less_only u older a v only (Borrower w d q) e = only (Borrower w d q) (and_parts (not (nat_eq u w && nat_le older d)) (a (Borrower w d q)) e).1
 
 borrowed : (t d : ℕ) (q : Principal) (h : History) (x : Atom) → had (same_holder (Borrower t d q)) h x ≡ true → is_pair (spot_of x, Borrower t d q) (lent_pairs h) ≡ true
 unfolding NoKeeper Only
@@ -166,8 +158,8 @@ borrowed t d q h x is = lent_pair (same_holder (Borrower t d q)) (Borrower t d q
 
 -- nodes of one list of places with the same holder are one
 holder_there : (q : Holder) (xs ys : List (ℕ × Entry)) (n : ℕ) (e : Entry) → same_holder q e.holder ≡ true → is_holder q (xs ++ (n, e) ∷ ys) ≡ true
-holder_there q [] ys n e is = or_first (same_holder q e.holder) (is_holder q ys) is
-holder_there q (x ∷ xs) ys n e is = or_yes (same_holder q x.1.holder) (is_holder q (xs ++ (n, e) ∷ ys)) (holder_there q xs ys n e is)
+holder_there q [] ys n e is = or_left (same_holder q e.holder) (is_holder q ys) is
+holder_there q (x ∷ xs) ys n e is = or_right (same_holder q x.1.holder) (is_holder q (xs ++ (n, e) ∷ ys)) (holder_there q xs ys n e is)
 
 one_holder : (w : ℕ) (es : List (ℕ × Entry)) → AreNodes w es → (xs ys us vs : List (ℕ × Entry)) (n m : ℕ) (e f : Entry) → es ≡ xs ++ (n, e) ∷ ys → es ≡ us ++ (m, f) ∷ vs
     → same_holder e.holder f.holder ≡ true → same_holder f.holder e.holder ≡ true → n ≡ m
@@ -193,8 +185,8 @@ one_holder w (z ∷ es) nodes (x ∷ xs) ys (u ∷ us) vs n m e f a b c d =
 
 -- a number that stands behind another one differs from it
 number_there : (xs ys : List (ℕ × Entry)) (n : ℕ) (e : Entry) → has_number n (names (xs ++ (n, e) ∷ ys)) ≡ true
-number_there [] ys n e = or_first (nat_eq n n) (has_number n (names ys)) (eq_self n)
-number_there (x ∷ xs) ys n e = or_yes (nat_eq n x.0) (has_number n (names (xs ++ (n, e) ∷ ys))) (number_there xs ys n e)
+number_there [] ys n e = or_left (nat_eq n n) (has_number n (names ys)) (eq_itself n)
+number_there (x ∷ xs) ys n e = or_right (nat_eq n x.0) (has_number n (names (xs ++ (n, e) ∷ ys))) (number_there xs ys n e)
 
 abbrev pair_of : ℕ × Entry → Pair
 pair_of e = (e.1.spot, e.1.holder)
@@ -302,7 +294,7 @@ module _ (pool : Pool Entry) (laws : PoolLaws pool) (owners atoms : List Key) (l
         let has_it = node_has o e.0 e.1 front es is in
         let x = has_it.1.0 in
         let now : had (same_holder (Borrower t d who.0)) h x ≡ true = ap (λ s. had (same_holder s) h x) (sym who.1) ∙ has_it.1.2 in (
-          and_join (is_on t d (d + 1) e.1.holder) (has_at h e.1.spot e.1.holder) (on_loan e.1.holder t d low key) has_it.0,
+          and_from (is_on t d (d + 1) e.1.holder) (has_at h e.1.spot e.1.holder) (on_loan e.1.holder t d low key) has_it.0,
           ap (λ s. is_pair (e.1.spot, s) (lent_pairs h)) who.1 ∙ (ap (λ p. is_pair (p, Borrower t d who.0) (lent_pairs h)) (sym has_it.1.1) ∙ borrowed t d who.0 h x now),
           no_other e.0 e.1 front es is,
           loan_pass (front ++ e ∷ []) es (is ∙ sym (append_assoc front (e ∷ []) es)),

@@ -1,26 +1,24 @@
 -- How the tables stay sound.
-use Rattle.std.proofs.Common.{◌≡◌, ◌≢◌, ◌&&◌, ℕ, zero, suc, ◌+◌, ◌≤◌, Bool, true, false, replicate, List, [], ◌∷◌, length, Option, Some, None, refl, sym, ap, ◌∙◌, subst, arith}
+use Rattle.std.proofs.Common.{◌≡◌, ◌&&◌, ℕ, zero, suc, ◌+◌, ◌≤◌, Bool, true, false, replicate, List, [], ◌∷◌, length, Option, Some, None, refl, sym, ap, ◌∙◌, subst, arith}
+use Rattle.std.proofs.lemmas.Bool.{and_parts, and_from}
 use Rattle.lx_cap_nodes.specs.declared.pool.ListName.{ListName}
 use Rattle.lx_cap_nodes.specs.declared.pool.ListName.TheVariants as name
 use Rattle.lx_cap_nodes.specs.Pool.{Pool}
 use Rattle.lx_cap_nodes.specs.Words.{nodes_at}
 use Rattle.lx_cap_lists.specs.declared.entry.Entry.{Entry}
 use Rattle.lx_caps.specs.declared.Principal.{Principal}
-use Rattle.lx_caps.specs.declared.Principal.TheVariants.{Kernel, Shared, Global, Inst}
 use Rattle.lx_caps.specs.declared.Cap.{Cap}
 use Rattle.lx_caps.specs.declared.Cap.TheVariants as cap
 use Rattle.lx_caps.specs.declared.Atom.{Atom}
 use Rattle.lx_caps.specs.declared.Atom.TheVariants as atom
 use Rattle.lx_caps.specs.Cells.{cells}
-use Rattle.lx_caps.specs.History.{History, holds, holds_by_reach, keeps_all, keeps_by_reach, reaches, each_atom, each_byte, same_principal}
+use Rattle.lx_caps.specs.History.{History, holds_by_reach, keeps_by_reach, reaches, each_atom, each_byte, same_principal}
 use Rattle.lx_caps.specs.Order.{is_behind, IsFirst, IsNextOwned}
 use Rattle.lx_caps.specs.Precedence.{follows, IsFirstPrincipal, IsNextOwner}
 use Rattle.lx_cap_lists.specs.declared.entry.Spot.{Spot}
 use Rattle.lx_cap_lists.specs.declared.entry.Spot.TheVariants as spot
 use Rattle.lx_cap_lists.specs.Tables.{Key, is_in_order, is_place, behind_parts, place_in, place_of_spot, call_key, ref_key, holder_key, Shows, shown_at, shown_cap, place_of, bit_of}
 use Rattle.lx_cap_lists.specs.Entries.{bit_among}
-use Rattle.lx_cap_lists.proofs.WalkLemmas.{eq_self}
-use Rattle.lx_cap_lists.proofs.HeldLemmas.{and_yes, and_join}
 use Rattle.lx_cap_lists.specs.Kept.{AreAll, Respects, FitsSpots, all_nodes, AllNodes, AreNodes, width_of}
 use Rattle.lx_cap_lists.specs.declared.holder.Holder.{Holder}
 use Rattle.lx_cap_lists.specs.declared.holder.InReach.TheVariants.{Owned, Kept}
@@ -28,6 +26,7 @@ use Rattle.lx_cap_lists.specs.Holders.{counts, held_by, had}
 use Rattle.lx_cap_lists.specs.Loans.{is_open, loans_of}
 use Rattle.lx_cap_tables.specs.Sound.{IsSound}
 use Rattle.lx_cap_tables.proofs.HadLemmas.{owned_is, kept_is}
+use Rattle.lx_caps.proofs.Tests.{eq_itself}
 
 pub order_respects : (owners atoms : List Key) (loans : List ℕ) → Respects (is_in_order owners atoms loans)
 unfolding Respects
@@ -87,7 +86,7 @@ spot_more atoms more h (spot.Ref t a) j is = behind_more (place_in atoms (ref_ke
 
 all_more : (p q : Entry → Bool) → ((e : Entry) → p e ≡ true → q e ≡ true) → (es : List (ℕ × Entry)) → all_nodes p es ≡ true → all_nodes q es ≡ true
 all_more p q h [] is = refl
-all_more p q h (e ∷ es) is = let both = and_yes (p e.1) (all_nodes p es) is in and_join (q e.1) (all_nodes q es) (h e.1 both.0) (all_more p q h es both.1)
+all_more p q h (e ∷ es) is = let both = and_parts (p e.1) (all_nodes p es) is in and_from (q e.1) (all_nodes q es) (h e.1 both.0) (all_more p q h es both.1)
 
 pub order_more : (pool : Pool Entry) (owners atoms more_owners more_atoms : List Key) (loans : List ℕ)
     → ((x : Key) (j : ℕ) → place_in owners x ≡ Some j → place_in more_owners x ≡ Some j) → ((x : Key) (j : ℕ) → place_in atoms x ≡ Some j → place_in more_atoms x ≡ Some j)
@@ -95,40 +94,27 @@ pub order_more : (pool : Pool Entry) (owners atoms more_owners more_atoms : List
 unfolding AreAll
 order_more pool owners atoms more_owners more_atoms loans h k all (name.Place l) =
     all_more (is_in_order owners atoms loans (name.Place l)) (is_in_order more_owners more_atoms loans (name.Place l))
-    (λ e is. let both = and_yes (is_open loans e.holder) (is_place (place_of_spot atoms e.spot) l) is in
-    and_join (is_open loans e.holder) (is_place (place_of_spot more_atoms e.spot) l) both.0 (is_place_more (place_of_spot atoms e.spot) (place_of_spot more_atoms e.spot) l (spot_more atoms more_atoms k e.spot) both.1))
+    (λ e is. let both = and_parts (is_open loans e.holder) (is_place (place_of_spot atoms e.spot) l) is in
+    and_from (is_open loans e.holder) (is_place (place_of_spot more_atoms e.spot) l) both.0 (is_place_more (place_of_spot atoms e.spot) (place_of_spot more_atoms e.spot) l (spot_more atoms more_atoms k e.spot) both.1))
     (nodes_at pool.places l) (all (name.Place l))
 order_more pool owners atoms more_owners more_atoms loans h k all (name.Owner l) =
     all_more (is_in_order owners atoms loans (name.Owner l)) (is_in_order more_owners more_atoms loans (name.Owner l))
-    (λ e is. let both = and_yes (is_open loans e.holder) (is_place (place_in owners (holder_key e.holder)) l) is in
-    and_join (is_open loans e.holder) (is_place (place_in more_owners (holder_key e.holder)) l) both.0 (is_place_more (place_in owners (holder_key e.holder)) (place_in more_owners (holder_key e.holder)) l (h (holder_key e.holder)) both.1))
+    (λ e is. let both = and_parts (is_open loans e.holder) (is_place (place_in owners (holder_key e.holder)) l) is in
+    and_from (is_open loans e.holder) (is_place (place_in more_owners (holder_key e.holder)) l) both.0 (is_place_more (place_in owners (holder_key e.holder)) (place_in more_owners (holder_key e.holder)) l (h (holder_key e.holder)) both.1))
     (nodes_at pool.owners l) (all (name.Owner l))
 
 -- what a holder is given is in order
 pub given_in_order : (owners atoms : List Key) (loans : List ℕ) (to : Holder) (o : ℕ) → place_in owners (holder_key to) ≡ Some o → is_open loans to ≡ true → FitsSpots (is_in_order owners atoms loans) atoms to o
 unfolding FitsSpots
 given_in_order owners atoms loans to o own opened = λ s l m is. (
-  and_join (is_open loans to) (is_place (place_of_spot atoms s) l) opened (ap (λ q. is_place q l) is ∙ eq_self l),
-  and_join (is_open loans to) (is_place (place_in owners (holder_key to)) o) opened (ap (λ q. is_place q o) own ∙ eq_self o),
+  and_from (is_open loans to) (is_place (place_of_spot atoms s) l) opened (ap (λ q. is_place q l) is ∙ eq_itself l),
+  and_from (is_open loans to) (is_place (place_in owners (holder_key to)) o) opened (ap (λ q. is_place q o) own ∙ eq_itself o),
 )
 
 pub some_cells : (c : Cap) → 1 ≤ cells c
 some_cells (cap.Write at size) = omega arith
 some_cells (cap.Call a) = omega arith
 some_cells (cap.Ref t a) = omega arith
-
--- what a principal that is not the kernel holds and keeps
-pub by_reach : (h : History) (who : Principal) (c : Cap) → who ≢ Kernel → holds h who c ≡ holds_by_reach h who c
-by_reach h Kernel c ne = absurd (ne refl)
-by_reach h (Shared m) c ne = refl
-by_reach h (Global m) c ne = refl
-by_reach h (Inst m k) c ne = refl
-
-pub kept_by_reach : (h : History) (who : Principal) (c : Cap) → who ≢ Kernel → keeps_all h who c ≡ keeps_by_reach h who c
-kept_by_reach h Kernel c ne = absurd (ne refl)
-kept_by_reach h (Shared m) c ne = refl
-kept_by_reach h (Global m) c ne = refl
-kept_by_reach h (Inst m k) c ne = refl
 
 shown_is : (places : List (List (ℕ × Entry))) (atoms : List Key) (h : History) (among : Holder → Bool) (c : Cap) → Shows places atoms h → shown_cap places atoms among c ≡ each_atom (had among h) c
 shown_is places atoms h among (cap.Write at size) shows = λ j. each_byte (λ b. sym (shows among (atom.Byte b)) j) at size

@@ -1,7 +1,7 @@
 -- The bytes that were gathered, by parts.
 use Rattle.std.specs.Prelude.{◌+◌, ◌*◌, ◌^◌, ◌<◌, Bool, true, false, List}
-use Rattle.lx_byte_ranges.specs.Parts.{is_among}
-use Rattle.lx_byte_ranges.specs.declared.PartBytes.{PartBytes}
+use Rattle.lx_cap_lists.specs.Parts.{is_among}
+use Rattle.lx_cap_lists.specs.declared.PartBytes.{PartBytes}
 use Rattle.lx_caps.specs.declared.Atom.{Atom}
 use Rattle.lx_caps.specs.declared.Atom.TheVariants as atom
 

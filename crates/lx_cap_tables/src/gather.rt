@@ -1,7 +1,7 @@
 //! What the lists of owners give a principal, gathered into a list.
 ghost use Rattle.std.specs.Prelude.{◌≡◌, ◌+◌, ◌*◌, ◌/◌, ◌%◌, ◌^◌, ◌<◌, ◌≤◌, ℕ, Bool, ◌&&◌, ◌||◌, true, length, List, IfOk, OnOk};
 ghost use Rattle.std.specs.List.{All};
-ghost use Rattle.lx_byte_ranges.specs.Parts.{is_among};
+ghost use Rattle.lx_cap_lists.specs.Parts.{is_among};
 ghost use Rattle.lx_caps.specs.declared.Atom.{Atom};
 ghost use Rattle.lx_caps.specs.declared.Atom.TheVariants.{Byte};
 ghost use Rattle.lx_caps.specs.Order.{is_call_or_ref, stands_in};
@@ -16,12 +16,13 @@ ghost use Rattle.lx_cap_lists.specs.Tables.{loan_key, owner_key};
 
 use crate::loans::THREADS;
 use indexmap::IndexSet;
-use lx_byte_ranges::PartBytes;
 use lx_cap_lists::{
-    Entry, Key, Pool, Spot, atom_alone, loan_key, owner_key, place_in, principal_of, visit,
+    Entry, Key, PartBytes, Pool, Spot, atom_alone, loan_key, owner_key, place_in, principal_of,
+    visit,
 };
 use lx_cap_nodes::ListName;
-use lx_caps::{Atom, Memory, Principal, is_same, put_found};
+use lx_caps::{Atom, Principal, is_same, put_found};
+use lx_words::Memory;
 use std::alloc::Global;
 use std::marker::Model;
 
@@ -75,7 +76,7 @@ pub(crate) struct Parts {
 impl Model for Parts {
     ghost use Rattle.std.specs.Prelude.{List};
     ghost use Rattle.std.specs.List.{All};
-    ghost use Rattle.lx_byte_ranges.specs.declared.PartBytes.{PartBytes};
+    ghost use Rattle.lx_cap_lists.specs.declared.PartBytes.{PartBytes};
     ghost use Rattle.lx_cap_tables.specs.Gathered.{PartFits};
 
     ghost Value = { List PartBytes };

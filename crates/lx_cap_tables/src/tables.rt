@@ -17,10 +17,10 @@ use crate::gather::{calls_and_refs, owned_parts};
 use crate::held::{Wanted, holds_cap, owned_behind, owner_behind};
 use crate::loans::{Ended, THREADS, shut_loans};
 use indexmap::IndexSet;
-use lx_byte_ranges::ranges_of;
-use lx_cap_lists::{Holder, InReach, Key, Pool, loan_key, owner_key, place_for};
+use lx_cap_lists::{Holder, InReach, Key, Pool, loan_key, owner_key, place_for, ranges_of};
 use lx_cap_nodes::{Family, NodePool};
-use lx_caps::{Atom, Cap, CapStore, Memory, Principal, Steps, cells, in_order};
+use lx_caps::{Atom, Cap, CapStore, Principal, Steps, cells, in_order};
+use lx_words::Memory;
 use std::alloc::Global;
 use std::marker::{Brand, Model};
 use std::sync::ledger::{Blank, Ledger};
@@ -29,7 +29,6 @@ use std::sync::ledger::{Blank, Ledger};
 ///
 /// The room that it tells is the room that was promised and not taken since. There may be more, since a strip and the end of loans
 /// give nodes back: were that told, a caller who asks for some room beside what there is would make it grow without end.
-#[derive(Drop)]
 pub struct CapTables {
     pool: Pool,
     // The owners and the loans that have a list, by its number.
@@ -43,6 +42,21 @@ pub struct CapTables {
     loans: Vec<u64>,
     deepest: u64,
     promised: u64,
+}
+
+impl Drop for CapTables {
+    fn drop(self) {
+        let CapTables {
+            pool: _,
+            owners: _,
+            atoms: _,
+            owner_lists: _,
+            place_lists: _,
+            loans: _,
+            deepest: _,
+            promised: _,
+        } = self;
+    }
 }
 
 impl Model for CapTables {

@@ -2,7 +2,7 @@
 use thiserror::Error;
 
 /// Why there is no further seat.
-#[derive(Clone, Copy, Debug, PartialEq, Eq, Error)]
+#[derive(Clone, Copy, Debug, Error)]
 pub enum SplitFault {
     /// All numbers are out.
     #[error("no seat is left")]

@@ -2,10 +2,7 @@
 use Rattle.std.proofs.Common.{◌≡◌, ◌∙◌, inl, inr, ap, subst, refl, ℕ, zero, suc, ◌+◌, ◌-◌, ◌<◌, ◌≤◌, Bool, true, false, arith}
 use Rattle.std.proofs.lemmas.Bool.{cases_eq}
 use Rattle.lx_caps.specs.History.{each_byte}
-
-chosen : (b rest : Bool) → b ≡ true → elim b [ false ↦ false | true ↦ rest ] ≡ rest
-chosen true rest is = refl
-chosen false rest is = cc
+use Rattle.lx_caps.proofs.Tests.{chosen}
 
 -- a byte that passes leaves the rest
 pub each_byte-passes : (p : ℕ → Bool) (at n : ℕ) → p at ≡ true → each_byte p at (suc n) ≡ each_byte p (suc at) n

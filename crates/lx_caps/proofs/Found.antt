@@ -1,6 +1,6 @@
 -- The calls and references that are found act by act are those that are owned.
 use Rattle.std.proofs.Common.{◌≡◌, inl, inr, refl, sym, ap, ◌∙◌, subst, Bool, true, false, ◌&&◌, ◌||◌, List, [], ◌∷◌, Option, Some, None, if◌then◌else◌}
-use Rattle.std.proofs.lemmas.Bool.{or_cases}
+use Rattle.std.proofs.lemmas.Bool.{or_cases, or_left, or_right}
 use Rattle.lx_caps.specs.declared.Principal.{Principal}
 use Rattle.lx_caps.specs.declared.Atom.{Atom}
 use Rattle.lx_caps.specs.declared.Act.{Act}
@@ -10,6 +10,7 @@ use Rattle.lx_caps.specs.Once.{is_atom}
 use Rattle.lx_caps.specs.Starts.{kept_by, start_of}
 use Rattle.lx_caps.proofs.Begins.{StartsIn, starts_alone}
 use Rattle.lx_caps.proofs.InOrder.{same_from, same_itself}
+use Rattle.lx_caps.proofs.Tests.{same_tests}
 
 -- those are found that pass the test and at which one of the acts starts
 pub record IsFound (p : Atom → Bool) (h : History) (found : List Atom) : Type 0 where
@@ -30,14 +31,6 @@ kept_passes p (Some y) x is = by (p y) refl is
 passes_kept : (p : Atom → Bool) (o : Option Atom) (x : Atom) → o ≡ Some x → p x ≡ true → is_atom (kept_by p o) x ≡ true
 passes_kept p o x is passes = ap (λ q. is_atom (kept_by p q) x) is ∙ (ap (λ (b : Bool). is_atom (if b then Some x else None) x) passes ∙ same_itself x)
 
-or_first : (a b : Bool) → a ≡ true → (a || b) ≡ true
-or_first true b e = refl
-or_first false b e = absurd (cc)
-
-or_second : (a b : Bool) → b ≡ true → (a || b) ≡ true
-or_second true b e = refl
-or_second false b e = e
-
 -- one more act
 pub found_more : (p : Atom → Bool) (h more : History) (act : Act) (old new : List Atom) → more ≡ act ∷ h → IsFound p h old
     → ((x : Atom) → stands_in x new ≡ (stands_in x old || is_atom (kept_by p (start_of act)) x)) → IsFound p more new
@@ -47,16 +40,10 @@ found_more p h more act old new is was put = record {
   all = λ x passes starts.
       put x
       ∙ (elim (subst (λ hs. StartsIn hs x) is starts) [
-        | inl here ↦ or_second (stands_in x old) (is_atom (kept_by p (start_of act)) x) (passes_kept p (start_of act) x here passes)
-        | inr before ↦ or_first (stands_in x old) (is_atom (kept_by p (start_of act)) x) (was.all x passes before)
+        | inl here ↦ or_right (stands_in x old) (is_atom (kept_by p (start_of act)) x) (passes_kept p (start_of act) x here passes)
+        | inr before ↦ or_left (stands_in x old) (is_atom (kept_by p (start_of act)) x) (was.all x passes before)
       ]);
 }
-
-same_tests : (a b : Bool) → (a ≡ true → b ≡ true) → (b ≡ true → a ≡ true) → a ≡ b
-same_tests true true f g = refl
-same_tests true false f g = sym (f refl)
-same_tests false true f g = g refl
-same_tests false false f g = refl
 
 -- all acts
 pub found_all : (h : History) (who : Principal) (found : List Atom) → IsFound (λ x. is_call_or_ref x && owns h who x) h found → (x : Atom) → stands_in x found ≡ (is_call_or_ref x && owns h who x)

@@ -1,7 +1,7 @@
 -- Free ranges and allocated blocks, in the words of bytes and addresses.
 use Rattle.std.proofs.Common.{◌≡◌, ◌≢◌, ◌↔◌, ◌⊎◌, ◌∙◌, inl, inr, refl, sym, subst, ℕ, zero, suc, ◌+◌, ◌-◌, ◌*◌, ◌/◌, ◌%◌, ◌<◌, ◌≤◌, Bool, true, false, not, nat_le, IsTrue, List, [], ◌∷◌, map, arith}
 use Rattle.std.specs.List.{list_any}
-use Rattle.std.proofs.lemmas.Bool.{or_cases, or_parts, and_parts, and_from, not-true, both_ways, cases_Bool, cases_lt, cond-true, cond-false, leb-true, le-leb, leb-false, false_from_ne_true, true_from_ne_false, cond_both}
+use Rattle.std.proofs.lemmas.Bool.{or_cases, or_parts, and_parts, and_from, not-true, both_ways, cases_Bool, cases_lt, cond-true, cond-false, leb-true, le-leb, leb-false, false_from_ne_true, true_from_ne_false, cond_both, not_from_false}
 use Rattle.std.proofs.lemmas.Bool.Decides.{nat_tests}
 use Rattle.lx_caps.specs.declared.Block.{Block}
 use Rattle.lx_caps.specs.Regions.{region_size, heap_start, lies_in, overlaps, align_up}
@@ -51,14 +51,11 @@ is_free-parts blocks at size is =
       apart = none-apart blocks at size (not-true (list_any (in_way at size) blocks) i.1);
     }
 
-not-from_false : (b : Bool) → b ≡ false → not b ≡ true
-not-from_false b is = rw is refl
-
 parts-is_free : (blocks : Blocks) (at size : ℕ) → IsFree blocks at size → is_free blocks at size ≡ true
 parts-is_free blocks at size free =
     and_from (lies_in heap_start at size) (not (list_any (in_way at size) blocks))
     (and_from (nat_le heap_start at) (nat_le (at + size) (heap_start + region_size)) (le-leb heap_start at free.from) (le-leb (at + size) (heap_start + region_size) free.to))
-    (not-from_false (list_any (in_way at size) blocks) (apart-none blocks at size free.apart))
+    (not_from_false (list_any (in_way at size) blocks) (apart-none blocks at size free.apart))
 
 pub free : (blocks : Blocks) (at size : ℕ) → IsTrue (is_free blocks at size) ↔ IsFree blocks at size
 free blocks at size = (is_free-parts blocks at size, parts-is_free blocks at size)
@@ -186,7 +183,7 @@ in_the_way blocks at size low high out =
     (λ none. both_ways (is_free blocks at size) out
     (and_from (lies_in heap_start at size) (not (list_any (in_way at size) blocks))
     (and_from (nat_le heap_start at) (nat_le (at + size) (heap_start + region_size)) (le-leb heap_start at low) (le-leb (at + size) (heap_start + region_size) high))
-    (not-from_false (list_any (in_way at size) blocks) none)))
+    (not_from_false (list_any (in_way at size) blocks) none)))
 
 -- a place at or below it
 abbrev PlaceBelow : Blocks → ℕ → ℕ → Type 0

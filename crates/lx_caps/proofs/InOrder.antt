@@ -1,25 +1,22 @@
 -- Sorted atoms, each once, are all atoms of the list in order.
-use Rattle.std.proofs.Common.{◌≡◌, refl, sym, ap, ◌∙◌, subst, ℕ, suc, ◌+◌, Bool, true, false, ◌&&◌, ◌||◌, nat_eq, List, [], ◌∷◌, get_or, Option, Some, None, arith}
+use Rattle.std.proofs.Common.{◌≡◌, refl, sym, ap, ◌∙◌, subst, suc, ◌+◌, Bool, true, false, ◌&&◌, ◌||◌, nat_eq, List, [], ◌∷◌, get_or, Option, Some, None, arith}
 use Rattle.std.specs.Cmp.{IsStrictWeakOrder}
 use Rattle.std.specs.List.Sorted.{IsSortedBy}
-use Rattle.std.proofs.lemmas.Bool.{and_from, and_parts, eqb-true, false_from_ne_true, both_ways}
-use Rattle.std.proofs.lemmas.Bool.Decides.{nat_tests}
+use Rattle.std.proofs.lemmas.Bool.{and_from, and_parts, eqb-true, false_from_ne_true, both_ways, or_left}
 use Rattle.lx_caps.specs.declared.Atom.{Atom}
 use Rattle.lx_caps.specs.declared.Atom.TheVariants.{Byte, Call, Ref}
 use Rattle.lx_caps.specs.Order.{is_before, is_behind, same_atom, stands_in, AreAllBehind}
 use Rattle.lx_caps.specs.Once.{rising}
 use Rattle.lx_caps.proofs.Orders.{not_before_itself, at_most-trans, before-at_most}
+use Rattle.lx_caps.proofs.Tests.{eq_itself}
 
 pub atom_order : IsStrictWeakOrder is_before
 atom_order = record { one_way = before-at_most; chain = λ x y z xy yz. at_most-trans z y x yz xy }
 
-same_number : (n : ℕ) → nat_eq n n ≡ true
-same_number n = grind (arith, nat_tests)
-
 pub same_itself : (x : Atom) → same_atom x x ≡ true
-same_itself (Byte a) = same_number a
-same_itself (Call a) = same_number a
-same_itself (Ref t a) = and_from (nat_eq t t) (nat_eq a a) (same_number t) (same_number a)
+same_itself (Byte a) = eq_itself a
+same_itself (Call a) = eq_itself a
+same_itself (Ref t a) = and_from (nat_eq t t) (nat_eq a a) (eq_itself t) (eq_itself a)
 
 pub same_from : (x y : Atom) → same_atom x y ≡ true → x ≡ y
 same_from (Byte a) (Byte b) is = ap Byte (eqb-true a b is)
@@ -81,10 +78,6 @@ absent : (y x : Atom) (xs : List Atom) → is_before y x ≡ true → Rises (x �
 absent y x [] lt r = ap (λ b. b || false) (behind_differs y x lt)
 absent y x (z ∷ zs) lt r = ap (λ b. b || stands_in y (z ∷ zs)) (behind_differs y x lt) ∙ absent y z zs (before_chain y x z lt r.0) r.1
 
-or_first : (a b : Bool) → a ≡ true → (a || b) ≡ true
-or_first true b e = refl
-or_first false b e = absurd (cc)
-
 and_none : (a b : Bool) → (a ≡ true → b ≡ false) → (a && b) ≡ false
 and_none true b none = none refl
 and_none false b none = refl
@@ -99,7 +92,7 @@ rising_step : (p : Atom → Bool) (last : Option Atom) (x : Atom) (xs : List Ato
     → AreAllBehind p last (elim b [ false ↦ rising last xs | true ↦ x ∷ rising (Some x) xs ])
 rising_step p last x xs true e r among more = (
   (
-    and_from (is_behind last x) (p x) e (sym (among x e) ∙ or_first (same_atom x x) (stands_in x xs) (same_itself x)),
+    and_from (is_behind last x) (p x) e (sym (among x e) ∙ or_left (same_atom x x) (stands_in x xs) (same_itself x)),
     λ y before. and_none (is_behind last y) (p y) (λ behind. sym (among y behind) ∙ absent y x xs before r),
   ),
   more (Some x) (λ z behind. sym (later x z xs (before_differs x z behind)) ∙ among z (behind_chain last x z e behind)),

@@ -1,8 +1,7 @@
 -- The next owned atom is the first of the places that pass.
-use Rattle.std.proofs.Common.{◌≡◌, ◌⊎◌, inl, inr, ◌∙◌, ap, subst, sym, ℕ, ◌+◌, ◌<◌, Bool, true, false, ◌&&◌, nat_lt, List, [], ◌∷◌, length, take, reverse, get_or, Option, Some, None, if◌then◌else◌, arith}
-use Rattle.std.proofs.lemmas.Bool.{both_ways, false_from_ne_true}
+use Rattle.std.proofs.Common.{◌≡◌, ◌⊎◌, inl, inr, subst, sym, ℕ, ◌+◌, Bool, true, false, ◌&&◌, nat_lt, [], ◌∷◌, Option, Some, None, if◌then◌else◌, arith}
+use Rattle.std.proofs.lemmas.Bool.{both_ways, false_from_ne_true, and_left}
 use Rattle.std.proofs.lemmas.Bool.Decides.{nat_tests}
-use Rattle.std.proofs.lemmas.List.{take_more, reverse-append}
 use Rattle.lx_caps.specs.declared.Principal.{Principal}
 use Rattle.lx_caps.specs.declared.Atom.{Atom}
 use Rattle.lx_caps.specs.declared.Atom.TheVariants.{Byte, Call, Ref}
@@ -14,10 +13,6 @@ use Rattle.lx_caps.specs.Starts.{start_of, start_behind, kept_by, lesser}
 use Rattle.lx_caps.proofs.Orders.{at_most-trans}
 use Rattle.lx_caps.proofs.Least.{IsLeast, IsLeast-kept, IsLeast-lesser, IsLeast-same}
 use Rattle.lx_caps.proofs.Begins.{Place, begins_at}
-
--- one more act, read from the end
-pub reverse-take_more : {A : Type 0} (xs : List A) (i : ℕ) (d : A) → i < length xs → reverse (take (i + 1) xs) ≡ get_or xs i d ∷ reverse (take i xs)
-reverse-take_more xs i d below = ap reverse (take_more xs i d below) ∙ reverse-append (take i xs) (get_or xs i d ∷ [])
 
 -- the places of one more act
 pub one_more : (p : Atom → Bool) (after : Option Atom) (h more : History) (act : Act) → more ≡ act ∷ h → (a : Option Atom)
@@ -73,14 +68,11 @@ none_between (Some (Byte b)) f y is before = between_if (nat_lt b 0xFFFFFFFFFFFF
 none_between (Some (Call c)) f y is before = absurd cc
 none_between (Some (Ref t c)) f y is before = absurd cc
 
-not_behind : (b o : Bool) → b ≡ false → (b && o) ≡ false
-not_behind b o is = ap (λ (t : Bool). t && o) is
-
 first_at : (h : History) (who : Principal) (after a : Option Atom) (f : Atom) → a ≡ Some f
     → IsLeast (λ x. ((is_behind after x && owns h who x) ≡ true) × (start_behind after ≡ Some x)) a → IsNextOwned h who after (Some f)
 first_at h who after a f is first =
     let least = subst (λ (o : Option Atom). IsLeast (λ x. ((is_behind after x && owns h who x) ≡ true) × (start_behind after ≡ Some x)) o) is first in
-    (least.0.0, λ y before. not_behind (is_behind after y) (owns h who y) (none_between after f y least.0.1 before))
+    (least.0.0, λ y before. and_left (is_behind after y) (owns h who y) (none_between after f y least.0.1 before))
 
 -- what goes on behind the given atom comes next
 pub goes_on_next : (h : History) (who : Principal) (after a : Option Atom) (f : Atom) → a ≡ kept_by (λ x. is_behind after x && owns h who x) (start_behind after) → a ≡ Some f → IsNextOwned h who after (Some f)

@@ -1,6 +1,6 @@
 -- Principals are ordered by two numbers, and the first of two firsts is the first of all.
 use Rattle.std.proofs.Common.{◌≡◌, refl, sym, ap, subst, ℕ, Bool, true, false, ◌&&◌, ◌||◌, nat_eq, nat_lt, Option, Some, None, arith}
-use Rattle.std.proofs.lemmas.Bool.{both_ways, false_from_ne_true}
+use Rattle.std.proofs.lemmas.Bool.{both_ways, false_from_ne_true, or_from, or_left, or_right}
 use Rattle.std.proofs.lemmas.Bool.Decides.{nat_tests}
 use Rattle.lx_caps.specs.declared.Principal.{Principal}
 use Rattle.lx_caps.specs.declared.Principal.TheVariants.{Kernel, Shared, Global, Inst}
@@ -55,19 +55,6 @@ one_way p q one two =
     let e = less-one_way (module_rank p) (rank_in_module p) (module_rank q) (rank_in_module q) one two in
     one_place p q e.0 e.1
 
-or_false : (a b : Bool) → a ≡ false → b ≡ false → (a || b) ≡ false
-or_false a b p q = grind (arith, p, q)
-
-or_true_left : (a b : Bool) → a ≡ true → (a || b) ≡ true
-or_true_left a b p = grind (arith, p)
-
-or_true_right : (a b : Bool) → b ≡ true → (a || b) ≡ true
-or_true_right a b p = grind (arith, p)
-
-or_none : (a : Bool) → (a || false) ≡ a
-or_none true = refl
-or_none false = refl
-
 -- what comes before another is not that one
 other_than : (q w : Principal) → precedes q w ≡ true → same_principal q w ≡ false
 other_than q w is =
@@ -76,28 +63,28 @@ other_than q w is =
 
 -- where none passed, the one found is the first
 pub found_alone : (p : Principal → Bool) (found : Option Principal) → ((q : Principal) → p q ≡ false) → IsFirstPrincipal (λ q. p q || is_found found q) found
-found_alone p None none = λ q. or_false (p q) false (none q) refl
+found_alone p None none = λ q. or_from (p q) false (none q) refl
 found_alone p (Some w) none = (
-  or_true_right (p w) (same_principal w w) (same_itself w),
-  λ q is. or_false (p q) (same_principal q w) (none q) (other_than q w is),
+  or_right (p w) (same_principal w w) (same_itself w),
+  λ q is. or_from (p q) (same_principal q w) (none q) (other_than q w is),
 )
 
 pub none_found : (p : Principal → Bool) (w : Principal) → IsFirstPrincipal p (Some w) → IsFirstPrincipal (λ q. p q || is_found None q) (Some w)
 none_found p w first = (
-  or_true_left (p w) false first.0,
-  λ q is. or_false (p q) false (first.1 q is) refl,
+  or_left (p w) false first.0,
+  λ q is. or_from (p q) false (first.1 q is) refl,
 )
 
 pub found_first : (p : Principal → Bool) (one other : Principal) → precedes other one ≡ true → IsFirstPrincipal p (Some one) → IsFirstPrincipal (λ q. p q || is_found (Some other) q) (Some other)
 found_first p one other before first = (
-  or_true_right (p other) (same_principal other other) (same_itself other),
-  λ q is. or_false (p q) (same_principal q other) (first.1 q (precedes-trans q other one is before)) (other_than q other is),
+  or_right (p other) (same_principal other other) (same_itself other),
+  λ q is. or_from (p q) (same_principal q other) (first.1 q (precedes-trans q other one is before)) (other_than q other is),
 )
 
 pub found_later : (p : Principal → Bool) (one other : Principal) → precedes other one ≡ false → IsFirstPrincipal p (Some one) → IsFirstPrincipal (λ q. p q || is_found (Some other) q) (Some one)
 found_later p one other out first = (
-  or_true_left (p one) (same_principal one other) first.0,
-  λ q is. or_false (p q) (same_principal q other) (first.1 q is)
+  or_left (p one) (same_principal one other) first.0,
+  λ q is. or_from (p q) (same_principal q other) (first.1 q is)
       (false_from_ne_true (same_principal q other)
       (λ same. let e = same_is q other same in both_ways (precedes other one) out (subst (λ (r : Principal). precedes r one ≡ true) e is))),
 )

@@ -1,18 +1,10 @@
 -- One more range, and one more byte of a range.
-use Rattle.std.proofs.Common.{◌≡◌, ℕ, suc, ◌+◌, ◌-◌, ◌^◌, ◌<◌, ◌≤◌, ◌⊎◌, Bool, true, false, List, [], ◌∷◌, ◌++◌, Some, inl, inr, nat_lt, refl, sym, ap, ◌∙◌, subst, append_assoc, arith}
-use Rattle.std.proofs.lemmas.Bool.{true≢false}
-use Rattle.std.proofs.lemmas.Bool.Decides.{nat_tests}
+use Rattle.std.proofs.Common.{◌≡◌, ℕ, suc, ◌+◌, ◌-◌, ◌^◌, ◌<◌, ◌≤◌, Bool, true, false, List, [], ◌∷◌, ◌++◌, Some, inl, inr, sym, ap, ◌∙◌, subst, append_assoc, arith}
+use Rattle.std.proofs.lemmas.Bool.{true≢false, cases_lt}
 use Rattle.lx_caps.specs.declared.Cap.{Cap}
 use Rattle.lx_caps.specs.declared.Cap.TheVariants as cap
 use Rattle.lx_caps.specs.NextByte.{IsFirstFrom}
 use Rattle.lx_caps.specs.Ranges.{IsRanges}
-
-split_if : (b : Bool) (m y : ℕ) → nat_lt m y ≡ b → (m < y) ⊎ (y ≤ m)
-split_if true m y e = inl (grind (arith, nat_tests, e))
-split_if false m y e = inr (grind (arith, nat_tests, e))
-
-split_at : (m y : ℕ) → (m < y) ⊎ (y ≤ m)
-split_at m y = split_if (nat_lt m y) m y refl
 
 -- with the ranges that are left the list is whole
 abbrev pub Ranged : (ℕ → Bool) → ℕ → List Cap → Type 0
@@ -37,7 +29,7 @@ module _ (p : ℕ → Bool) where
   -- an owned byte is not the last one
   below_last : (last : ℕ) → p (2 ^ 64 - 1) ≡ false → last < 2 ^ 64 → p last ≡ true → last < 2 ^ 64 - 1
   below_last last free lt o =
-      elim (split_at last (2 ^ 64 - 1)) [ inl below ↦ below | inr le ↦ (let e : last ≡ 2 ^ 64 - 1 = omega (arith, le, lt) in absurd (true≢false (sym o ∙ ap p e ∙ free))) ]
+      elim (cases_lt last (2 ^ 64 - 1)) [ inl below ↦ below | inr le ↦ (let e : last ≡ 2 ^ 64 - 1 = omega (arith, le, lt) in absurd (true≢false (sym o ∙ ap p e ∙ free))) ]
 
   pub one_ranged : (from at last size : ℕ) (done new : List Cap) → p (2 ^ 64 - 1) ≡ false → Ranged p from done → IsFirstFrom p from (Some at) → at ≤ last → last < 2 ^ 64 →
       ((m : ℕ) → at ≤ m → m < suc last → p m ≡ true) → p (suc last) ≡ false →
@@ -54,5 +46,5 @@ module _ (p : ℕ → Bool) where
       record {
         order = omega (arith, e, f.order);
         small = lt;
-        owned = λ m am ms. elim (split_at m (suc last)) [ inl lt ↦ f.owned m am lt | inr le ↦ (let j : m ≡ next = omega (arith, le, ms, e) in ap p j ∙ first.2) ];
+        owned = λ m am ms. elim (cases_lt m (suc last)) [ inl lt ↦ f.owned m am lt | inr le ↦ (let j : m ≡ next = omega (arith, le, ms, e) in ap p j ∙ first.2) ];
       }

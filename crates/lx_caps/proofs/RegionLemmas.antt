@@ -9,7 +9,7 @@ use Rattle.lx_caps.specs.RegionLaws.{IsRegion, LiesIn, LiesInMemory, IsFirstOuts
 abbrev Within : ℕ → ℕ → Type 0
 Within at size = (start : ℕ) × IsRegion start × ((start ≤ at) × (at + size ≤ start + region_size))
 
-lies_in-parts : (start at size : ℕ) → lies_in start at size ≡ true → (start ≤ at) × (at + size ≤ start + region_size)
+pub lies_in-parts : (start at size : ℕ) → lies_in start at size ≡ true → (start ≤ at) × (at + size ≤ start + region_size)
 lies_in-parts start at size is =
     let i = and_parts (nat_le start at) (nat_le (at + size) (start + region_size)) is in
     (leb-true start at i.0, leb-true (at + size) (start + region_size) i.1)

@@ -1,14 +1,20 @@
 // A list of acts that contracts see.
 ghost use Rattle.std.specs.Prelude.{◌≡◌, ◌+◌, ◌<◌, ◌≤◌, ◌∷◌, [], ◌++◌, OnOk};
 
-use crate::{Act, Memory};
+use crate::Act;
+use lx_words::Memory;
 use std::alloc::Global;
 use std::marker::Model;
 
 /// Acts, the oldest first, seen as their list and the room for more.
-#[derive(Drop)]
 pub struct Acts {
     acts: Vec<Act>,
+}
+
+impl Drop for Acts {
+    fn drop(self) {
+        let Acts { acts: _ } = self;
+    }
 }
 
 impl Model for Acts {

@@ -6,8 +6,9 @@ ghost use Rattle.lx_caps.specs.declared.Atom.{Atom};
 ghost use Rattle.lx_caps.specs.Order.{is_before, is_call_or_ref, stands_in, AreAllBehind};
 ghost use Rattle.lx_caps.specs.Once.{is_atom, rising};
 
+use crate::Atom;
 use crate::terms::{is_before, is_behind};
-use crate::{Atom, Memory};
+use lx_words::Memory;
 use std::alloc::Global;
 use std::cmp::Ordering;
 

@@ -7,7 +7,8 @@ ghost use Rattle.lx_caps.specs.Placed.{is_placed_act};
 ghost use Rattle.lx_caps.specs.Ranges.{AreByteRanges};
 
 use crate::owned::next_in;
-use crate::{Act, Atom, Cap, Memory, Principal};
+use crate::{Act, Atom, Cap, Principal};
+use lx_words::Memory;
 use std::alloc::Global;
 
 fn last_byte(after: Option<u64>) -> Option<Atom>

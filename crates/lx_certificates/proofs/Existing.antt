@@ -1,6 +1,6 @@
 -- Each need of a module has a certificate.
-use Rattle.std.proofs.Common.{◌≡◌, ◌≢◌, ◌∙◌, ◌⊎◌, inl, inr, refl, sym, ap, ℕ, zero, suc, ◌+◌, ◌-◌, ◌<◌, ◌≤◌, Bool, true, false, not, nat_eq, Option, Some, None, List, [], ◌∷◌, arith}
-use Rattle.std.proofs.lemmas.Bool.{cases_Bool}
+use Rattle.std.proofs.Common.{◌≡◌, ◌≢◌, ◌∙◌, ◌⊎◌, inl, inr, refl, sym, ap, ℕ, zero, suc, ◌+◌, ◌-◌, ◌<◌, ◌≤◌, Bool, true, false, not, nat_eq, Option, Some, None, List, [], ◌∷◌, arith, eqb-true, eq-eqb}
+use Rattle.std.proofs.lemmas.Bool.{cases_Bool, and_parts, and_from}
 use Rattle.std.proofs.lemmas.Bool.Decides.{nat_tests}
 use Rattle.lx_caps.specs.declared.Principal.{Principal}
 use Rattle.lx_caps.specs.declared.Principal.TheVariants.{Kernel, Shared, Global, Inst}
@@ -14,9 +14,8 @@ use Rattle.lx_certificates.specs.declared.Part.{Part}
 use Rattle.lx_certificates.specs.Givers.{giver, given, nth_atom, count_of, first_of, newest_strip}
 use Rattle.lx_certificates.specs.Certificates.{is_wanted, is_act, is_cut, are_cut, is_first_lacking, is_kernel, same_number, gifts_for, seek}
 use Rattle.lx_certificates.specs.Laws.{IsCertFor}
-use Rattle.lx_certificates.proofs.Reaching.{same_nat, both_true}
 use Rattle.lx_certificates.proofs.Meanings.{cut_of}
-use Rattle.lx_certificates.proofs.Making.{and_true, eq_true, is_cut_by, first_unowned, first_unkept, lent_somewhere, parts_held}
+use Rattle.lx_certificates.proofs.Making.{is_cut_by, first_unowned, first_unkept, lent_somewhere, parts_held}
 
 -- all are given from a place on, or a first one is not
 AllGiven : (ℕ → Option ℕ) → ℕ → ℕ → Type 0
@@ -33,7 +32,7 @@ later_given : (f : ℕ → Option ℕ) (k left n : ℕ) → f k ≡ Some n → A
 unfolding AllGiven
 later_given f k left n is all i low high =
     elim (cases_Bool (nat_eq i k)) [
-      | inl here ↦ ap (λ (j : ℕ). is_wanted None (f j)) (same_nat i k here) ∙ ap (is_wanted None) is
+      | inl here ↦ ap (λ (j : ℕ). is_wanted None (f j)) (eqb-true i k here) ∙ ap (is_wanted None) is
       | inr out ↦ all i (behind i k low out) (omega (arith, high))
     ]
   where
@@ -46,7 +45,7 @@ later_out f k left n is o = record {
   low = omega (arith, o.low);
   high = omega (arith, o.high);
   before = λ i low high. elim (cases_Bool (nat_eq i k)) [
-    | inl here ↦ ap (λ (j : ℕ). is_wanted None (f j)) (same_nat i k here) ∙ ap (is_wanted None) is
+    | inl here ↦ ap (λ (j : ℕ). is_wanted None (f j)) (eqb-true i k here) ∙ ap (is_wanted None) is
     | inr other ↦ o.before i (behind i k low other) high
   ];
   out = o.out;
@@ -79,24 +78,24 @@ part_at first k size n = record { low = first + k; size = size; act = n }
 cut_before : (f : ℕ → Option ℕ) (first k left n : ℕ) → f k ≡ Some n → Cutting f first (suc k) left → Cutting f first k (suc left)
 unfolding Cutting part_at
 cut_before f first k left n is ([], all) =
-    let none : left ≡ 0 = same_nat left 0 all in (
+    let none : left ≡ 0 = eqb-true left 0 all in (
       part_at first k 1 n ∷ [],
-      and_true (is_cut f first None k (suc left) (part_at first k 1 n)) _
+      and_from (is_cut f first None k (suc left) (part_at first k 1 n)) _
           (is_cut_by f first None k (suc left) (part_at first k 1 n) refl (omega arith) (omega arith) refl (λ i low high. only_here f k n i is low high))
-          (eq_true (suc left - 1) 0 (omega (arith, none))),
+          (eq-eqb (suc left - 1) 0 (omega (arith, none))),
     )
 cut_before f first k left n is (p ∷ ps, all) =
-    let a = both_true (is_cut f first None (suc k) left p) _ all in
+    let a = and_parts (is_cut f first None (suc k) left p) _ all in
     let c = cut_of f first None (suc k) left p a.0 in
     elim (cases_Bool (nat_eq n p.act)) [
       | inl same ↦
-          (let e : n ≡ p.act = same_nat n p.act same in
+          (let e : n ≡ p.act = eqb-true n p.act same in
           let q = part_at first k (suc p.size) n in (
             q ∷ ps,
-            and_true (is_cut f first None k (suc left) q) _
+            and_from (is_cut f first None k (suc left) q) _
                 (is_cut_by f first None k (suc left) q refl (omega arith) (omega (arith, c.within)) refl
                 (λ i low high. elim (cases_Bool (nat_eq i k)) [
-                  | inl here ↦ ap f (same_nat i k here) ∙ is
+                  | inl here ↦ ap f (eqb-true i k here) ∙ is
                   | inr out ↦ c.each i (behind i k low out) (omega (arith, high)) ∙ ap Some (sym e)
                 ]))
                 (ap (λ (m : ℕ). are_cut f first (Some m) (k + suc p.size) (suc left - suc p.size) ps) e
@@ -106,11 +105,11 @@ cut_before f first k left n is (p ∷ ps, all) =
       | inr other ↦
           (let q = part_at first k 1 n in (
             q ∷ p ∷ ps,
-            and_true (is_cut f first None k (suc left) q) _
+            and_from (is_cut f first None k (suc left) q) _
                 (is_cut_by f first None k (suc left) q refl (omega arith) (omega arith) refl (λ i low high. only_here f k n i is low high))
                 (ap (λ (m : ℕ). are_cut f first (Some n) m (suc left - 1) (p ∷ ps)) (omega arith)
                 ∙ ap (λ (m : ℕ). are_cut f first (Some n) (suc k) m (p ∷ ps)) (omega arith)
-                ∙ and_true (is_cut f first (Some n) (suc k) left p) _ (is_cut_by f first (Some n) (suc k) left p c.low c.some c.within other (λ i low high. c.each i low high)) a.1),
+                ∙ and_from (is_cut f first (Some n) (suc k) left p) _ (is_cut_by f first (Some n) (suc k) left p c.low c.some c.within other (λ i low high. c.each i low high)) a.1),
           ))
     ]
   where
@@ -132,7 +131,7 @@ cut_all f first k (suc left) all = by (f k) refl (all k (omega arith) (omega ari
 
 same_itself : (o : Option ℕ) → same_number o o ≡ true
 same_itself None = refl
-same_itself (Some n) = eq_true n n refl
+same_itself (Some n) = eq-eqb n n refl
 
 not_kernel : (who : Principal) → who ≢ Kernel → not (is_kernel who) ≡ true
 not_kernel Kernel is = absurd (is refl)
@@ -147,8 +146,8 @@ the_deny h who c kept of_module o =
       Deny who c x (newest_strip h x),
       (
         (refl, refl),
-        and_true (not (is_kernel who)) _ of_module
-            (and_true (is_first_lacking (reached h who) c x) _ (first_unowned h who c o.place x refl (omega (arith, o.high)) each o.out) (same_itself (newest_strip h x))),
+        and_from (not (is_kernel who)) _ of_module
+            (and_from (is_first_lacking (reached h who) c x) _ (first_unowned h who c o.place x refl (omega (arith, o.high)) each o.out) (same_itself (newest_strip h x))),
       ),
     )
 
@@ -156,7 +155,7 @@ the_allow : (h : History) (who : Principal) (c : Cap) (kept : Bool) → not (is_
 unfolding Cutting
 the_allow h who c kept of_module all =
     let (parts, cut) = cut_all (given h (seek (gifts_for kept) who c)) (first_of c) 0 (count_of c) all in
-    (Allow who c kept parts, ((refl, refl, refl), and_true (not (is_kernel who)) _ of_module cut))
+    (Allow who c kept parts, ((refl, refl, refl), and_from (not (is_kernel who)) _ of_module cut))
 
 the_borrowed : (h : History) (who : Principal) (c : Cap) → not (is_kernel who) ≡ true → AllGiven (given h (seek Both who c)) 0 (count_of c) → FirstOut (given h (seek Grants who c)) 0 (count_of c) → (cert : Cert) × IsCertFor h who c true cert
 unfolding Cutting
@@ -172,10 +171,10 @@ the_borrowed h who c of_module all o =
           Borrowed who c x n,
           (
             (refl, refl, refl),
-            and_true (not (is_kernel who)) _ of_module
-                (and_true (holds_by_reach h who c) _ held
-                (and_true (is_first_lacking (kept_in_reach h who) c x) _ (first_unkept h who c o.place x refl (omega (arith, o.high)) each o.out)
-                (ap (λ l. is_act l n) is ∙ eq_true n n refl))),
+            and_from (not (is_kernel who)) _ of_module
+                (and_from (holds_by_reach h who c) _ held
+                (and_from (is_first_lacking (kept_in_reach h who) c x) _ (first_unkept h who c o.place x refl (omega (arith, o.high)) each o.out)
+                (ap (λ l. is_act l n) is ∙ eq-eqb n n refl))),
           ),
         )
 

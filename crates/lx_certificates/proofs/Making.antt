@@ -1,8 +1,7 @@
 -- Parts are made one behind the other.
-use Rattle.std.proofs.Common.{◌≡◌, ◌≢◌, ◌∙◌, inl, inr, refl, sym, ap, ℕ, ◌+◌, ◌-◌, ◌<◌, ◌≤◌, Bool, true, false, not, ◌&&◌, nat_eq, nat_lt, nat_le, Option, Some, None, List, [], ◌∷◌, ◌++◌, append_assoc, arith, length, if◌then◌else◌}
+use Rattle.std.proofs.Common.{◌≡◌, ◌≢◌, ◌∙◌, inl, inr, refl, sym, ap, ℕ, ◌+◌, ◌-◌, ◌<◌, ◌≤◌, Bool, true, false, not, ◌&&◌, nat_eq, nat_lt, nat_le, Option, Some, None, List, [], ◌∷◌, ◌++◌, append_assoc, arith, length, if◌then◌else◌, eq-eqb, lt-ltb, le-leb}
 use mathlib.Core.List.{append-nil}
-use Rattle.std.proofs.lemmas.Bool.{true≢false}
-use Rattle.std.proofs.lemmas.Bool.Decides.{nat_tests}
+use Rattle.std.proofs.lemmas.Bool.{true≢false, and_from, cases_lt}
 use Rattle.lx_caps.specs.declared.Principal.{Principal}
 use Rattle.lx_caps.specs.declared.Cap.{Cap}
 use Rattle.lx_caps.specs.declared.Cap.TheVariants as cap
@@ -18,31 +17,19 @@ use Rattle.lx_certificates.specs.Givers.{found, giver_among, giver, given, nth_a
 use Rattle.lx_certificates.specs.Certificates.{is_wanted, is_act, is_cut, are_cut, are_parts, is_first_lacking, seek, address_of}
 use Rattle.lx_certificates.specs.Making.{IsRun}
 use Rattle.lx_certificates.proofs.Reaching.{owned, owning, keeping, by_places}
-use Rattle.lx_certificates.proofs.Meanings.{split_at, all_given}
-
-pub and_true : (a b : Bool) → a ≡ true → b ≡ true → (a && b) ≡ true
-and_true true b is js = js
-and_true false b is js = absurd cc
-
-pub eq_true : (m n : ℕ) → m ≡ n → nat_eq m n ≡ true
-eq_true m n is = grind (arith, nat_tests, is)
-
-lt_true : (m n : ℕ) → m < n → nat_lt m n ≡ true
-lt_true m n is = grind (arith, nat_tests, is)
-
-le_true : (m n : ℕ) → m ≤ n → nat_le m n ≡ true
-le_true m n is = grind (arith, nat_tests, is)
+use Rattle.lx_certificates.proofs.Meanings.{all_given}
+use Rattle.lx_caps.proofs.Tests.{nat_eq_turned}
 
 wanted_itself : (n : ℕ) (o : Option ℕ) → o ≡ Some n → is_wanted (Some n) o ≡ true
-wanted_itself n o is = ap (is_wanted (Some n)) is ∙ eq_true n n refl
+wanted_itself n o is = ap (is_wanted (Some n)) is ∙ eq-eqb n n refl
 
 pub is_cut_by : (f : ℕ → Option ℕ) (first : ℕ) (last : Option ℕ) (k left : ℕ) (p : Part) → p.low ≡ first + k → 0 < p.size → p.size ≤ left → is_act last p.act ≡ false →
     ((i : ℕ) → k ≤ i → i < k + p.size → f i ≡ Some p.act) → is_cut f first last k left p ≡ true
 is_cut_by f first last k left p low some within other each =
-    and_true (nat_eq p.low (first + k)) _ (eq_true p.low (first + k) low)
-    (and_true (nat_lt 0 p.size) _ (lt_true 0 p.size some)
-    (and_true (nat_le p.size left) _ (le_true p.size left within)
-    (and_true (not (is_act last p.act)) _ (ap not other)
+    and_from (nat_eq p.low (first + k)) _ (eq-eqb p.low (first + k) low)
+    (and_from (nat_lt 0 p.size) _ (lt-ltb 0 p.size some)
+    (and_from (nat_le p.size left) _ (le-leb p.size left within)
+    (and_from (not (is_act last p.act)) _ (ap not other)
     (each_byte-from (λ i. is_wanted (Some p.act) (f i)) k p.size (λ i low high. wanted_itself p.act (f i) (each i low high))))))
 
 -- with the parts that are left the list is whole
@@ -62,9 +49,6 @@ none_cut f first count parts is = record {
   goes_on = λ rest cut. ap (λ ps. are_cut f first None 0 count (ps ++ rest)) is ∙ ap (λ n. are_cut f first None 0 n rest) (omega arith) ∙ cut;
 }
 
-turned : (m n : ℕ) → nat_eq m n ≡ false → nat_eq n m ≡ false
-turned m n is = grind (arith, nat_tests, is)
-
 pub one_cut_more : (h : History) (s : Sought) (old new : List Part) (at end act : ℕ) → Cuts (given h s) (first_of s.cap) (count_of s.cap) old at → IsRun h s at end act →
     new ≡ old ++ record { low = first_of s.cap + at; size = end - at; act = act } ∷ [] → Cuts (given h s) (first_of s.cap) (count_of s.cap) new end
 one_cut_more h s old new at end act cuts run is =
@@ -72,14 +56,14 @@ one_cut_more h s old new at end act cuts run is =
     let back : at + (end - at) ≡ end = omega (arith, run.more) in
     record {
       within = run.bound;
-      all = λ k below. elim (split_at k at) [ inl here ↦ cuts.all k here | inr there ↦ ap (is_wanted None) (run.by_act k there below) ];
+      all = λ k below. elim (cases_lt k at) [ inl here ↦ cuts.all k here | inr there ↦ ap (is_wanted None) (run.by_act k there below) ];
       last = Some act;
-      other = λ lt n found. turned n act (ap (λ o. is_act o act) (sym found) ∙ run.other lt);
+      other = λ lt n found. nat_eq_turned n act (ap (λ o. is_act o act) (sym found) ∙ run.other lt);
       goes_on = λ rest cut.
           ap (λ ps. are_cut (given h s) (first_of s.cap) None 0 (count_of s.cap) (ps ++ rest)) is
           ∙ ap (are_cut (given h s) (first_of s.cap) None 0 (count_of s.cap)) (append_assoc old (p ∷ []) rest)
           ∙ cuts.goes_on (p ∷ rest)
-          (and_true (is_cut (given h s) (first_of s.cap) cuts.last at (count_of s.cap - at) p) _
+          (and_from (is_cut (given h s) (first_of s.cap) cuts.last at (count_of s.cap - at) p) _
           (is_cut_by (given h s) (first_of s.cap) cuts.last at (count_of s.cap - at) p refl (omega (arith, run.more)) (omega (arith, run.more, run.bound))
           (cuts.other (omega (arith, run.more, run.bound)) act (run.by_act at (omega arith) run.more))
           (λ i low high. run.by_act i low (omega (arith, high, back))))
@@ -89,16 +73,16 @@ one_cut_more h s old new at end act cuts run is =
 
 pub all_cut : (f : ℕ → Option ℕ) (first count : ℕ) (parts : List Part) (at : ℕ) → Cuts f first count parts at → count ≤ at → are_cut f first None 0 count parts ≡ true
 all_cut f first count parts at cuts le =
-    ap (are_cut f first None 0 count) (sym (append-nil parts)) ∙ cuts.goes_on [] (eq_true (count - at) 0 (omega (arith, le)))
+    ap (are_cut f first None 0 count) (sym (append-nil parts)) ∙ cuts.goes_on [] (eq-eqb (count - at) 0 (omega (arith, le)))
 
 pub each_before : (f : ℕ → Option ℕ) (first count : ℕ) (parts : List Part) (at : ℕ) → Cuts f first count parts at → each_byte (λ k. is_wanted None (f k)) 0 at ≡ true
 each_before f first count parts at cuts = each_byte-from (λ k. is_wanted None (f k)) 0 at (λ k low high. cuts.all k (omega (arith, high)))
 
 -- the atom at a place
 nth_has : (c : Cap) (k : ℕ) → k < count_of c → has c (nth_atom c k) ≡ true
-nth_has (cap.Write at size) k lt = and_true (nat_le at (at + k)) _ (le_true at (at + k) (omega arith)) (lt_true (at + k) (at + size) (omega (arith, lt)))
-nth_has (cap.Call a) k lt = eq_true a a refl
-nth_has (cap.Ref t a) k lt = and_true (nat_eq t t) _ (eq_true t t refl) (eq_true a a refl)
+nth_has (cap.Write at size) k lt = and_from (nat_le at (at + k)) _ (le-leb at (at + k) (omega arith)) (lt-ltb (at + k) (at + size) (omega (arith, lt)))
+nth_has (cap.Call a) k lt = eq-eqb a a refl
+nth_has (cap.Ref t a) k lt = and_from (nat_eq t t) _ (eq-eqb t t refl) (eq-eqb a a refl)
 
 nth_place : (c : Cap) (k : ℕ) → k < count_of c → address_of (nth_atom c k) - first_of c ≡ k
 nth_place (cap.Write at size) k lt = omega arith
@@ -107,8 +91,8 @@ nth_place (cap.Ref t a) k lt = omega (arith, lt)
 
 first_lack : (p : Atom → Bool) (c : Cap) (k : ℕ) → k < count_of c → each_byte (λ i. p (nth_atom c i)) 0 k ≡ true → p (nth_atom c k) ≡ false → is_first_lacking p c (nth_atom c k) ≡ true
 first_lack p c k lt each out =
-    and_true (has c (nth_atom c k)) _ (nth_has c k lt)
-    (and_true (each_byte (λ i. p (nth_atom c i)) 0 (address_of (nth_atom c k) - first_of c)) _ (ap (each_byte (λ i. p (nth_atom c i)) 0) (nth_place c k lt) ∙ each) (ap not out))
+    and_from (has c (nth_atom c k)) _ (nth_has c k lt)
+    (and_from (each_byte (λ i. p (nth_atom c i)) 0 (address_of (nth_atom c k) - first_of c)) _ (ap (each_byte (λ i. p (nth_atom c i)) 0) (nth_place c k lt) ∙ each) (ap not out))
 
 pub first_unowned : (h : History) (who : Principal) (c : Cap) (k : ℕ) (x : Atom) → x ≡ nth_atom c k → k < count_of c → each_byte (λ i. is_wanted None (given h (seek Both who c) i)) 0 k ≡ true →
     given h (seek Both who c) k ≡ None → is_first_lacking (reached h who) c x ≡ true

@@ -1,6 +1,6 @@
 -- What true certificates mean, and that two for one need are the same.
-use Rattle.std.proofs.Common.{◌≡◌, ◌∙◌, ◌⊎◌, inl, inr, refl, sym, ap, ℕ, ◌+◌, ◌-◌, ◌<◌, ◌≤◌, Bool, true, false, not, nat_eq, nat_lt, nat_le, IsTrue, Option, Some, None, List, [], ◌∷◌, arith}
-use Rattle.std.proofs.lemmas.Bool.{true≢false, false_from_ne_true}
+use Rattle.std.proofs.Common.{◌≡◌, ◌∙◌, inl, inr, refl, sym, ap, ℕ, ◌+◌, ◌-◌, ◌<◌, ◌≤◌, Bool, true, false, not, nat_eq, nat_lt, nat_le, IsTrue, Option, Some, None, List, [], ◌∷◌, arith, eqb-true}
+use Rattle.std.proofs.lemmas.Bool.{true≢false, false_from_ne_true, and_parts, cases_lt}
 use Rattle.std.proofs.lemmas.Bool.Decides.{nat_tests}
 use Rattle.lx_caps.specs.declared.Principal.{Principal}
 use Rattle.lx_caps.specs.declared.Principal.TheVariants.{Kernel, Shared, Global, Inst}
@@ -16,21 +16,15 @@ use Rattle.lx_certificates.specs.declared.Part.{Part}
 use Rattle.lx_certificates.specs.Givers.{giver, given, nth_atom, count_of, first_of, newest_strip}
 use Rattle.lx_certificates.specs.Certificates.{is_wanted, is_act, same_number, is_cut, are_cut, is_first_lacking, is_kernel, is_cert, gifts_for, seek, address_of}
 use Rattle.lx_certificates.specs.Laws.{IsCertFor}
-use Rattle.lx_certificates.proofs.Reaching.{owned, kept, by_places, at_place, in_place, same_nat, both_true}
-
-split_if : (b : Bool) (m y : ℕ) → nat_lt m y ≡ b → (m < y) ⊎ (y ≤ m)
-split_if true m y e = inl (grind (arith, nat_tests, e))
-split_if false m y e = inr (grind (arith, nat_tests, e))
-
-pub split_at : (m y : ℕ) → (m < y) ⊎ (y ≤ m)
-split_at m y = split_if (nat_lt m y) m y refl
+use Rattle.lx_certificates.proofs.Reaching.{owned, kept, by_places, at_place, in_place}
+use Rattle.lx_caps.proofs.Tests.{eq_itself, some_is}
 
 not_both : (b : Bool) → b ≡ true → not b ≡ true → ⊥
 not_both b is out = true≢false (sym out ∙ ap not is)
 
 wanted_is : (n : ℕ) (o : Option ℕ) → is_wanted (Some n) o ≡ true → o ≡ Some n
 wanted_is n None is = absurd cc
-wanted_is n (Some m) is = ap Some (same_nat m n is)
+wanted_is n (Some m) is = ap Some (eqb-true m n is)
 
 -- what it says of a part that it is cut
 pub record Cut (f : ℕ → Option ℕ) (first : ℕ) (last : Option ℕ) (k left : ℕ) (p : Part) : Type 0 where
@@ -42,12 +36,12 @@ pub record Cut (f : ℕ → Option ℕ) (first : ℕ) (last : Option ℕ) (k lef
 
 pub cut_of : (f : ℕ → Option ℕ) (first : ℕ) (last : Option ℕ) (k left : ℕ) (p : Part) → is_cut f first last k left p ≡ true → Cut f first last k left p
 cut_of f first last k left p is =
-    let a = both_true (nat_eq p.low (first + k)) _ is in
-    let b = both_true (nat_lt 0 p.size) _ a.1 in
-    let c = both_true (nat_le p.size left) _ b.1 in
-    let d = both_true (not (is_act last p.act)) _ c.1 in
+    let a = and_parts (nat_eq p.low (first + k)) _ is in
+    let b = and_parts (nat_lt 0 p.size) _ a.1 in
+    let c = and_parts (nat_le p.size left) _ b.1 in
+    let d = and_parts (not (is_act last p.act)) _ c.1 in
     record {
-      low = same_nat p.low (first + k) a.0;
+      low = eqb-true p.low (first + k) a.0;
       some = grind (arith, nat_tests, b.0);
       within = grind (arith, nat_tests, c.0);
       other = d.0;
@@ -57,11 +51,11 @@ cut_of f first last k left p is =
 -- all atoms that the parts cut were given
 pub all_given : (f : ℕ → Option ℕ) (first : ℕ) (last : Option ℕ) (k left : ℕ) (ps : List Part) → are_cut f first last k left ps ≡ true →
     (i : ℕ) → k ≤ i → i < k + left → is_wanted None (f i) ≡ true
-all_given f first last k left [] is i low high = (let e : left ≡ 0 = same_nat left 0 is in absurd (omega (arith, low, high, e)))
+all_given f first last k left [] is i low high = (let e : left ≡ 0 = eqb-true left 0 is in absurd (omega (arith, low, high, e)))
 all_given f first last k left (p ∷ ps) is i low high =
-    let a = both_true (is_cut f first last k left p) _ is in
+    let a = and_parts (is_cut f first last k left p) _ is in
     let c = cut_of f first last k left p a.0 in
-    elim (split_at i (k + p.size)) [
+    elim (cases_lt i (k + p.size)) [
       | inl here ↦ ap (is_wanted None) (c.each i low here)
       | inr there ↦ all_given f first (Some p.act) (k + p.size) (left - p.size) ps a.1 i there (omega (arith, high, c.within, there))
     ]
@@ -83,14 +77,14 @@ each_reached p c each = by_places p c ∙ each_byte-from (λ i. p (nth_atom c i)
 
 pub allowed_kept : (h : History) (who : Principal) (c : Cap) (parts : List Part) → IsTrue (is_cert h (Allow who c true parts)) → IsTrue (keeps_all h who c)
 allowed_kept h who c parts is =
-    let a = both_true (not (is_kernel who)) _ is in
+    let a = and_parts (not (is_kernel who)) _ is in
     module_keeps h who c a.0
     ∙ each_reached (kept_in_reach h who) c
     (λ i low high. sym (kept h who (nth_atom c i)) ∙ all_given (given h (seek Grants who c)) (first_of c) None 0 (count_of c) parts a.1 i low high)
 
 allowed_held : (h : History) (who : Principal) (c : Cap) (parts : List Part) → IsTrue (is_cert h (Allow who c false parts)) → IsTrue (holds h who c)
 allowed_held h who c parts is =
-    let a = both_true (not (is_kernel who)) _ is in
+    let a = and_parts (not (is_kernel who)) _ is in
     module_holds h who c a.0
     ∙ each_reached (reached h who) c
     (λ i low high. sym (owned h who (nth_atom c i)) ∙ all_given (given h (seek Both who c)) (first_of c) None 0 (count_of c) parts a.1 i low high)
@@ -107,8 +101,8 @@ pub record Lack (p : Atom → Bool) (c : Cap) (x : Atom) : Type 0 where
 
 pub lack_of : (p : Atom → Bool) (c : Cap) (x : Atom) → is_first_lacking p c x ≡ true → Lack p c x
 lack_of p c x is =
-    let a = both_true (has c x) _ is in
-    let b = both_true (each_byte (λ i. p (nth_atom c i)) 0 (address_of x - first_of c)) _ a.1 in
+    let a = and_parts (has c x) _ is in
+    let b = and_parts (each_byte (λ i. p (nth_atom c i)) 0 (address_of x - first_of c)) _ a.1 in
     record { in_cap = a.0; before = λ i high. each_byte-at (λ n. p (nth_atom c n)) 0 (address_of x - first_of c) b.0 i (omega arith) (omega (arith, high)); out = b.1 }
 
 lacks : (p : Atom → Bool) (c : Cap) (x : Atom) → is_first_lacking p c x ≡ true → each_atom p c ≡ false
@@ -121,38 +115,32 @@ lacks p c x is =
 
 pub denied : (h : History) (who : Principal) (c : Cap) (x : Atom) (strip : Option ℕ) → IsTrue (is_cert h (Deny who c x strip)) → holds h who c ≡ false
 denied h who c x strip is =
-    let a = both_true (not (is_kernel who)) _ is in
-    module_holds h who c a.0 ∙ lacks (reached h who) c x (both_true (is_first_lacking (reached h who) c x) _ a.1).0
+    let a = and_parts (not (is_kernel who)) _ is in
+    module_holds h who c a.0 ∙ lacks (reached h who) c x (and_parts (is_first_lacking (reached h who) c x) _ a.1).0
 
 pub borrowed : (h : History) (who : Principal) (c : Cap) (x : Atom) (act : ℕ) → IsTrue (is_cert h (Borrowed who c x act)) → IsTrue (holds h who c) × (keeps_all h who c ≡ false)
 borrowed h who c x act is =
-    let a = both_true (not (is_kernel who)) _ is in
-    let b = both_true (holds_by_reach h who c) _ a.1 in
-    (module_holds h who c a.0 ∙ b.0, module_keeps h who c a.0 ∙ lacks (kept_in_reach h who) c x (both_true (is_first_lacking (kept_in_reach h who) c x) _ b.1).0)
+    let a = and_parts (not (is_kernel who)) _ is in
+    let b = and_parts (holds_by_reach h who c) _ a.1 in
+    (module_holds h who c a.0 ∙ b.0, module_keeps h who c a.0 ∙ lacks (kept_in_reach h who) c x (and_parts (is_first_lacking (kept_in_reach h who) c x) _ b.1).0)
 
 -- one list of parts
-
-some_is : (m n : ℕ) → Some m ≡ Some n → m ≡ n
-some_is m n is = cc
-
-same_itself : (n : ℕ) → nat_eq n n ≡ true
-same_itself n = grind (arith, nat_tests)
 
 -- a part ends where the next one begins, which has another act
 longer : (f : ℕ → Option ℕ) (first : ℕ) (last : Option ℕ) (k left : ℕ) (p q : Part) (ps : List Part) → Cut f first last k left p → Cut f first last k left q →
     are_cut f first (Some p.act) (k + p.size) (left - p.size) ps ≡ true → p.act ≡ q.act → p.size < q.size → ⊥
-longer f first last k left p q [] a b is same lt = (let e : left - p.size ≡ 0 = same_nat (left - p.size) 0 is in omega (arith, e, b.within, lt))
+longer f first last k left p q [] a b is same lt = (let e : left - p.size ≡ 0 = eqb-true (left - p.size) 0 is in omega (arith, e, b.within, lt))
 longer f first last k left p q (r ∷ rs) a b is same lt =
-    let c = cut_of f first (Some p.act) (k + p.size) (left - p.size) r (both_true (is_cut f first (Some p.act) (k + p.size) (left - p.size) r) _ is).0 in
+    let c = cut_of f first (Some p.act) (k + p.size) (left - p.size) r (and_parts (is_cut f first (Some p.act) (k + p.size) (left - p.size) r) _ is).0 in
     let e : r.act ≡ q.act = some_is r.act q.act (sym (c.each (k + p.size) (omega arith) (omega (arith, c.some))) ∙ b.each (k + p.size) (omega arith) (omega (arith, lt))) in
-    not_both (nat_eq p.act r.act) (ap (nat_eq p.act) (e ∙ sym same) ∙ same_itself p.act) c.other
+    not_both (nat_eq p.act r.act) (ap (nat_eq p.act) (e ∙ sym same) ∙ eq_itself p.act) c.other
 
 same_size : (f : ℕ → Option ℕ) (first : ℕ) (last : Option ℕ) (k left : ℕ) (p q : Part) (ps qs : List Part) → Cut f first last k left p → Cut f first last k left q →
     are_cut f first (Some p.act) (k + p.size) (left - p.size) ps ≡ true → are_cut f first (Some q.act) (k + q.size) (left - q.size) qs ≡ true → p.act ≡ q.act → p.size ≡ q.size
 same_size f first last k left p q ps qs a b is js same =
-    elim (split_at p.size q.size) [
+    elim (cases_lt p.size q.size) [
       | inl lt ↦ absurd (longer f first last k left p q ps a b is same lt)
-      | inr le ↦ elim (split_at q.size p.size) [
+      | inr le ↦ elim (cases_lt q.size p.size) [
         | inl lt ↦ absurd (longer f first last k left q p qs b a js (sym same) lt)
         | inr other ↦ omega (arith, le, other)
       ]
@@ -161,16 +149,16 @@ same_size f first last k left p q ps qs a b is js same =
 pub one_cut : (f : ℕ → Option ℕ) (first : ℕ) (last : Option ℕ) (k left : ℕ) (ps qs : List Part) → are_cut f first last k left ps ≡ true → are_cut f first last k left qs ≡ true → ps ≡ qs
 one_cut f first last k left [] [] is js = refl
 one_cut f first last k left [] (q ∷ qs) is js =
-    let c = cut_of f first last k left q (both_true (is_cut f first last k left q) _ js).0 in
-    let e : left ≡ 0 = same_nat left 0 is in
+    let c = cut_of f first last k left q (and_parts (is_cut f first last k left q) _ js).0 in
+    let e : left ≡ 0 = eqb-true left 0 is in
     absurd (omega (arith, e, c.some, c.within))
 one_cut f first last k left (p ∷ ps) [] is js =
-    let c = cut_of f first last k left p (both_true (is_cut f first last k left p) _ is).0 in
-    let e : left ≡ 0 = same_nat left 0 js in
+    let c = cut_of f first last k left p (and_parts (is_cut f first last k left p) _ is).0 in
+    let e : left ≡ 0 = eqb-true left 0 js in
     absurd (omega (arith, e, c.some, c.within))
 one_cut f first last k left (p ∷ ps) (q ∷ qs) is js =
-    let i = both_true (is_cut f first last k left p) _ is in
-    let j = both_true (is_cut f first last k left q) _ js in
+    let i = and_parts (is_cut f first last k left p) _ is in
+    let j = and_parts (is_cut f first last k left q) _ js in
     let a = cut_of f first last k left p i.0 in
     let b = cut_of f first last k left q j.0 in
     let act : p.act ≡ q.act = some_is p.act q.act (sym (a.each k (omega arith) (omega (arith, a.some))) ∙ b.each k (omega arith) (omega (arith, b.some))) in
@@ -188,9 +176,9 @@ pub one_lack : (p : Atom → Bool) (c : Cap) (x y : Atom) → is_first_lacking p
 one_lack p c x y is js =
     let a = lack_of p c x is in
     let b = lack_of p c y js in
-    elim (split_at (address_of x - first_of c) (address_of y - first_of c)) [
+    elim (cases_lt (address_of x - first_of c) (address_of y - first_of c)) [
       | inl lt ↦ absurd (place_first p c x y a b lt)
-      | inr le ↦ elim (split_at (address_of y - first_of c) (address_of x - first_of c)) [
+      | inr le ↦ elim (cases_lt (address_of y - first_of c) (address_of x - first_of c)) [
         | inl lt ↦ absurd (place_first p c y x b a lt)
         | inr other ↦ (let e : address_of x - first_of c ≡ address_of y - first_of c = omega (arith, le, other) in sym (at_place c x a.in_cap) ∙ ap (nth_atom c) e ∙ at_place c y b.in_cap)
       ]
@@ -203,29 +191,29 @@ one_number None (Some b) (Some n) is js = absurd cc
 one_number (Some a) None None is js = absurd cc
 one_number (Some a) None (Some n) is js = absurd cc
 one_number (Some a) (Some b) None is js = absurd cc
-one_number (Some a) (Some b) (Some n) is js = ap Some (same_nat a n is ∙ sym (same_nat b n js))
+one_number (Some a) (Some b) (Some n) is js = ap Some (eqb-true a n is ∙ sym (eqb-true b n js))
 
 one_act : (o : Option ℕ) (a b : ℕ) → is_act o a ≡ true → is_act o b ≡ true → a ≡ b
 one_act None a b is js = absurd cc
-one_act (Some n) a b is js = sym (same_nat n a is) ∙ same_nat n b js
+one_act (Some n) a b is js = sym (eqb-true n a is) ∙ eqb-true n b js
 
 -- two certificates of one need
 
 two_allow : (h : History) (who : Principal) (c : Cap) (kept : Bool) (ps qs : List Part) → IsTrue (is_cert h (Allow who c kept ps)) → IsTrue (is_cert h (Allow who c kept qs)) → ps ≡ qs
 two_allow h who c kept ps qs is js =
-    one_cut (given h (seek (gifts_for kept) who c)) (first_of c) None 0 (count_of c) ps qs (both_true (not (is_kernel who)) _ is).1 (both_true (not (is_kernel who)) _ js).1
+    one_cut (given h (seek (gifts_for kept) who c)) (first_of c) None 0 (count_of c) ps qs (and_parts (not (is_kernel who)) _ is).1 (and_parts (not (is_kernel who)) _ js).1
 
 two_deny : (h : History) (who : Principal) (c : Cap) (x y : Atom) (s t : Option ℕ) → IsTrue (is_cert h (Deny who c x s)) → IsTrue (is_cert h (Deny who c y t)) → (x ≡ y) × (s ≡ t)
 two_deny h who c x y s t is js =
-    let a = both_true (is_first_lacking (reached h who) c x) _ (both_true (not (is_kernel who)) _ is).1 in
-    let b = both_true (is_first_lacking (reached h who) c y) _ (both_true (not (is_kernel who)) _ js).1 in
+    let a = and_parts (is_first_lacking (reached h who) c x) _ (and_parts (not (is_kernel who)) _ is).1 in
+    let b = and_parts (is_first_lacking (reached h who) c y) _ (and_parts (not (is_kernel who)) _ js).1 in
     let e = one_lack (reached h who) c x y a.0 b.0 in
     (e, one_number s t (newest_strip h y) (ap (λ z. same_number s (newest_strip h z)) (sym e) ∙ a.1) b.1)
 
 two_borrowed : (h : History) (who : Principal) (c : Cap) (x y : Atom) (m n : ℕ) → IsTrue (is_cert h (Borrowed who c x m)) → IsTrue (is_cert h (Borrowed who c y n)) → (x ≡ y) × (m ≡ n)
 two_borrowed h who c x y m n is js =
-    let a = both_true (is_first_lacking (kept_in_reach h who) c x) _ (both_true (holds_by_reach h who c) _ (both_true (not (is_kernel who)) _ is).1).1 in
-    let b = both_true (is_first_lacking (kept_in_reach h who) c y) _ (both_true (holds_by_reach h who c) _ (both_true (not (is_kernel who)) _ js).1).1 in
+    let a = and_parts (is_first_lacking (kept_in_reach h who) c x) _ (and_parts (holds_by_reach h who c) _ (and_parts (not (is_kernel who)) _ is).1).1 in
+    let b = and_parts (is_first_lacking (kept_in_reach h who) c y) _ (and_parts (holds_by_reach h who c) _ (and_parts (not (is_kernel who)) _ js).1).1 in
     let e = one_lack (kept_in_reach h who) c x y a.0 b.0 in
     (e, one_act (giver Lends h who y) m n (ap (λ z. is_act (giver Lends h who z) m) (sym e) ∙ a.1) b.1)
 

@@ -1,5 +1,6 @@
 -- The giver stands, and it is the newest act that does.
 use Rattle.std.proofs.Common.{◌≡◌, ◌∙◌, ◌⊎◌, inl, inr, refl, ap, subst, ℕ, ◌<◌, ◌≤◌, Bool, true, false, ◌&&◌, Option, Some, None, [], ◌∷◌, ◌++◌, length, arith, IsTrue, if◌then◌else◌}
+use Rattle.std.proofs.lemmas.Bool.{and_parts, and_from}
 use Rattle.lx_caps.specs.declared.Principal.{Principal}
 use Rattle.lx_caps.specs.declared.Atom.{Atom}
 use Rattle.lx_caps.specs.declared.Act.{Act}
@@ -8,12 +9,11 @@ use Rattle.lx_caps.specs.Loans.{Endings, none_end, before_loan, before_shut, bef
 use Rattle.lx_caps.specs.History.{History, has, reaches}
 use Rattle.lx_caps.specs.LoanLaws.{newest_loan}
 use Rattle.lx_caps.specs.OwnerLaws.{NoStrip}
-use Rattle.lx_caps.proofs.LoanLemmas.{Left, newest_below, loan_left, left_loan, shut_left, left_shut_by, all_left, left_all, goes_on_left, left_goes_on}
+use Rattle.lx_caps.proofs.LoanLemmas.{Left, loan_left, left_loan, shut_left, left_shut_by, all_left, left_all, goes_on_left, left_goes_on}
 use Rattle.lx_certificates.specs.declared.givers.Gifts.{Gifts}
 use Rattle.lx_certificates.specs.Givers.{by_grant, by_lend, found, giver_among, giver}
 use Rattle.lx_certificates.specs.Standing.{Gives, Stands}
-use Rattle.lx_certificates.proofs.Reaching.{both_true}
-use Rattle.lx_certificates.proofs.Making.{and_true}
+use Rattle.lx_caps.proofs.OwnerLemmas.{loan_before}
 
 -- the same, where the acts behind the history end loans and do nothing else
 abbrev pub GivesBy : Gifts → (Principal → Bool) → Endings → History → Atom → Act → History → Type 0
@@ -69,8 +69,8 @@ stands_by gifts among ends [] x n is = absurd cc
 stands_by gifts among ends (Grant q c ∷ h) x n is =
     elim (by_giving (by_grant gifts && (among q && has c x)) (length h) n (giver_among gifts among ends h x) is) [
       | inl now ↦
-          (let i = both_true (by_grant gifts) (among q && has c x) now.0 in
-          let j = both_true (among q) (has c x) i.1 in
+          (let i = and_parts (by_grant gifts) (among q && has c x) now.0 in
+          let j = and_parts (among q) (has c x) i.1 in
           record { later = []; act = Grant q c; earlier = h; place = refl; is_numbered = now.1; kept = tt; gives = (i.0, j.0, j.1) })
       | inr was ↦ behind gifts among ends ends h (Grant q c) x n (λ l none. none) (λ t k left. left) (stands_by gifts among ends h x n was)
     ]
@@ -84,10 +84,10 @@ stands_by gifts among ends (Loan t ∷ h) x n is =
 stands_by gifts among ends (Lend t q c ∷ h) x n is =
     elim (by_giving (by_lend gifts && ((among q && has c x) && (lends h t && goes_on (ends t)))) (length h) n (giver_among gifts among ends h x) is) [
       | inl now ↦
-          (let i = both_true (by_lend gifts) ((among q && has c x) && (lends h t && goes_on (ends t))) now.0 in
-          let j = both_true (among q && has c x) (lends h t && goes_on (ends t)) i.1 in
-          let k = both_true (among q) (has c x) j.0 in
-          let l = both_true (lends h t) (goes_on (ends t)) j.1 in
+          (let i = and_parts (by_lend gifts) ((among q && has c x) && (lends h t && goes_on (ends t))) now.0 in
+          let j = and_parts (among q && has c x) (lends h t && goes_on (ends t)) i.1 in
+          let k = and_parts (among q) (has c x) j.0 in
+          let l = and_parts (lends h t) (goes_on (ends t)) j.1 in
           record { later = []; act = Lend t q c; earlier = h; place = refl; is_numbered = now.1; kept = tt; gives = (i.0, k.0, k.1, goes_on_left ends h t l.1 l.0) })
       | inr was ↦ behind gifts among ends ends h (Lend t q c) x n (λ l none. none) (λ u k left. left) (stands_by gifts among ends h x n was)
     ]
@@ -133,11 +133,6 @@ below_all : (later earlier : History) (act : Act) → length earlier ≤ length 
 below_all [] earlier act = omega arith
 below_all (a ∷ later) earlier act = let le = below_all later earlier act in omega (arith, le)
 
--- the loan stands before the lend, and so before all behind it
-loan_before : (later earlier : History) (act : Act) (t k : ℕ) → newest_loan earlier t ≡ Some k → k < length (later ++ act ∷ earlier)
-loan_before [] earlier act t k newest = let below = newest_below earlier t k newest in omega arith
-loan_before (a ∷ later) earlier act t k newest = let below = loan_before later earlier act t k newest in omega arith
-
 -- one act fewer behind it
 fewer_behind : (gifts : Gifts) (among : Principal → Bool) (ends less : Endings) (new : Act) (later : History) (x : Atom) (act : Act) (earlier : History) →
     ((t k : ℕ) → k < length (later ++ act ∷ earlier) → Left ends (new ∷ (later ++ act ∷ earlier)) t k → Left less (later ++ act ∷ earlier) t k) →
@@ -153,11 +148,11 @@ fewer_behind gifts among ends less new later x (ShutAll t) earlier left g = g
 newest_by : (gifts : Gifts) (among : Principal → Bool) (ends : Endings) (later earlier : History) (act : Act) (x : Atom) → NoStrip x later → GivesBy gifts among ends (later ++ act ∷ earlier) x act earlier →
     Newer (length earlier) (giver_among gifts among ends (later ++ act ∷ earlier) x)
 newest_by gifts among ends [] earlier (Grant q c) x none g =
-    gave_now (by_grant gifts && (among q && has c x)) (length earlier) (giver_among gifts among ends earlier x) (and_true (by_grant gifts) _ g.0 (and_true (among q) (has c x) g.1 g.2))
+    gave_now (by_grant gifts && (among q && has c x)) (length earlier) (giver_among gifts among ends earlier x) (and_from (by_grant gifts) _ g.0 (and_from (among q) (has c x) g.1 g.2))
 newest_by gifts among ends [] earlier (Lend t q c) x none g =
-    let i = both_true (goes_on (ends t)) (lends earlier t) (left_goes_on (ends t) earlier t g.3.0 g.3.1 g.3.2) in
+    let i = and_parts (goes_on (ends t)) (lends earlier t) (left_goes_on (ends t) earlier t g.3.0 g.3.1 g.3.2) in
     gave_now (by_lend gifts && ((among q && has c x) && (lends earlier t && goes_on (ends t)))) (length earlier) (giver_among gifts among ends earlier x)
-    (and_true (by_lend gifts) _ g.0 (and_true (among q && has c x) _ (and_true (among q) (has c x) g.1 g.2) (and_true (lends earlier t) (goes_on (ends t)) i.1 i.0)))
+    (and_from (by_lend gifts) _ g.0 (and_from (among q && has c x) _ (and_from (among q) (has c x) g.1 g.2) (and_from (lends earlier t) (goes_on (ends t)) i.1 i.0)))
 newest_by gifts among ends [] earlier (Strip c) x none g = absurd g
 newest_by gifts among ends [] earlier (Zero at size) x none g = absurd g
 newest_by gifts among ends [] earlier (Loan t) x none g = absurd g

@@ -1,16 +1,14 @@
 -- One act more, and one piece more.
 use Rattle.std.proofs.Common.{◌≡◌, ◌∙◌, refl, sym, ap, ℕ, zero, suc, ◌+◌, ◌-◌, ◌<◌, ◌≤◌, Bool, true, false, List, [], ◌∷◌, length, drop, reverse, take, get_or, arith}
-use Rattle.std.proofs.lemmas.List.{take_more, drop_more, reverse-append, length-reverse, length-take-le}
+use Rattle.std.proofs.lemmas.List.{drop_more, length-reverse, length-take-le}
 use Rattle.lx_caps.specs.declared.Act.{Act}
 use Rattle.lx_caps.specs.declared.Act.TheVariants.{Grant, Strip, Zero, Loan, Lend, Shut, ShutAll}
 use Rattle.lx_caps.specs.History.{each_byte, reaches}
 use Rattle.lx_caps.specs.Owners.{endings}
 use Rattle.lx_certificates.specs.declared.givers.Sought.{Sought}
 use Rattle.lx_certificates.specs.Givers.{touches, said, ends_with, found, giver_among, nth_atom, given_by_first}
-
--- one more act, read from the end
-pub reverse-take_more : {A : Type 0} (xs : List A) (i : ℕ) (d : A) → i < length xs → reverse (take (i + 1) xs) ≡ get_or xs i d ∷ reverse (take i xs)
-reverse-take_more xs i d below = ap reverse (take_more xs i d below) ∙ reverse-append (take i xs) (get_or xs i d ∷ [])
+use Rattle.lx_caps.proofs.Items.{reverse_take_more}
+use Rattle.lx_caps.proofs.Tests.{chosen}
 
 ends_one : (act : Act) (acts : List Act) → endings (act ∷ acts) ≡ ends_with act (endings acts)
 ends_one (Grant q c) acts = refl
@@ -31,17 +29,13 @@ length-reverse-take xs i le = length-reverse (take i xs) ∙ length-take-le i xs
 pub one_act : (acts : List Act) (s : Sought) (i : ℕ) (d : Act) (k : ℕ) (touched : Bool) → i < length acts → touches (reaches s.who) (get_or acts i d) (nth_atom s.cap k) ≡ touched →
     given_by_first acts s k (i + 1) ≡ found (said s.gifts (get_or acts i d) touched (endings (drop (i + 1) acts)) (reverse (take i acts))) i (given_by_first acts s k i)
 one_act acts s i d k touched below is =
-    ap (λ h. giver_among s.gifts (reaches s.who) (endings (drop (i + 1) acts)) h (nth_atom s.cap k)) (reverse-take_more acts i d below)
+    ap (λ h. giver_among s.gifts (reaches s.who) (endings (drop (i + 1) acts)) h (nth_atom s.cap k)) (reverse_take_more acts i d below)
     ∙ ap (λ b. found (said s.gifts (get_or acts i d) b (endings (drop (i + 1) acts)) (reverse (take i acts))) (length (reverse (take i acts)))
     (giver_among s.gifts (reaches s.who) (ends_with (get_or acts i d) (endings (drop (i + 1) acts))) (reverse (take i acts)) (nth_atom s.cap k))) is
     ∙ ap (λ n. found (said s.gifts (get_or acts i d) touched (endings (drop (i + 1) acts)) (reverse (take i acts))) n
     (giver_among s.gifts (reaches s.who) (ends_with (get_or acts i d) (endings (drop (i + 1) acts))) (reverse (take i acts)) (nth_atom s.cap k))) (length-reverse-take acts i (omega (arith, below)))
     ∙ ap (λ ends. found (said s.gifts (get_or acts i d) touched (endings (drop (i + 1) acts)) (reverse (take i acts))) i
     (giver_among s.gifts (reaches s.who) ends (reverse (take i acts)) (nth_atom s.cap k))) (ends_more acts i d below)
-
-chosen : (b rest : Bool) → b ≡ true → elim b [ false ↦ false | true ↦ rest ] ≡ rest
-chosen true rest is = refl
-chosen false rest is = cc
 
 failing : (b rest : Bool) → b ≡ false → elim b [ false ↦ false | true ↦ rest ] ≡ false
 failing true rest is = cc

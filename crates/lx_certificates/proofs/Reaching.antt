@@ -1,6 +1,6 @@
 -- Who gave an atom, and who owns it.
-use Rattle.std.proofs.Common.{◌≡◌, ◌∙◌, refl, ap, ℕ, zero, suc, ◌+◌, ◌-◌, ◌<◌, ◌≤◌, Bool, true, false, not, ◌&&◌, ◌||◌, nat_eq, nat_lt, nat_le, Option, Some, None, [], ◌∷◌, length, arith, if◌then◌else◌}
-use Rattle.std.proofs.lemmas.Bool.Decides.{nat_tests}
+use Rattle.std.proofs.Common.{◌≡◌, ◌∙◌, refl, ap, ℕ, zero, suc, ◌+◌, ◌-◌, ◌<◌, ◌≤◌, Bool, true, false, not, ◌&&◌, ◌||◌, nat_eq, Option, Some, None, [], ◌∷◌, length, arith, if◌then◌else◌, eqb-true}
+use Rattle.std.proofs.lemmas.Bool.{and_parts}
 use Rattle.lx_caps.specs.declared.Principal.{Principal}
 use Rattle.lx_caps.specs.declared.Cap.{Cap}
 use Rattle.lx_caps.specs.declared.Cap.TheVariants as cap
@@ -8,11 +8,11 @@ use Rattle.lx_caps.specs.declared.Atom.{Atom}
 use Rattle.lx_caps.specs.declared.Atom.TheVariants as atom
 use Rattle.lx_caps.specs.declared.Act.TheVariants.{Grant, Strip, Zero, Loan, Lend, Shut, ShutAll}
 use Rattle.lx_caps.specs.Loans.{Endings, none_end, before_loan, before_shut, before_shut_all, goes_on, lends}
-use Rattle.lx_caps.specs.Regions.{covers}
 use Rattle.lx_caps.specs.History.{History, has, kept_among, owned_among, reaches, reached, kept_in_reach, each_byte, each_atom}
 use Rattle.lx_certificates.specs.declared.givers.Gifts.TheVariants.{Grants, Both}
 use Rattle.lx_certificates.specs.Givers.{found, giver_among, giver, nth_atom, count_of, first_of}
 use Rattle.lx_certificates.specs.Certificates.{is_wanted, address_of}
+use Rattle.lx_caps.proofs.Covering.{covers_parts}
 
 gave : (b : Bool) (n : ℕ) (rest : Option ℕ) → is_wanted None (found (if b then Some true else None) n rest) ≡ (b || is_wanted None rest)
 gave true n rest = refl
@@ -95,23 +95,13 @@ by_places p (cap.Ref t a) = alone (p (atom.Ref t a))
 
 -- an atom of the capability by its place
 
-pub both_true : (a b : Bool) → (a && b) ≡ true → (a ≡ true) × (b ≡ true)
-both_true true b is = (refl, is)
-both_true false b is = absurd cc
-
-byte_place : (at size b : ℕ) → covers at size b ≡ true → (at ≤ b) × (b < at + size)
-byte_place at size b is = let p = both_true (nat_le at b) (nat_lt b (at + size)) is in (grind (arith, nat_tests, p.0), grind (arith, nat_tests, p.1))
-
 byte_at : (at b : ℕ) → at ≤ b → at + (b - at) ≡ b
 byte_at at b le = omega (arith, le)
 
-pub same_nat : (a b : ℕ) → nat_eq a b ≡ true → a ≡ b
-same_nat a b is = grind (arith, nat_tests, is)
-
 pub at_place : (c : Cap) (x : Atom) → has c x ≡ true → nth_atom c (address_of x - first_of c) ≡ x
-at_place (cap.Write at size) (atom.Byte b) is = ap atom.Byte (byte_at at b (byte_place at size b is).0)
-at_place (cap.Call a) (atom.Call b) is = ap atom.Call (same_nat a b is)
-at_place (cap.Ref t a) (atom.Ref u b) is = (let p = both_true (nat_eq t u) (nat_eq a b) is in ap (λ v. atom.Ref v a) (same_nat t u p.0) ∙ ap (λ v. atom.Ref u v) (same_nat a b p.1))
+at_place (cap.Write at size) (atom.Byte b) is = ap atom.Byte (byte_at at b (covers_parts at size b is).0)
+at_place (cap.Call a) (atom.Call b) is = ap atom.Call (eqb-true a b is)
+at_place (cap.Ref t a) (atom.Ref u b) is = (let p = and_parts (nat_eq t u) (nat_eq a b) is in ap (λ v. atom.Ref v a) (eqb-true t u p.0) ∙ ap (λ v. atom.Ref u v) (eqb-true a b p.1))
 at_place (cap.Write at size) (atom.Call b) is = absurd cc
 at_place (cap.Write at size) (atom.Ref u b) is = absurd cc
 at_place (cap.Call a) (atom.Byte b) is = absurd cc
@@ -120,9 +110,9 @@ at_place (cap.Ref t a) (atom.Byte b) is = absurd cc
 at_place (cap.Ref t a) (atom.Call b) is = absurd cc
 
 pub in_place : (c : Cap) (x : Atom) → has c x ≡ true → (first_of c ≤ address_of x) × (address_of x - first_of c < count_of c)
-in_place (cap.Write at size) (atom.Byte b) is = (let p = byte_place at size b is in (p.0, omega (arith, p.0, p.1)))
-in_place (cap.Call a) (atom.Call b) is = (let e = same_nat a b is in (omega (arith, e), omega (arith, e)))
-in_place (cap.Ref t a) (atom.Ref u b) is = (let p = both_true (nat_eq t u) (nat_eq a b) is in let e = same_nat a b p.1 in (omega (arith, e), omega (arith, e)))
+in_place (cap.Write at size) (atom.Byte b) is = (let p = covers_parts at size b is in (p.0, omega (arith, p.0, p.1)))
+in_place (cap.Call a) (atom.Call b) is = (let e = eqb-true a b is in (omega (arith, e), omega (arith, e)))
+in_place (cap.Ref t a) (atom.Ref u b) is = (let p = and_parts (nat_eq t u) (nat_eq a b) is in let e = eqb-true a b p.1 in (omega (arith, e), omega (arith, e)))
 in_place (cap.Write at size) (atom.Call b) is = absurd cc
 in_place (cap.Write at size) (atom.Ref u b) is = absurd cc
 in_place (cap.Call a) (atom.Byte b) is = absurd cc

@@ -1,5 +1,9 @@
 pub mod Judging
+pub mod Leaves
+pub mod Named
+pub mod Options
 pub mod Replays
+pub mod Said
 pub mod Statuses
 pub mod Telling
 pub mod Written

@@ -6,7 +6,7 @@ use Rattle.lx_input.specs.Files.Asked.{Asked, nothing}
 use Rattle.lx_input.specs.Files.InputStop.{InputStop}
 use Rattle.lx_input.specs.declared.input.Input.{Input}
 use Rattle.lx_input.specs.Inputs.{InputTurn}
-pub use Rattle.lx_command.specs.Command.{Command, Run, Replay, Instrument, Check, Generate, Surface, Why, command_of, said, texts}
+pub use Rattle.lx_cli.specs.Words.{Command, Run, Replay, Instrument, Check, Generate, Surface, Why, command_of, said, texts}
 
 -- the files of a case that is generated
 

@@ -1,10 +1,10 @@
 //! What a command reads.
 ghost use Rattle.std.specs.Prelude.{◌≡◌};
 ghost use Rattle.lx_input.specs.Files.Asked.{asked_by};
-ghost use Rattle.lx_command.specs.Command.{said};
+ghost use Rattle.lx_cli.specs.Words.{said};
 ghost use Rattle.lx_cli.specs.Command.{asked_of, case_of, count_asked};
 
-use lx_command::Command;
+use crate::Command;
 use lx_input::Asked;
 
 /// The name of the case that is generated, on a shelf of its own.

@@ -5,8 +5,7 @@ ghost use Rattle.lx_cli.specs.Answer.{IsSurface};
 
 use crate::answer::Answer;
 use lx_input::Input;
-use lx_static_reach::reach_laws;
-use lx_surface::{bound_by, bound_text};
+use lx_surface::{bound_by, bound_text, static_reach_laws};
 use lx_words::{Memory, Name};
 use std::alloc::Global;
 
@@ -15,7 +14,7 @@ pub(crate) fn surface_input(alloc: Global, input: &Input) -> Result<Answer, Memo
     requires { IsReady input.now }
     ensures { IfOk result (λ a. (text : List ℕ) × (a ≡ Answer.Text text) × IsSurface input.now text) }
 {
-    reach_laws();
+    static_reach_laws();
     let program = &input.program;
     let bound = bound_by(alloc, program, input.annotated.as_slice())?;
     let text = bound_text(alloc, program, &bound)?;

@@ -19,7 +19,7 @@ use crate::command::{asked_of, case_of, count_asked};
 use crate::generate::{generated_shelf, sum_up_input};
 use crate::images::{check_input, instrument_input};
 use crate::surface::surface_input;
-use lx_command::{Command, command_of};
+use crate::{Command, command_of};
 use lx_input::{Input, InputStop, input_laws, read_input};
 use lx_outside::{Gate, Shelf, Sink, put_all};
 use lx_runs::{Host, run_input, why_input};

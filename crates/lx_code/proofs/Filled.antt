@@ -1,37 +1,25 @@
 -- Tables that loops fill.
-use Rattle.std.proofs.Common.{◌≡◌, ◌∙◌, refl, sym, ap, subst, ℕ, zero, suc, ◌<◌, ◌≤◌, Option, Some, None, List, [], ◌∷◌, ◌++◌, length, get_or, slice_get, arith}
+use Rattle.std.proofs.Common.{◌≡◌, ◌∙◌, refl, sym, ap, subst, ℕ, zero, suc, ◌<◌, Option, Some, None, List, [], ◌∷◌, ◌++◌, length, get_or, slice_get, arith}
 use Rattle.std.specs.Prelude.{unwrap_or}
-use Rattle.std.proofs.lemmas.Option.{slice_get-get_or}
+use Rattle.std.proofs.lemmas.Option.{slice_get-get_or, same_Some, slice_get_past}
 use Rattle.lx_ir.specs.declared.module.Function.{Function}
 use Rattle.lx_model.specs.declared.program.Program.{Program}
 use Rattle.lx_model.specs.declared.program.ProgramModule.{ProgramModule}
 use Rattle.lx_model.specs.Program.{Home, module_of, module_or_empty, target, target_of as target_in}
 use Rattle.lx_code.specs.declared.targets.Target.{Target as Named}
 use Rattle.lx_code.specs.Targets.{target_of, target_or_nowhere, HasTable}
+use Rattle.lx_model.proofs.Items.{none_past}
 
 -- what holds of each element, by its place
 abbrev pub Each : {A : Type 0} → (ℕ → A → Type 0) → List A → Type 0
 Each {A} P xs = (k : ℕ) → (x : A) → slice_get xs k ≡ Some x → P k x
 
-some_same : {A : Type 0} (x y : A) → Some x ≡ Some y → x ≡ y
-some_same x y e = cc
-
 -- an element more, at the end
 pub each_more : {A : Type 0} (P : ℕ → A → Type 0) (xs : List A) (x : A) → Each P xs → P (length xs) x → Each P (xs ++ x ∷ [])
-each_more P [] x each last zero y at = subst (P zero) (some_same x y at) last
+each_more P [] x each last zero y at = subst (P zero) (same_Some x y at) last
 each_more P [] x each last (suc k) y at = absurd (cc)
 each_more P (z ∷ xs) x each last zero y at = each zero y at
 each_more P (z ∷ xs) x each last (suc k) y at = each_more (λ n. P (suc n)) xs x (λ n. each (suc n)) last k y at
-
-pub past : {A : Type 0} (xs : List A) (k : ℕ) → length xs ≤ k → slice_get xs k ≡ None
-past [] k h = refl
-past (x ∷ xs) zero h = absurd (omega (arith, h))
-past (x ∷ xs) (suc k) h = past xs k (omega (arith, h))
-
-pub none_past : {A : Type 0} (xs : List A) (k : ℕ) → slice_get xs k ≡ None → length xs ≤ k
-none_past [] k e = omega arith
-none_past (x ∷ xs) zero e = absurd (cc)
-none_past (x ∷ xs) (suc k) e = let h = none_past xs k e in omega (arith, h)
 
 -- a table as long as the text, with what each function of it names
 module _ (p : Program) (home : Home) (table : List Named) (count : length table ≡ length (module_of p home).functions) (each : Each (λ k t. target_of t ≡ target p home k) table) where
@@ -39,7 +27,7 @@ module _ (p : Program) (home : Home) (table : List Named) (count : length table 
   by_entry f (Some t) at = each f t at
   by_entry f None at =
       let far = none_past table f at in
-      sym (ap (target_in p home f) (past (module_of p home).functions f (omega (arith, far, count))))
+      sym (ap (target_in p home f) (slice_get_past (module_of p home).functions f (omega (arith, far, count))))
 
   pub has_table : HasTable p home table
   has_table f = by_entry f (slice_get table f) refl
@@ -61,7 +49,7 @@ module _ (p : Program) (tables : List (List Named)) (count : length tables ≡ l
   by_table m (Some table) at f = each m table at f
   by_table m None at f =
       let far = none_past tables m at in
-      sym (ap (λ (x : Option ProgramModule). target_in p (Some m) f (slice_get (module_or_empty x).functions f)) (past p.modules m (omega (arith, far, count))))
+      sym (ap (λ (x : Option ProgramModule). target_in p (Some m) f (slice_get (module_or_empty x).functions f)) (slice_get_past p.modules m (omega (arith, far, count))))
 
   pub has_tables : (m : ℕ) → HasTable p (Some m) (unwrap_or (slice_get tables m) [])
   has_tables m = by_table m (slice_get tables m) refl

@@ -1,44 +1,23 @@
 -- Maps of what stands first.
-use Rattle.std.proofs.Common.{◌≡◌, ◌∙◌, refl, sym, ap, ℕ, ◌+◌, ◌≤◌, Bool, false, ◌&&◌, nat_eq, Option, Some, None, List, [], ◌∷◌, drop, arith}
+use Rattle.std.proofs.Common.{◌≡◌, ◌∙◌, refl, ap, ℕ, ◌+◌, Bool, false, ◌&&◌, nat_eq, None, List, [], ◌∷◌}
 use Rattle.std.specs.Prelude.{position}
 use Rattle.std.specs.List.{position_from}
-use Rattle.std.specs.Option.{option_eq}
-use Rattle.std.proofs.lemmas.Bool.Decides.{nat_tests}
 use Rattle.std.proofs.lemmas.Iterator.Adapters.{position_from-zero}
 use Rattle.lx_model.specs.declared.program.ProgramFunction.TheVariants.{Of}
 use Rattle.lx_model.specs.Program.{Home, is_entry, same_home}
 use Rattle.lx_code.specs.Places.{same_key}
-
-nat_turned : (m n : ℕ) → nat_eq m n ≡ nat_eq n m
-nat_turned m n = grind (arith, nat_tests)
-
-home_turned : (a b : Home) → option_eq nat_eq a b ≡ same_home b a
-home_turned None None = refl
-home_turned None (Some n) = refl
-home_turned (Some m) None = refl
-home_turned (Some m) (Some n) = nat_turned m n
-
-home_same : (a b : Home) → option_eq nat_eq a b ≡ same_home a b
-home_same None None = refl
-home_same None (Some n) = refl
-home_same (Some m) None = refl
-home_same (Some m) (Some n) = refl
+use Rattle.lx_model.proofs.Tests.{nat_eq_swapped}
+use Rattle.lx_model.proofs.Homes.{home_turned, home_same}
 
 -- an entry's key is the one at which it is an entry
 pub key_of_entry : (home other : Home) (g f : ℕ) → same_key (home, g) (other, f) ≡ is_entry other f (Of home g)
 key_of_entry home other g f =
     let a = home_turned home other in
-    let b = nat_turned g f in
+    let b = nat_eq_swapped g f in
     λ j. a j && b j
 
 pub key_of_global : (home other : Home) (g f : ℕ) → same_key (home, g) (other, f) ≡ (same_home home other && nat_eq g f)
 key_of_global home other g f = ap (λ b. b && nat_eq g f) (home_same home other)
-
--- the first of the whole list
-pub first_all : {A : Type 0} (t : A → Bool) (xs : List A) (k : ℕ) (found : Option ℕ) → k ≤ 0 → found ≡ position_from t k (drop k xs) → found ≡ position t xs
-first_all t xs k found none is =
-    let zero_is : k ≡ 0 = omega (arith, none) in
-    is ∙ ap (λ n. position_from t n (drop n xs)) zero_is ∙ sym (position_from-zero t xs)
 
 none_from : {A : Type 0} (i : ℕ) (xs : List A) → position_from (λ (x : A). false) i xs ≡ None
 none_from i [] = refl

@@ -1,4 +1,11 @@
-pub mod Filled
-pub mod Firsts
-pub mod Names
+pub mod Copied
 pub mod Crossing
+pub mod Filled
+pub mod FirstPlaces
+pub mod Firsts
+pub mod JoinedNames
+pub mod Placed
+pub mod Sized
+pub mod TablesCrossing
+pub mod TypeParts
+pub mod Ways

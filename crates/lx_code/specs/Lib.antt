@@ -1,4 +1,9 @@
+pub mod Firsts
+pub mod Fits
+pub mod Parts
 pub mod Places
 pub mod Reach
+pub mod Routes
 pub mod Runnable
+pub mod Sized
 pub mod Targets

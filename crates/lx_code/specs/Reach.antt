@@ -8,7 +8,7 @@ use Rattle.lx_ir.specs.Lookup.{blocks_of}
 use Rattle.lx_model.specs.declared.program.Program.{Program}
 use Rattle.lx_model.specs.Next.{actions_of}
 use Rattle.lx_code.specs.declared.code.ActionCounts.{ActionCounts}
-pub use Rattle.lx_code_tables.specs.Sized.{is_sized, are_sized_instrs, are_sized}
+pub use Rattle.lx_code.specs.Sized.{is_sized, are_sized_instrs, are_sized}
 
 -- the types of a function's instructions are within the limits, and those of a text's functions
 abbrev pub is_sized_function : List NamedType → Function → Bool

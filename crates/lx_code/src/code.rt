@@ -23,10 +23,18 @@ pub struct ActionCounts {
 }
 
 /// The code of a program, which others may hold too. Contracts see the program.
-#[derive(Drop)]
 pub struct Code {
     names: Names,
     actions: Vec<ActionCounts>,
+}
+
+impl Drop for Code {
+    fn drop(self) {
+        let Code {
+            names: _,
+            actions: _,
+        } = self;
+    }
 }
 
 impl Model for Code {

@@ -15,11 +15,20 @@ use std::marker::Model;
 use std::sync::Arc;
 
 /// A program, with tables of what the names of its texts stand for. Contracts see the program.
-#[derive(Drop)]
 pub(crate) struct Names {
     program: Arc<Program>,
     empty: Module,
     tables: Tables,
+}
+
+impl Drop for Names {
+    fn drop(self) {
+        let Names {
+            program: _,
+            empty: _,
+            tables: _,
+        } = self;
+    }
 }
 
 impl Model for Names {

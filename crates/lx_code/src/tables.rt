@@ -14,11 +14,20 @@ use lx_words::{Items, Memory, number_of};
 use std::alloc::Global;
 
 /// What the functions of the kernel and of each module name, by their numbers there, and the addresses of globals.
-#[derive(Drop)]
 pub(crate) struct Tables {
     kernel: Items<Target>,
     modules: Items<Items<Target>>,
     addresses: IndexMap<Key, u64>,
+}
+
+impl Drop for Tables {
+    fn drop(self) {
+        let Tables {
+            kernel: _,
+            modules: _,
+            addresses: _,
+        } = self;
+    }
 }
 
 // What the functions of a text name.

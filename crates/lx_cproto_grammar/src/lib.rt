@@ -1,7 +1,14 @@
-//! Laws of interfaces that are written as prototypes.
+//! Laws of interfaces that are written as prototypes: reading and the grammar agree, a text is one interface at most or has one first
+//! fault, and what is read is lawful.
 //!
-//! Reading and the grammar agree: a text that is an interface is read as it, and what is read of a text is an interface that it is; a
-//! text is one at most, or has one first fault. What is read is lawful. Rows say which tokens are which type.
+//! ```text
+//! prototype_laws();
+//! // `SaysPrototypes text i` and `ArePrototypes text i` are the same.
+//! lawful_prototype_laws();
+//! // `SaysPrototypes text i` gives `IsLawfulInterface i`, where the text has fewer than 2 ^ 32 bytes.
+//! ```
+//!
+//! Rows say which tokens are which type.
 #![tactic(auto)]
 
 ghost use Rattle.lx_cproto_grammar.specs.Laws.{NotBoth, OneFault, OneInterface, PrototypesAreFound, PrototypesAreRead, ReadIsLawful};
@@ -21,7 +28,7 @@ pub fn prototype_laws()
 }
 
 /// Every interface that is read is lawful.
-pub fn lawful_laws()
+pub fn lawful_prototype_laws()
     ensures { ReadIsLawful }
 {
     prototype_laws();

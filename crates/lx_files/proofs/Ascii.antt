@@ -20,6 +20,7 @@ ascii_at [] h i = omega arith
 ascii_at (b ∷ bs) h zero = h.0
 ascii_at (b ∷ bs) h (suc i) = ascii_at bs h.1 i
 
+-- by a name that code can cite
 pub name_utf8 : (bs : List ℕ) → IsAscii bs → IsUtf8 bs
 name_utf8 bs h = IsUtf8-from_ascii bs h
 

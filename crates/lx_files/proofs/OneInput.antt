@@ -12,8 +12,8 @@ use Rattle.lx_script.specs.declared.case.CaseModule.{CaseModule}
 use Rattle.lx_script.specs.Case.{Case}
 use Rattle.lx_script.specs.Grammar.{SaysCase, FirstCaseFault}
 use Rattle.lx_script.specs.Schedule.{Reads as SaysSchedule, FirstScheduleFault}
-use Rattle.lx_kernel.specs.Kernel.{kernel_text}
-use Rattle.lx_kernel.specs.Interface.{interface_text}
+use Rattle.lx_generate.specs.Kernel.{kernel_text}
+use Rattle.lx_generate.specs.Interface.{interface_text}
 use Rattle.lx_ir.specs.declared.module.Module.{Module}
 use Rattle.lx_ir_calls.specs.declared.intrinsics.TextForm.TheVariants.{Program, Image}
 use Rattle.lx_ir_read.specs.Reading.{SaysModule, FirstFault}

@@ -6,8 +6,8 @@ use Rattle.lx_script.specs.Grammar.{CaseFails, FirstCaseFault}
 use Rattle.lx_script.specs.Schedule.{ScheduleFails, FirstScheduleFault}
 use Rattle.lx_ir_calls.specs.declared.intrinsics.TextForm.TheVariants.{Program, Image}
 use Rattle.lx_ir_calls.specs.declared.intrinsics.TextForm.{TextForm}
-use Rattle.lx_ir_faults.specs.declared.fault.ReadFault.{ReadFault}
-use Rattle.lx_ir_faults.specs.declared.fault.ReadFault.TheVariants as modules
+use Rattle.lx_ir_read.specs.declared.fault.ReadFault.{ReadFault}
+use Rattle.lx_ir_read.specs.declared.fault.ReadFault.TheVariants as modules
 use Rattle.lx_ir_read.specs.Reading.{ModuleFails, FirstFault}
 use Rattle.lx_annot_read.specs.declared.fault.InterfaceFault.{InterfaceFault}
 use Rattle.lx_annot_read.specs.declared.fault.InterfaceFault.TheVariants as interfaces

@@ -2,8 +2,8 @@
 use Rattle.std.specs.Prelude.{◌≡◌, ℕ, List, codes, Option, Some, None}
 use Rattle.lx_script.specs.declared.fault.CaseFault.{CaseFault}
 use Rattle.lx_script.specs.declared.fault.CaseFault.TheVariants as scripts
-use Rattle.lx_ir_faults.specs.declared.fault.ReadFault.{ReadFault}
-use Rattle.lx_ir_faults.specs.declared.fault.ReadFault.TheVariants as modules
+use Rattle.lx_ir_read.specs.declared.fault.ReadFault.{ReadFault}
+use Rattle.lx_ir_read.specs.declared.fault.ReadFault.TheVariants as modules
 use Rattle.lx_annot_read.specs.declared.fault.InterfaceFault.{InterfaceFault}
 use Rattle.lx_annot_read.specs.declared.fault.InterfaceFault.TheVariants as interfaces
 use Rattle.lx_files.specs.declared.line.FaultKind.{FaultKind}

@@ -1,8 +1,8 @@
 -- The files of a command, in their order.
 use Rattle.std.specs.Prelude.{◌≡◌, ℕ, List, [], ◌∷◌, codes, bytes_eq, position, Option, Some, None, Result}
 use Rattle.lx_outside.specs.declared.file_text.FileText.{FileText}
-use Rattle.lx_kernel.specs.Kernel.{kernel_text}
-use Rattle.lx_kernel.specs.Interface.{interface_text}
+use Rattle.lx_generate.specs.Kernel.{kernel_text}
+use Rattle.lx_generate.specs.Interface.{interface_text}
 use Rattle.lx_script.specs.declared.case.Origin.{Origin}
 use Rattle.lx_script.specs.declared.case.Origin.TheVariants as origins
 use Rattle.lx_script.specs.declared.case.CaseModule.{CaseModule}

@@ -8,7 +8,7 @@ use std::alloc::Global;
 use thiserror::Error;
 
 /// What met a fault: the reader of a text, a check of what was read, or the limit on a file's bytes.
-#[derive(Clone, Copy, Debug, PartialEq, Eq)]
+#[derive(Clone, Copy, Debug)]
 pub enum FaultKind {
     Case,
     Ir,

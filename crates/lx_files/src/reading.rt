@@ -17,7 +17,7 @@ use lx_annot::interface::Interface;
 use lx_annot_grammar::lawful_laws;
 use lx_annot_read::read_interface;
 use lx_cproto::{is_cproto, read_cproto};
-use lx_cproto_grammar::lawful_laws as lawful_prototypes;
+use lx_cproto_grammar::lawful_prototype_laws;
 use lx_ir::module::Module;
 use lx_ir_lawful::whole_laws;
 use lx_ir_read::{TextForm, read_module};
@@ -87,7 +87,7 @@ fn prototypes_of_text(alloc: Global, file: &[u8], text: &[u8]) -> Result<Interfa
     ensures reads { Reads SaysPrototypes (Tells FirstPrototypeFault (interface_line FaultKind.Cproto file.now)) text.now result }
     ensures lawful { IfOk result IsLawfulInterface }
 {
-    lawful_prototypes();
+    lawful_prototype_laws();
     match read_cproto(alloc, text) {
         Ok(interface) => Ok(interface),
         Err(fault) => Err(interface_stop(alloc, FaultKind::Cproto, file, fault)),

@@ -118,7 +118,7 @@ pub fn read_sources<S: Shelf>(
 
 /// What the files of a command come to is settled: they say one thing at most or have one first fault, and not both; and
 /// neither behind a file that is asked for and not there.
-pub fn input_laws()
+pub fn file_laws()
     ensures one { OneInput }
     ensures missing { MissingFilesEnd }
 {

@@ -17,9 +17,9 @@ use crate::reading::{
 use crate::sources::ImageFile;
 use crate::stop::{InputStop, fault_at};
 use lx_annot::interface::Interface;
+use lx_generate::{interface_text, kernel_text};
 use lx_ir::NamedTypes;
 use lx_ir::module::Module;
-use lx_kernel::{interface_text, kernel_text};
 use lx_outside::Shelf;
 use lx_script::{Case, CaseModule, Origin};
 use lx_words::{Items, Name, Schedule};

@@ -1,3 +1,4 @@
+pub mod Arriving
 pub mod Counting
 pub mod Entering
-pub mod Arriving
+mod Reversed

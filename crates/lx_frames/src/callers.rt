@@ -9,10 +9,18 @@ use std::marker::Model;
 
 /// The frames below the top one, and how many of them run a function. Contracts see the frames, the newest first, and the room
 /// for more.
-#[derive(Drop)]
 pub struct Callers {
     frames: Vec<Frame>,
     running: usize,
+}
+
+impl Drop for Callers {
+    fn drop(self) {
+        let Callers {
+            frames: _,
+            running: _,
+        } = self;
+    }
 }
 
 impl Model for Callers {

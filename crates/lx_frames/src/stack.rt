@@ -8,6 +8,7 @@ ghost use Rattle.lx_model.specs.Program.{same_result};
 mod entries;
 mod room;
 
+use crate::Shadow;
 use crate::callers::{Callers, high_of};
 use crate::frame::Frame;
 pub use entries::Entry;
@@ -15,7 +16,6 @@ use lx_caps::stack_start;
 use lx_image_code::{Code, Line};
 use lx_image_steps::{Activation, call_result, returned};
 use lx_model::request::Way;
-use lx_shadow::Shadow;
 use lx_words::{Memory, Width, Word};
 use std::alloc::Global;
 
@@ -24,13 +24,24 @@ const MOST_RUNNING: usize = 256;
 
 /// The frames of a thread: the one on top, those below it, and the principals of the wrappers among them, with room for the
 /// registers of a function that may be entered.
-#[derive(Drop)]
 pub struct FrameStack {
     alloc: Global,
     pub top: Option<Frame>,
     pub below: Callers,
     pub shadow: Shadow,
     registers: Vec<Word>,
+}
+
+impl Drop for FrameStack {
+    fn drop(self) {
+        let FrameStack {
+            alloc: _,
+            top: _,
+            below: _,
+            shadow: _,
+            registers: _,
+        } = self;
+    }
 }
 
 // Whether two results are of one width, or both are none.

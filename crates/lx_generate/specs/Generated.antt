@@ -1,7 +1,7 @@
 -- The texts of a generated case.
 use Rattle.std.specs.Prelude.{ℕ, ◌+◌, ◌*◌, ◌%◌, ◌==◌, List, [], ◌∷◌, ◌++◌, codes, flat_map, if◌then◌else◌}
 use Rattle.std.specs.List.{range_with_len}
-use Rattle.lx_kernel.specs.Lines.{text_of}
+use Rattle.lx_generate.specs.Lines.{text_of}
 use Rattle.lx_words.specs.Text.{decimal_text}
 
 -- the module's text: `work` uses a block of its own, and `stray` stores where the kernel's globals stand

@@ -1,1 +1,4 @@
 pub mod Generated
+pub mod Interface
+pub mod Kernel
+pub mod Lines

@@ -28,7 +28,7 @@ ret i64 %n
 ";
 
 /// The texts of a generated case.
-#[derive(Debug, Drop)]
+#[derive(Drop)]
 pub struct Generated {
     /// The case: it names its module's file `gen.ll`.
     pub case: Vec<u8>,
@@ -72,8 +72,7 @@ fn put_number(case: &mut Vec<u8>, number: u64) -> Result<(), Memory>
     ensures { OnOk result (case.new.items ≡ case.old.items ++ number_words number) }
 {
     case.extend_from_slice(b" ")?;
-    put_decimal(case, i128::from(number))?;
-    Ok(())
+    put_decimal(case, i128::from(number))
 }
 
 /// Adds the line of call `j` of `n`.

@@ -4,6 +4,8 @@ use Rattle.std.specs.Prelude.{bytes_eq, flat_map, option_map, slice_get}
 use Rattle.std.specs.Option.{option_or}
 use Rattle.std.proofs.lemmas.List.{drop_all, length-append}
 use Rattle.std.proofs.lemmas.Bool.Decides.{nat_tests}
+use Rattle.lx_words.proofs.Tests.{and_false, one_first, more_onto, zero_more}
+use Rattle.lx_words.proofs.Options.{option_or_assoc}
 use Rattle.lx_ir.specs.Lawful.{same_scalar}
 use Rattle.lx_ir.specs.declared.module.Block.{Block}
 use Rattle.lx_ir.specs.declared.module.Parameter.{Parameter}
@@ -12,10 +14,6 @@ use Rattle.lx_ir.specs.declared.instr.Instr.{Instr}
 use Rattle.lx_image_texts.specs.ImageFaults.{different_from, same_argument, same_arguments, same_line, same_names, same_params, wrapper_fault}
 use Rattle.lx_image_check.specs.Compared.{line_fault, lines_fault}
 use Rattle.lx_image_check.proofs.Passes.{rest_at}
-
-and_false : (b : Bool) → (b && false) ≡ false
-and_false true = refl
-and_false false = refl
 
 -- arguments
 
@@ -142,38 +140,25 @@ at_place name place (suc p) [] i is = refl
 at_place name place zero (w ∷ ws) i is = step_if (same_line w.op i.op) name place w i ws is refl
 at_place name place (suc p) (w ∷ ws) i is = at_place name place p ws i is
 
-one_more : (n : ℕ) → suc n ≡ 1 + n
-one_more n = omega arith
-
 pub lines_step : (name : List ℕ) (place : ℕ) (ws is : List Instr) (k : ℕ) (i : Instr) → k < length is → i ≡ get_or is k i
     → lines_fault name place (drop place ws) (drop k is) ≡ option_or (line_fault name place (slice_get ws place) i) (lines_fault name (1 + place) (drop (1 + place) ws) (drop (k + 1) is))
 lines_step name place ws is k i h e =
     ap (lines_fault name place (drop place ws)) (rest_at is k i h e)
     ∙ at_place name place place ws i (drop (k + 1) is)
-    ∙ ap (λ (n : ℕ). option_or (line_fault name place (slice_get ws place) i) (lines_fault name n (drop n ws) (drop (k + 1) is))) (one_more place)
+    ∙ ap (λ (n : ℕ). option_or (line_fault name place (slice_get ws place) i) (lines_fault name n (drop n ws) (drop (k + 1) is))) (one_first place)
 
 pub lines_end : (name : List ℕ) (place : ℕ) (ws is : List Instr) (k : ℕ) → length is ≤ k → lines_fault name place ws (drop k is) ≡ None
 lines_end name place ws is k h = ap (lines_fault name place ws) (drop_all k is h)
 
-or_assoc : {B : Type 0} (x y z : Option B) → option_or x (option_or y z) ≡ option_or (option_or x y) z
-or_assoc None y z = refl
-or_assoc (Some b) y z = refl
-
-past_one : (n place : ℕ) → n + suc place ≡ suc n + place
-past_one n place = omega arith
-
-nothing_past : (place : ℕ) → place ≡ 0 + place
-nothing_past place = omega arith
-
 joined : (name : List ℕ) (place : ℕ) (ws is rest : List Instr)
     → lines_fault name place (drop place ws) (is ++ rest) ≡ option_or (lines_fault name place (drop place ws) is) (lines_fault name (length is + place) (drop (length is + place) ws) rest)
-joined name place ws [] rest = ap (λ (n : ℕ). lines_fault name n (drop n ws) rest) (nothing_past place)
+joined name place ws [] rest = ap (λ (n : ℕ). lines_fault name n (drop n ws) rest) (zero_more place)
 joined name place ws (i ∷ is) rest =
     let first = line_fault name place (slice_get ws place) i in
     at_place name place place ws i (is ++ rest)
     ∙ ap (option_or first) (joined name (suc place) ws is rest)
-    ∙ ap (λ (n : ℕ). option_or first (option_or (lines_fault name (suc place) (drop (suc place) ws) is) (lines_fault name n (drop n ws) rest))) (past_one (length is) place)
-    ∙ or_assoc first (lines_fault name (suc place) (drop (suc place) ws) is) (lines_fault name (suc (length is) + place) (drop (suc (length is) + place) ws) rest)
+    ∙ ap (λ (n : ℕ). option_or first (option_or (lines_fault name (suc place) (drop (suc place) ws) is) (lines_fault name n (drop n ws) rest))) (more_onto (length is) place)
+    ∙ option_or_assoc first (lines_fault name (suc place) (drop (suc place) ws) is) (lines_fault name (suc (length is) + place) (drop (suc (length is) + place) ws) rest)
     ∙ ap (λ x. option_or x (lines_fault name (suc (length is) + place) (drop (suc (length is) + place) ws) rest)) (sym (at_place name place place ws i is))
 
 pub blocks_step : (name : List ℕ) (place : ℕ) (ws : List Instr) (bs : List Block) (k : ℕ) (b : Block) → k < length bs → b ≡ get_or bs k b

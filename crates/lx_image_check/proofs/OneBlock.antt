@@ -1,11 +1,12 @@
 -- A wrapper as it ought to be, beside a function.
-use Rattle.std.proofs.Common.{◌≡◌, ◌∙◌, ℕ, Bool, true, false, cond, Option, Some, None, List, [], ◌∷◌, ◌++◌, suc, refl, sym, ap, arith}
+use Rattle.std.proofs.Common.{◌≡◌, ◌∙◌, ℕ, Bool, true, false, Option, Some, None, List, [], ◌∷◌, suc, refl, sym, ap, arith}
 use Rattle.std.specs.Prelude.{filter, filter_map, flat_map, option_map, slice_get}
 use Rattle.std.specs.Option.{option_or}
 use Rattle.std.specs.List.{list_all, cons_option}
 use Rattle.std.proofs.lemmas.List.{append-nil}
-use Rattle.std.proofs.lemmas.Bool.{and_parts, and_from}
+use Rattle.std.proofs.lemmas.Bool.{and_from}
 use Rattle.std.proofs.lemmas.Bool.Decides.{nat_tests}
+use Rattle.lx_words.proofs.Lists.{all_joined, all_filter}
 use Rattle.lx_ir.specs.Lookup.{blocks_of, blocks_of_option, instrs_of}
 use Rattle.lx_ir.specs.declared.module.Block.{Block}
 use Rattle.lx_ir.specs.declared.module.Function.{Function}
@@ -45,29 +46,13 @@ one_none w h e = none_of w.blocks h e
 
 -- each wrapper is one block
 
-all_join : {A : Type 0} (p : A → Bool) (xs ys : List A) → list_all p xs ≡ true → list_all p ys ≡ true → list_all p (xs ++ ys) ≡ true
-all_join p [] ys h g = g
-all_join p (x ∷ xs) ys h g =
-    let a = and_parts (p x) (list_all p xs) h in
-    and_from (p x) (list_all p (xs ++ ys)) a.0 (all_join p xs ys a.1 g)
-
-filter_if : {A : Type 0} (p q : A → Bool) (b : Bool) (x : A) (xs : List A) → p x ≡ true → list_all p (filter q xs) ≡ true → list_all p (cond b (x ∷ filter q xs) (filter q xs)) ≡ true
-filter_if p q true x xs h g = and_from (p x) (list_all p (filter q xs)) h g
-filter_if p q false x xs h g = g
-
-all_filter : {A : Type 0} (p q : A → Bool) (xs : List A) → list_all p xs ≡ true → list_all p (filter q xs) ≡ true
-all_filter p q [] h = refl
-all_filter p q (x ∷ xs) h =
-    let a = and_parts (p x) (list_all p xs) h in
-    filter_if p q (q x) x xs a.0 (all_filter p q xs a.1)
-
 out_one : (b : Bool) (i : Interface) (n : ℕ) (f : Function) → list_all has_one_block (out_if b i n f) ≡ true
 out_one true i n f = refl
 out_one false i n f = refl
 
 out_ones : (i : Interface) (n : ℕ) (fs : List Function) → list_all has_one_block (out_wrappers i n fs) ≡ true
 out_ones i n [] = refl
-out_ones i n (f ∷ fs) = all_join has_one_block (out_if (is_wrapped f) i n f) (out_wrappers i (suc n) fs) (out_one (is_wrapped f) i n f) (out_ones i (suc n) fs)
+out_ones i n (f ∷ fs) = all_joined has_one_block (out_if (is_wrapped f) i n f) (out_wrappers i (suc n) fs) (out_one (is_wrapped f) i n f) (out_ones i (suc n) fs)
 
 in_one : (i : Interface) (k : Marked) (o : Option Function) (ws : List Function) → list_all has_one_block ws ≡ true → list_all has_one_block (cons_option (option_map (λ f. wrapper_of f k.function (slot_annotation i k.slot) In) o) ws) ≡ true
 in_one i k None ws h = h
@@ -78,4 +63,4 @@ in_ones i m [] = refl
 in_ones i m (k ∷ ks) = in_one i k (slice_get m.functions k.function) (filter_map (in_wrapper i m) ks) (in_ones i m ks)
 
 pub one_blocks : (i : Interface) (m : Module) → list_all has_one_block (filter not_own (wrappers_of i m)) ≡ true
-one_blocks i m = all_filter has_one_block not_own (wrappers_of i m) (all_join has_one_block (out_wrappers i 0 m.functions) (in_wrappers i m) (out_ones i 0 m.functions) (in_ones i m (annotated_of i m)))
+one_blocks i m = all_filter has_one_block not_own (wrappers_of i m) (all_joined has_one_block (out_wrappers i 0 m.functions) (in_wrappers i m) (out_ones i 0 m.functions) (in_ones i m (annotated_of i m)))

@@ -17,9 +17,14 @@ use std::alloc::Global;
 use std::marker::Model;
 
 /// An image that was checked: some program has it. Only `check` makes one. Contracts see the image.
-#[derive(Drop)]
 pub struct Checked {
     image: Verified,
+}
+
+impl Drop for Checked {
+    fn drop(self) {
+        let Checked { image: _ } = self;
+    }
 }
 
 impl Model for Checked {
@@ -52,7 +57,8 @@ impl Checked {
         ensures whole { result ≡ self }
         ensures accepted { IsAccepted result }
     {
-        self.image
+        let Checked { image } = self;
+        image
     }
 }
 

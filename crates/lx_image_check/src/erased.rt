@@ -151,7 +151,7 @@ fn push_block(
     Ok(())
 }
 
-#[tactic(auto, using(crate::proofs::Copying::map_step, crate::proofs::Copying::map_end))]
+#[tactic(auto, using(lx_words::proofs::Lists::map_step, lx_words::proofs::Lists::map_end))]
 fn push_blocks(
     alloc: Global,
     list: &mut Items<Block>,

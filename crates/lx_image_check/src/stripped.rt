@@ -123,7 +123,7 @@ fn push_without(alloc: Global, list: &mut Items<Function>, f: &Function) -> Resu
     Ok(())
 }
 
-#[tactic(auto, using(crate::proofs::Copying::map_step, crate::proofs::Copying::map_end))]
+#[tactic(auto, using(lx_words::proofs::Lists::map_step, lx_words::proofs::Lists::map_end))]
 fn push_all_without(
     alloc: Global,
     list: &mut Items<Function>,

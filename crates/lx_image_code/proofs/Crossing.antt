@@ -4,7 +4,7 @@ use Rattle.std.proofs.Crossing.{crosses}
 use Rattle.lx_ir.proofs.Crossing.{function_sync, module_field_sync}
 use Rattle.lx_ir_verify.specs.contracts.verified.Verified as Verified
 use Rattle.lx_code.proofs.Crossing.{code_field as program_code_field}
-use Rattle.lx_code_tables.proofs.Crossing.{tables_sync as jumps_sync}
+use Rattle.lx_code.proofs.TablesCrossing.{tables_sync as jumps_sync}
 use Rattle.lx_image_code.specs.contracts.wrappers.Wrapper as Wrapper
 use Rattle.lx_image_code.specs.contracts.tables.Tables as Tables
 use Rattle.lx_image_code.specs.contracts.code.Code as Code

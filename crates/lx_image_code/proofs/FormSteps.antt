@@ -1,5 +1,5 @@
 -- The form of wrappers, line by line.
-use Rattle.std.proofs.Common.{◌≡◌, ◌∙◌, refl, sym, ap, ℕ, zero, suc, ◌+◌, ◌<◌, ◌≤◌, Bool, true, false, not, cond, ◌&&◌, ◌||◌, Option, Some, None, List, [], ◌∷◌, drop, length, get_or, arith}
+use Rattle.std.proofs.Common.{◌≡◌, ◌∙◌, refl, sym, ap, ℕ, suc, ◌+◌, ◌<◌, ◌≤◌, Bool, true, false, not, cond, ◌&&◌, ◌||◌, Option, Some, None, List, [], ◌∷◌, drop, length, get_or, arith}
 use Rattle.std.specs.Prelude.{option_and_then, option_map, find, position, slice_get}
 use Rattle.std.specs.List.{list_all, list_any}
 use Rattle.std.proofs.Math.Seq.{drop-cons}
@@ -12,10 +12,12 @@ use Rattle.lx_ir.specs.declared.instr.Instr.{Instr}
 use Rattle.lx_ir.specs.declared.instr.Op.{Op}
 use Rattle.lx_ir.specs.declared.instr.Op.TheVariants as op
 use Rattle.lx_ir.specs.declared.types.Scalar.{Scalar}
-use Rattle.lx_code_tables.proofs.Ways.{drop_next}
+use Rattle.lx_code.proofs.Ways.{drop_next}
 use Rattle.lx_name_tables.proofs.Firsts.{found_at, is_within, not_there}
 use Rattle.lx_images.specs.WrapperForm.{calls_on, first_unformed, hands_on, has_formed_wrappers, have_formed_wrappers, is_before, is_behind, is_formed, is_function, is_register, is_wrapper, unformed_in}
 use Rattle.lx_image_code.specs.Form.{is_ret, ops_of}
+use Rattle.lx_model.proofs.Items.{there}
+use Rattle.lx_model.proofs.Tests.{is_both}
 
 never : (b : Bool) → false ≡ (b && false)
 never true = refl
@@ -130,11 +132,6 @@ wrapper_first xs x s j many h e is = sym (ap (is_wrapper j many) (ops_left xs 0 
 
 -- the first of images
 
-there : {A : Type 0} (xs : List A) (k : ℕ) → k < length xs → (x : A) × (slice_get xs k ≡ Some x)
-there [] k h = absurd (omega (arith, h))
-there (x ∷ xs) zero h = (x, refl)
-there (x ∷ xs) (suc k) h = there xs k (omega (arith, h))
-
 found_by : {A : Type 0} (t : A → Bool) (y x : A) (rest : Option A) (b : Bool) → t y ≡ b → (rest ≡ Some x → t x ≡ true) → cond b (Some y) rest ≡ Some x → t x ≡ true
 found_by t y x rest true is later found = let same : y ≡ x = cc in sym (ap t same) ∙ is
 found_by t y x rest false is later found = later found
@@ -153,10 +150,6 @@ fails_by t (y ∷ ys) e = none_failed (t y) (list_any (λ x. not (t x)) ys) (lis
 
 none_fails : {A : Type 0} (t : A → Bool) (xs : List A) → position (λ x. not (t x)) xs ≡ None → list_all t xs ≡ true
 none_fails t xs none = fails_by t xs (sym (not_there (λ x. not (t x)) xs none))
-
-is_both : {A : Type 0} (b : Bool) → b ≡ true → not b ≡ true → A
-is_both true e f = absurd (cc)
-is_both false e f = absurd (cc)
 
 no_map : {A B : Type 0} (f : A → B) (o : Option A) → option_map f o ≡ None → o ≡ None
 no_map f None e = refl

@@ -1,10 +1,10 @@
 -- What tables find, in the blocks that run.
-use Rattle.std.proofs.Common.{◌≡◌, ◌∙◌, refl, sym, ap, subst, ℕ, zero, suc, ◌+◌, ◌<◌, true, false, not, cond, Option, Some, None, List, [], ◌∷◌, length, map, get_or, nat_eq, nat_lt, arith}
+use Rattle.std.proofs.Common.{◌≡◌, ◌∙◌, refl, sym, ap, subst, ℕ, zero, suc, ◌+◌, ◌<◌, true, not, cond, Option, Some, None, List, [], ◌∷◌, length, map, get_or, nat_eq, nat_lt, arith}
 use Rattle.std.specs.Prelude.{IfSome, bytes_eq, position, slice_get}
 use Rattle.std.specs.Borrow.{Bor}
 use Rattle.std.specs.List.{list_all, position_or_len}
 use Rattle.std.proofs.lemmas.Bool.{and_parts}
-use Rattle.std.proofs.lemmas.Option.{slice_get-get_or, slice_get-map}
+use Rattle.std.proofs.lemmas.Option.{slice_get-get_or, slice_get-map, slice_get_past}
 use Rattle.lx_words.specs.Word.{signed}
 use Rattle.lx_ir.specs.declared.instr.Argument.{Argument}
 use Rattle.lx_ir.specs.declared.instr.Edge.{Edge}
@@ -26,14 +26,15 @@ use Rattle.lx_model.specs.Program.{home_or_kernel}
 use Rattle.lx_model.specs.Thread.{Activation, CodeBlock, code_block_of, routine_or_none}
 use Rattle.lx_model.specs.Effect.{bits, indices_of, operand}
 use Rattle.lx_images.specs.Image.{Code, image_of_entry, image_function, image_routine}
-use Rattle.lx_code_tables.specs.declared.tables.CodeTables.{CodeTables}
-use Rattle.lx_code_tables.specs.Firsts.{Numbers, is_case, is_constant, is_fixed, is_from, is_named, is_number, number_of}
-use Rattle.lx_code_tables.specs.Fits.{AreTablesOf, op_at as op_in}
-use Rattle.lx_code_tables.specs.Routes.{word_of, AreIndices, IsIndex, IsRoute}
-use Rattle.lx_code_tables.specs.declared.routes.Room.{Room}
-use Rattle.lx_code_tables.specs.declared.routes.Route.{Route}
+use Rattle.lx_code.specs.declared.code_tables.CodeTables.{CodeTables}
+use Rattle.lx_code.specs.Firsts.{Numbers, is_case, is_constant, is_fixed, is_from, is_named, is_number, number_of}
+use Rattle.lx_code.specs.Fits.{AreTablesOf, op_at as op_in}
+use Rattle.lx_code.specs.Routes.{word_of, AreIndices, IsIndex, IsRoute}
+use Rattle.lx_code.specs.declared.routes.Room.{Room}
+use Rattle.lx_code.specs.declared.routes.Route.{Route}
 use Rattle.lx_image_code.specs.Jumps.{blocks_or_none, home_in_entry, image_blocks, numbers_at, op_at, text_of_entry, types_in, IsCaseAt, IsEdgeAt, IsRoomAt, IsRouteAt}
-use Rattle.lx_image_code.proofs.Filled.{none_past, past}
+use Rattle.lx_model.proofs.Tests.{false_true}
+use Rattle.lx_model.proofs.Items.{none_past}
 
 -- the blocks that run
 
@@ -73,7 +74,7 @@ pub no_block : (c : Code) (n : ℕ) (label : List ℕ) (tables : List CodeTables
     → None ≡ position (λ (b : CodeBlock). bytes_eq b.label label) (image_routine c n).blocks
 no_block c n label tables count none =
     let far = none_past tables n none in
-    let nothing : slice_get c.program.functions n ≡ None = past c.program.functions n (omega (arith, far, count)) in
+    let nothing : slice_get c.program.functions n ≡ None = slice_get_past c.program.functions n (omega (arith, far, count)) in
     sym (ap (λ (e : Option ProgramFunction). position (λ (b : CodeBlock). bytes_eq b.label label) (routine_or_none (image_of_entry c e)).blocks) nothing)
 
 -- the instruction at a place
@@ -88,15 +89,12 @@ op_is c n b k o at = sym (op_of_blocks (image_blocks c n) b k) ∙ ap (λ bs. op
 
 -- the first case of a number
 
-no_number : {A : Type 0} → false ≡ true → A
-no_number e = absurd (cc)
-
 module _ (p : Program) (a : Activation) (f n : ℕ) (runs : a.function ≡ f) where
   abbrev numbers : Numbers
   numbers = numbers_at p (home_or_kernel p f)
 
   by_value : (v : Value) → is_constant v ≡ true → is_number (number_of numbers v) n ≡ nat_eq (bits p a v) n
-  by_value (value.Register r) e = no_number e
+  by_value (value.Register r) e = false_true e
   by_value (value.Constant c) e = ap (λ (k : ℕ). nat_eq (numbers_at p (home_or_kernel p k) c) n) (sym runs)
 
   same_cases : (cases : List SwitchCase) → list_all is_fixed cases ≡ true → position_or_len (is_case numbers n) cases ≡ position_or_len (λ c. nat_eq (bits p a c.value) n) cases

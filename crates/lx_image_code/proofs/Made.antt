@@ -1,7 +1,7 @@
 -- The wrappers that are made for the kernel's functions.
 use Rattle.std.proofs.Common.{◌≡◌, ◌∙◌, refl, sym, ap, subst, ℕ, ◌<◌, ◌≤◌, Option, Some, None, List, [], ◌∷◌, ◌++◌, get_or, length, map, arith}
 use Rattle.std.specs.Prelude.{bytes_eq, find, option_map, position, slice_get}
-use Rattle.std.proofs.lemmas.Option.{slice_get_read}
+use Rattle.std.proofs.lemmas.Option.{slice_get_read, slice_get_past}
 use Rattle.lx_ir.specs.declared.instr.Op.{Op}
 use Rattle.lx_ir.specs.declared.module.Function.{Function}
 use Rattle.lx_annot.specs.declared.action.Annotation.{Annotation}
@@ -13,7 +13,8 @@ use Rattle.lx_images.specs.Wrappers.{lines_of}
 use Rattle.lx_image_code.specs.Wrappers.{AreKernelWrappers, kernel_wrapper, lines_in_kernel}
 use Rattle.lx_name_tables.specs.Places.{is_export}
 use Rattle.lx_name_tables.proofs.Firsts.{found_at, not_found}
-use Rattle.lx_image_code.proofs.Filled.{Each, each_more, none_past, past}
+use Rattle.lx_image_code.proofs.Filled.{Each, each_more}
+use Rattle.lx_model.proofs.Items.{none_past}
 
 -- annotations by names
 
@@ -41,7 +42,7 @@ made_more i gs n g old new h e count each is =
 
 by_place : (i : Interface) (gs made : List Function) (k : ℕ) (found : Option Function) → length gs ≤ length made → Each (IsMade i gs) made → slice_get made k ≡ found
     → found ≡ option_map (kernel_wrapper i k) (slice_get gs k)
-by_place i gs made k None h each at = sym (ap (option_map (kernel_wrapper i k)) (past gs k (let far = none_past made k at in omega (arith, far, h))))
+by_place i gs made k None h each at = sym (ap (option_map (kernel_wrapper i k)) (slice_get_past gs k (let far = none_past made k at in omega (arith, far, h))))
 by_place i gs made k (Some w) h each at = each k w at
 
 -- the wrappers of all functions

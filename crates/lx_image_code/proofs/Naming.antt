@@ -1,9 +1,9 @@
 -- The wrappers that images have for their functions, by names.
-use Rattle.std.proofs.Common.{◌≡◌, ◌∙◌, refl, sym, ap, ℕ, zero, suc, ◌<◌, Bool, true, false, ◌&&◌, cond, Option, Some, None, List, [], ◌∷◌, length, get_or, arith}
+use Rattle.std.proofs.Common.{◌≡◌, ◌∙◌, refl, sym, ap, ℕ, ◌<◌, Bool, true, false, ◌&&◌, cond, Option, Some, None, List, [], ◌∷◌, length, get_or, arith}
 use Rattle.std.specs.Prelude.{bytes_eq, find, is_some, option_and_then, position, slice_get}
 use Rattle.std.specs.List.{list_all}
 use Rattle.std.proofs.lemmas.Bool.{and_parts}
-use Rattle.std.proofs.lemmas.Option.{slice_get-get_or}
+use Rattle.std.proofs.lemmas.Option.{slice_get-get_or, slice_get_past}
 use Rattle.std.proofs.lemmas.Slice.Eq.{bytes_eq-Decides}
 use Rattle.lx_ir.specs.declared.module.Block.{Block}
 use Rattle.lx_ir.specs.declared.module.Function.{Function}
@@ -17,9 +17,9 @@ use Rattle.lx_images.specs.Wrappers.{in_lines, in_lines_of, in_named, lines_of, 
 use Rattle.lx_images.specs.WrapperForm.{first_named, has_formed_wrappers, is_formed, is_formed_as, is_formed_by, is_one_block, wraps_named}
 use Rattle.lx_image_code.specs.declared.wrappers.Wrapper.{Wrapper}
 use Rattle.lx_image_code.specs.Wrappers.{wrapper_lines, HasEntered}
-use Rattle.lx_image_code.proofs.Filled.{none_past, past}
 use Rattle.lx_name_tables.specs.Places.{defines}
 use Rattle.lx_name_tables.proofs.Firsts.{found_at, is_within, not_found}
+use Rattle.lx_model.proofs.Items.{there, none_past}
 
 -- a function with the name of a wrapper is defined, where it has the form of one
 
@@ -52,11 +52,6 @@ same_found x name (f ∷ fs) formed =
     let rest = same_found x name fs both.1 in
     λ j. cond (test j) (Some f) (rest j)
 
-there : {A : Type 0} (xs : List A) (k : ℕ) → k < length xs → (x : A) × (slice_get xs k ≡ Some x)
-there [] k h = absurd (omega (arith, h))
-there (x ∷ xs) zero h = (x, refl)
-there (x ∷ xs) (suc k) h = there xs k (omega (arith, h))
-
 found_lines : (x : Module) (name : List ℕ) (k : ℕ) → has_formed_wrappers x ≡ true → position (defines (wrapper_name In name)) x.functions ≡ Some k
     → lines_of (slice_get x.functions k) ≡ lines_or_plain (in_named name x.functions)
 found_lines x name k formed first =
@@ -88,5 +83,5 @@ entered_here c xs n d w is below lines =
 pub not_entered : (c : Code) (entered : List Wrapper) (n : ℕ) → HasEntered c entered → None ≡ slice_get entered n → plain_lines ≡ in_lines c n
 not_entered c entered n has none =
     let far = none_past entered n (sym none) in
-    let nothing : slice_get c.program.functions n ≡ None = past c.program.functions n (omega (arith, far, has.count)) in
+    let nothing : slice_get c.program.functions n ≡ None = slice_get_past c.program.functions n (omega (arith, far, has.count)) in
     sym (ap (λ (e : Option ProgramFunction). in_lines_of c e (function_of_entry c.program e)) nothing)

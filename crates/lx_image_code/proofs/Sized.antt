@@ -8,7 +8,7 @@ use Rattle.lx_model.specs.declared.program.ProgramFunction.{ProgramFunction}
 use Rattle.lx_model.specs.declared.program.ProgramFunction.TheVariants.{Native, Of}
 use Rattle.lx_model.specs.Program.{module_of}
 use Rattle.lx_images.specs.Image.{Code, image_of_entry}
-use Rattle.lx_code_tables.proofs.Sized.{all_at}
+use Rattle.lx_code.proofs.Sized.{all_at}
 use Rattle.lx_code.specs.Reach.{IsWithinReach, are_sized, is_sized_function}
 use Rattle.lx_image_code.specs.Jumps.{blocks_or_none, text_of_entry}
 use Rattle.lx_image_code.specs.Reach.{AreSized, AreWithinReach}

@@ -20,12 +20,12 @@ use Rattle.lx_model.specs.Program.{Home, constant_word, home_of_entry, home_or_k
 use Rattle.lx_model.specs.Thread.{Activation, CodeBlock}
 use Rattle.lx_model.specs.Effect.{bits, indices_of}
 use Rattle.lx_images.specs.Image.{Code, image_function}
-use Rattle.lx_code_tables.specs.declared.tables.CodeTables.{CodeTables}
-use Rattle.lx_code_tables.specs.declared.routes.Room.{Room}
-use Rattle.lx_code_tables.specs.declared.routes.Route.{Route}
-use Rattle.lx_code_tables.specs.Fits.{AreTablesOf}
-use Rattle.lx_code_tables.specs.Routes.{route_offset}
-use Rattle.lx_code_tables.specs.Firsts.{Numbers}
+use Rattle.lx_code.specs.declared.code_tables.CodeTables.{CodeTables}
+use Rattle.lx_code.specs.declared.routes.Room.{Room}
+use Rattle.lx_code.specs.declared.routes.Route.{Route}
+use Rattle.lx_code.specs.Fits.{AreTablesOf}
+use Rattle.lx_code.specs.Routes.{route_offset}
+use Rattle.lx_code.specs.Firsts.{Numbers}
 
 -- the blocks of a function; none, where there is no function
 abbrev pub blocks_or_none : Option Function → List Block

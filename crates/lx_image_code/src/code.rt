@@ -21,8 +21,7 @@ use crate::jumps::{first_block, first_case, first_edge, room_at, route_at};
 use crate::line::Line;
 use crate::tables::{Tables, tables_of};
 use crate::wrappers::{Wrapper, line_at};
-use lx_code::{ActionCounts, Code as ProgramCode};
-use lx_code_tables::{Room, Route};
+use lx_code::{ActionCounts, Code as ProgramCode, Room, Route};
 use lx_ir::module::{Block, Function};
 use lx_ir_uses::blocks_of;
 use lx_ir_verify::Verified;
@@ -34,11 +33,20 @@ use std::sync::Arc;
 
 /// The code of a program and of the images of its modules, one for each, in the modules' order. Contracts see the program and
 /// the images.
-#[derive(Drop)]
 pub struct Code {
     program: ProgramCode,
     images: Vec<Verified>,
     tables: Tables,
+}
+
+impl Drop for Code {
+    fn drop(self) {
+        let Code {
+            program: _,
+            images: _,
+            tables: _,
+        } = self;
+    }
 }
 
 impl Model for Code {

@@ -1,6 +1,6 @@
 //! The tables of the functions that run: where their jumps go, and how their types are laid out.
 ghost use Rattle.std.specs.Prelude.{◌≡◌, Some, bytes_eq, option_copied, position, slice_get, IfOk, IfSome};
-ghost use Rattle.lx_code_tables.specs.Fits.{AreTablesOf};
+ghost use Rattle.lx_code.specs.Fits.{AreTablesOf};
 ghost use Rattle.lx_model.specs.Program.{module_of};
 ghost use Rattle.lx_images.specs.Image.{Code, image_of_entry, image_routine};
 ghost use Rattle.lx_image_code.specs.Jumps.{blocks_or_none, home_in_entry, numbers_at, op_at, text_of_entry, HasJumps, IsCaseAt, IsEdgeAt, IsRoomAt, IsRouteAt};
@@ -8,8 +8,7 @@ ghost use Rattle.lx_image_code.specs.Reach.{AreWithinReach};
 ghost use Rattle.lx_image_code.specs.Code.{code_of};
 
 use crate::functions::{function_named, home_named};
-use lx_code::{Code as ProgramCode, constant_of};
-use lx_code_tables::{CodeTables, PlacedText, Room, Route};
+use lx_code::{Code as ProgramCode, CodeTables, PlacedText, Room, Route, constant_of};
 use lx_ir::module::{Block, Constant, Module};
 use lx_ir_uses::blocks_of;
 use lx_ir_verify::Verified;

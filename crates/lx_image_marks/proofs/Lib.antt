@@ -1,5 +1,4 @@
 pub mod Passes
-pub mod Joined
 pub mod Firsts
 pub mod Fitting
 pub mod Callable

@@ -1,8 +1,10 @@
 -- Passes that refuse for the first fault of a list.
-use Rattle.std.proofs.Common.{◌≡◌, ℕ, suc, ◌+◌, ◌<◌, ◌≤◌, Option, Some, None, List, ◌∷◌, length, get_or, drop, ap, sym, ◌∙◌, arith}
+use Rattle.std.proofs.Common.{◌≡◌, ℕ, ◌+◌, ◌<◌, ◌≤◌, Option, Some, None, List, ◌∷◌, length, get_or, drop, ap, sym, ◌∙◌}
 use Rattle.std.specs.Prelude.{option_map}
 use Rattle.std.specs.Option.{option_or}
 use Rattle.std.proofs.lemmas.List.{drop_more, drop_all}
+use Rattle.lx_words.proofs.Options.{or_some}
+use Rattle.lx_words.proofs.Tests.{one_first}
 use Rattle.lx_ir.specs.declared.module.Block.{Block}
 use Rattle.lx_ir.specs.declared.module.Function.{Function}
 use Rattle.lx_ir.specs.declared.module.Module.{Module}
@@ -24,22 +26,16 @@ first_step f xs i x h e = ap (first_some f) (rest_at xs i x h e)
 pub first_end : {A B : Type 0} (f : A → Option B) (xs : List A) (i : ℕ) → length xs ≤ i → first_some f (drop i xs) ≡ None
 first_end f xs i h = ap (first_some f) (drop_all i xs h)
 
-or_some : {B : Type 0} (x rest y : Option B) (b : B) → y ≡ option_or x rest → x ≡ Some b → y ≡ Some b
-or_some x rest y b e h = e ∙ ap (λ z. option_or z rest) h
-
 -- a fault that comes first is the answer
 pub first_answer : (x rest y : Option ImageFault) (e : Refusal) → y ≡ option_or x rest → IsAnswer x e → IsAnswer y e
 first_answer x rest y (refusal.Fault f) p h = or_some x rest y _ p h
 first_answer x rest y refusal.Memory p h = tt
 
-one_more : (n : ℕ) → suc n ≡ 1 + n
-one_more n = omega arith
-
 pub block_step : (m : Module) (f : Function) (place : ℕ) (before next : Option Op) (xs : List Instr) (k : ℕ) (x : Instr) → k < length xs → x ≡ get_or xs k x → next ≡ first_op (drop (k + 1) xs)
     → fault_in_block m f place before (drop k xs) ≡ option_or (option_map (fault_at f place x) (kind_at m f before x.op next)) (fault_in_block m f (1 + place) (Some x.op) (drop (k + 1) xs))
 block_step m f place before next xs k x h e n =
     ap (fault_in_block m f place before) (rest_at xs k x h e)
-    ∙ (λ j. option_or (option_map (fault_at f place x) (kind_at m f before x.op (sym n j))) (fault_in_block m f (one_more place j) (Some x.op) (drop (k + 1) xs)))
+    ∙ (λ j. option_or (option_map (fault_at f place x) (kind_at m f before x.op (sym n j))) (fault_in_block m f (one_first place j) (Some x.op) (drop (k + 1) xs)))
 
 pub block_end : (m : Module) (f : Function) (place : ℕ) (before : Option Op) (xs : List Instr) (k : ℕ) → length xs ≤ k → fault_in_block m f place before (drop k xs) ≡ None
 block_end m f place before xs k h = ap (fault_in_block m f place before) (drop_all k xs h)

@@ -1,5 +1,11 @@
 //! What is wrong in the instructions of an image: marks that are missing, stray or of another place or size, calls past wrappers, and
-//! mentions of what images alone have. `check_instructions` finds the first such fault.
+//! mentions of what images alone have.
+//!
+//! ```text
+//! // A guard with `i64 2` before a store of four bytes: a fault of the kind `GuardDiffers`, with its line, its function and its place.
+//! let text = ImageText::new(alloc, &image)?;
+//! check_instructions(alloc, &text)?;
+//! ```
 #![tactic(auto)]
 
 mod fault;

@@ -1,19 +1,15 @@
 -- What stands at the first place that passes a test.
-use Rattle.std.proofs.Common.{◌≡◌, ◌∙◌, refl, sym, ap, ℕ, ◌≤◌, Bool, true, false, cond, Option, Some, None, List, length, nat_lt, arith}
+use Rattle.std.proofs.Common.{◌≡◌, ◌∙◌, refl, sym, ap, ℕ, Bool, true, false, cond, Option, Some, None, List, length, nat_lt, ltb-false}
 use Rattle.std.specs.Prelude.{find, option_map, position, slice_get, unwrap_or}
 use Rattle.std.specs.List.{position_or_len}
-use Rattle.std.proofs.lemmas.Bool.Decides.{nat_tests}
 use Rattle.std.proofs.lemmas.List.Folds.{find_at}
 use Rattle.std.proofs.lemmas.Option.{slice_get_past}
 use Rattle.lx_ir.specs.declared.instr.SwitchCase.{SwitchCase}
 use Rattle.lx_image_steps.specs.Standing.{item_at, label_at}
 
-not_below : (m n : ℕ) → nat_lt m n ≡ false → n ≤ m
-not_below m n e = grind (arith, nat_tests, e)
-
 by_test : {A : Type 0} (xs : List A) (n : ℕ) (b : Bool) → nat_lt n (length xs) ≡ b → item_at xs (cond b (Some n) None) ≡ slice_get xs n
 by_test xs n true e = refl
-by_test xs n false e = sym (slice_get_past xs n (not_below n (length xs) e))
+by_test xs n false e = sym (slice_get_past xs n (ltb-false n (length xs) e))
 
 first_item : {A : Type 0} (t : A → Bool) (xs : List A) → item_at xs (position t xs) ≡ find t xs
 first_item t xs = by_test xs (position_or_len t xs) (nat_lt (position_or_len t xs) (length xs)) refl ∙ sym (find_at t xs)

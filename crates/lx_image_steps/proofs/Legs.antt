@@ -9,9 +9,9 @@ use Rattle.lx_ir.specs.declared.types.NamedType.{NamedType}
 use Rattle.lx_model.specs.declared.program.Program.{Program}
 use Rattle.lx_model.specs.Thread.{Activation}
 use Rattle.lx_model.specs.Effect.{indices_of, operand}
-use Rattle.lx_code_tables.specs.declared.routes.Leg.{Leg}
-use Rattle.lx_code_tables.specs.declared.routes.Route.{Route}
-use Rattle.lx_code_tables.specs.Routes.{leg_offset, legs_offset, route_offset}
+use Rattle.lx_code.specs.declared.routes.Leg.{Leg}
+use Rattle.lx_code.specs.declared.routes.Route.{Route}
+use Rattle.lx_code.specs.Routes.{leg_offset, legs_offset, route_offset}
 use Rattle.lx_image_steps.proofs.Moduli.{modulo_sum}
 use Rattle.lx_image_steps.proofs.Parts.{product}
 

@@ -5,10 +5,11 @@ use Rattle.lx_words.specs.Word.{modulo}
 use Rattle.lx_ir.specs.declared.types.NamedType.{NamedType}
 use Rattle.lx_ir.specs.IrType.{IrType}
 use Rattle.lx_ir.specs.Layout.{size_of, unnamed, is_lawful_type, field_of, part_or, part_of, part_at}
-use Rattle.lx_code_tables.specs.Parts.{IsPart, element_in}
-use Rattle.lx_code_tables.proofs.TypeParts.{field_part, element_part as part_of_array}
+use Rattle.lx_code.specs.Parts.{IsPart, element_in}
+use Rattle.lx_code.proofs.TypeParts.{field_part, element_part as part_of_array}
 use Rattle.lx_image_steps.specs.Parts.{IsPartModulo, IsOnTheWay}
 use Rattle.lx_image_steps.proofs.Moduli.{modulo_sum, modulo_product}
+use Rattle.lx_code.proofs.Ways.{same_inside}
 
 -- the part that an index names
 
@@ -40,10 +41,6 @@ element_part types t u i a s e f g h =
 modulo_again : (z : ℤ) → (0 + modulo z (2 ^ 64)) % 2 ^ 64 ≡ modulo z (2 ^ 64)
 modulo_again (pos n) = omega arith
 modulo_again (negsuc n) = omega arith
-
-same_inside : (types : List NamedType) (s t : IrType) (is : List ℤ) → unnamed types s ≡ unnamed types t → (part_at types s is).offset ≡ (part_at types t is).offset
-same_inside types s t [] e = refl
-same_inside types s t (i ∷ is) e = ap (λ x. ((part_of types x i).offset +ℤ (part_at types (part_of types x i).ty is).offset)) e
 
 sum_on : (a b c : ℕ) → (a + (b + c) % 2 ^ 64) % 2 ^ 64 ≡ ((a + b) % 2 ^ 64 + c) % 2 ^ 64
 sum_on a b c = omega arith

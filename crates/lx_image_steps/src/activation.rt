@@ -24,7 +24,6 @@ impl Model for Range {
 /// A function that runs: its number, the number of its block and the place of its next instruction there, whether a
 /// jump led to the block, whose phis then are behind it, its registers, its part of the stack, and what it has
 /// allocated there, the newest last.
-#[derive(Drop)]
 pub struct Activation {
     pub function: u32,
     pub block: usize,
@@ -35,4 +34,19 @@ pub struct Activation {
     pub high: u64,
     pub allocas: Vec<Range>,
     ghost below: { high ≤ 9223372036854775808 },
+}
+
+impl Drop for Activation {
+    fn drop(self) {
+        let Activation {
+            function: _,
+            block: _,
+            place: _,
+            arrived: _,
+            registers: _,
+            low: _,
+            high: _,
+            allocas: _,
+        } = self;
+    }
 }

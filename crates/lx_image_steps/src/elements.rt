@@ -11,7 +11,7 @@ ghost use Rattle.lx_image_steps.specs.Standing.{run_of};
 use crate::activation::Activation;
 use crate::effect::Effect;
 use crate::operand::{operand, text_of};
-use lx_code_tables::{Part, element_of, field_named};
+use lx_code::{Part, element_of, field_named};
 use lx_image_code::Code;
 use lx_ir::instr::Argument;
 use lx_ir::module::{Module, Value};

@@ -1,5 +1,12 @@
 //! What the next instruction of a running function does in a machine of images: its value, where control goes, or what it asks, and
 //! for whom; what guards and checks leave for it; and which wrapper it calls.
+//!
+//! ```text
+//! // At `%x = add i32 %a, 7`, where `%a` holds 1: Some(Step::Does(Effect::Gives(the word 8))).
+//! let step = next_step(alloc, &code, &activation)?;
+//! // Behind a guard that names all its bytes a store is asked for in the name of the top principal of the shadow stack, and else in the kernel's.
+//! asker(Some(0), &marks, top, &what);
+//! ```
 #![tactic(auto)]
 
 mod activation;

@@ -4,6 +4,11 @@ use Rattle.std.specs.Prelude.{bytes_eq, cond, filter, codes, slice_get, option_m
 use Rattle.std.specs.List.{list_all, list_any}
 use Rattle.std.proofs.lemmas.Option.{slice_get-map}
 use Rattle.std.proofs.lemmas.List.Elements.{filter-append}
+use Rattle.std.proofs.lemmas.List.Folds.{list_any-append}
+use Rattle.std.proofs.lemmas.Bool.{and_from, not-true}
+use Rattle.lx_words.proofs.Tests.{true_false, false_true, first_of, second_of}
+use Rattle.lx_words.proofs.Lists.{map_length, same_bytes, got_first, all_joined}
+use Rattle.lx_words.proofs.Options.{some_same}
 use Rattle.lx_ir.specs.declared.types.NamedType.{NamedType}
 use Rattle.lx_ir.specs.declared.module.Symbol.TheVariants as symbol
 use Rattle.lx_ir.specs.declared.module.Value.{Value}
@@ -29,18 +34,12 @@ use Rattle.lx_image_texts.specs.WrapperText.{unlined, out_wrappers, in_wrappers}
 use Rattle.lx_image_texts.specs.ImageFaults.{has_out_wrapper, has_wrapper_named, may_call_function, may_call, calls_well, without_body, without_wrappers, not_own, right_wrappers}
 use Rattle.lx_image_texts.specs.Erased.{wrapped_number, erased_number, erased_callee, erased_op, erased_code, is_of_program}
 use Rattle.lx_image_texts.specs.Programs.{program_block, program_function, program_of}
-use Rattle.lx_image_texts.proofs.Values.{false_true, first_of, second_of, both_of}
-use Rattle.lx_image_texts.proofs.Erasing.{some_same, got_first, names_of, names_append, is_program_name, out_prefix, all_first, all_second, all_joined}
+use Rattle.lx_image_texts.proofs.Erasing.{names_of, names_append, is_program_name, out_prefix, all_first, all_second}
 use Rattle.lx_image_texts.proofs.MarkedCode.{WithMarks}
 use Rattle.lx_image_texts.proofs.Calling.{out_wrapper_names, name_got, wrapped_at, position_at, all_at}
-use Rattle.lx_image_texts.proofs.SparedAlike.{any_join}
-use Rattle.lx_image_texts.proofs.Comparing.{bytes_same}
 use Rattle.lx_image_texts.proofs.Ordering.{filter_yes, filter_no, is_own}
 use Rattle.lx_image_texts.proofs.Distinct.{distinct_same}
-use Rattle.lx_image_texts.proofs.Wrapping.{filter_own, filter_program, outs_right, right_distinct, Wrapped, not_is, double}
-
-true_false : {A : Type 0} → true ≡ false → A
-true_false e = cc
+use Rattle.lx_image_texts.proofs.Wrapping.{filter_own, filter_program, outs_right, right_distinct, Wrapped, double}
 
 -- the text: its program's functions, and the right wrappers behind them
 pub record Text (i : Interface) (x : Module) : Type 0 where
@@ -53,10 +52,6 @@ program x = filter is_of_program x.functions
 
 abbrev pub wrappers : Module → List Function
 wrappers x = filter is_own x.functions
-
-pub length_map : {A B : Type 0} (f : A → B) (xs : List A) → length (map f xs) ≡ length xs
-length_map f [] = refl
-length_map f (x ∷ xs) = ap suc (length_map f xs)
 
 some_kept : {A B : Type 0} (f : A → B) (o : Option A) → is_some (option_map f o) ≡ is_some o
 some_kept f None = refl
@@ -93,7 +88,7 @@ from_wrappers : (x : Module) (l : ℕ) (f : Function) → slice_get (wrappers x)
 from_wrappers x l f e = double (is_own_name f.name) (all_at (λ n. not (is_program_name n)) (names_of (wrappers x)) l f.name (filter_own x.functions) (name_got (wrappers x) l f e))
 
 from_program : (x : Module) (k : ℕ) (f : Function) → slice_get (program x) k ≡ Some f → is_own_name f.name ≡ false
-from_program x k f e = not_is (is_own_name f.name) (all_at is_program_name (names_of (program x)) k f.name (filter_program x.functions) (name_got (program x) k f e))
+from_program x k f e = not-true (is_own_name f.name) (all_at is_program_name (names_of (program x)) k f.name (filter_program x.functions) (name_got (program x) k f e))
 
 program_side : (x : Module) (k : ℕ) (f : Function) → is_own_name f.name ≡ false → (slice_get (program x) k ≡ Some f) ⊎ Behind (length (program x)) (wrappers x) k f → slice_get (program x) k ≡ Some f
 program_side x k f n (inl e) = e
@@ -159,13 +154,13 @@ own_call i x t k f e own wraps =
     let g = first (has_wrapper_named f.name) x.functions wraps in
     let number : wrapped_number x f.name ≡ Some g.place = position_at (has_wrapper_named f.name) x.functions g.place g.it g.at g.passes g.none in
     let has : has_out_wrapper g.it ≡ true = first_of (has_out_wrapper g.it) (bytes_eq (out_prefix ++ g.it.name) f.name) g.passes in
-    let name : out_prefix ++ g.it.name ≡ f.name = bytes_same (out_prefix ++ g.it.name) f.name (second_of (has_out_wrapper g.it) (bytes_eq (out_prefix ++ g.it.name) f.name) g.passes) in
+    let name : out_prefix ++ g.it.name ≡ f.name = same_bytes (out_prefix ++ g.it.name) f.name (second_of (has_out_wrapper g.it) (bytes_eq (out_prefix ++ g.it.name) f.name) g.passes) in
     let import : is_wrapped g.it ≡ true = first_of (is_wrapped g.it) (not (is_own_name g.it.name)) has in
-    let at : slice_get (program x) g.place ≡ Some g.it = in_program i x t g.place g.it g.at (not_is (is_own_name g.it.name) (second_of (is_wrapped g.it) (not (is_own_name g.it.name)) has)) in
+    let at : slice_get (program x) g.place ≡ Some g.it = in_program i x t g.place g.it g.at (not-true (is_own_name g.it.name) (second_of (is_wrapped g.it) (not (is_own_name g.it.name)) has)) in
     let behind = in_wrappers_of i x t k f e own in
     let there : slice_get (names_of (right_wrappers i x)) behind.place ≡ Some f.name = ap (λ (ns : List (List ℕ)). slice_get ns behind.place) t.wrapped.names ∙ name_got (wrappers x) behind.place f behind.at in
     let place : wrapped_before (program x) g.place ≡ behind.place = distinct_same (names_of (right_wrappers i x)) (wrapped_before (program x) g.place) behind.place f.name (right_distinct i x t.distinct) (right_name i x t.parts g.place g.it at import ∙ ap (λ (n : List ℕ). Some n) name) there in
-    let final : wrapper_number (program_of x) g.place ≡ k = (λ j. length_map (program_function x) (program x) j + (before_kept x (program x) g.place ∙ place) j) ∙ sym behind.number in
+    let final : wrapper_number (program_of x) g.place ≡ k = (λ j. map_length (program_function x) (program x) j + (before_kept x (program x) g.place ∙ place) j) ∙ sym behind.number in
     ap (λ (o : Option ℕ). image_callee (program_of x) (callee.Symbol (symbol.Function (unwrap_or o k)))) number
     ∙ (ap (callee_for (program_of x) g.place) (in_module x g.place g.it at)
     ∙ (ap (λ (b : Bool). callee_if b (program_of x) g.place) (wrapped_kept x g.it ∙ import) ∙ ap (λ (n : ℕ). callee.Symbol (symbol.Function n)) final))
@@ -259,7 +254,7 @@ all_left_by : (p : Op → Bool) (x : Module) → Kept p x → (i : Instr) (is : 
 all_left_by p x k i is true e a ih = ap (λ (os : List Op). list_all (λ (i : Instr). p i.op) (map unlined (map (erased_op x) os))) (filter_no (λ o. not (is_mark o)) i.op (ops is) (ap not e)) ∙ ih
 all_left_by p x k i is false e a ih =
     ap (λ (os : List Op). list_all (λ (i : Instr). p i.op) (map unlined (map (erased_op x) os))) (filter_yes (λ o. not (is_mark o)) i.op (ops is) (ap not e))
-    ∙ both_of (p (erased_op x i.op)) (list_all (λ (i : Instr). p i.op) (left x is)) (k i.op ∙ a) ih
+    ∙ and_from (p (erased_op x i.op)) (list_all (λ (i : Instr). p i.op) (left x is)) (k i.op ∙ a) ih
 
 all_left : (p : Op → Bool) (x : Module) → Kept p x → (is : List Instr) → list_all (λ (i : Instr). p i.op) is ≡ true → list_all (λ (i : Instr). p i.op) (left x is) ≡ true
 all_left p x k [] a = refl
@@ -277,9 +272,9 @@ or_both false b false d e h k = k e
 any_blocks : (p : Op → Bool) (x : Module) → Kept p x → ((o : Op) → is_mark o ≡ true → p o ≡ false) → (bs : List Block) → list_any (λ (i : Instr). p i.op) (flat bs) ≡ true → list_any (λ (i : Instr). p i.op) (flat (map (program_block x) bs)) ≡ true
 any_blocks p x k q [] a = a
 any_blocks p x k q (b ∷ bs) a =
-    any_join (λ (i : Instr). p i.op) (left x b.instrs) (flat (map (program_block x) bs))
+    list_any-append (λ (i : Instr). p i.op) (left x b.instrs) (flat (map (program_block x) bs))
     ∙ or_both (list_any (λ (i : Instr). p i.op) b.instrs) (list_any (λ (i : Instr). p i.op) (flat bs)) (list_any (λ (i : Instr). p i.op) (left x b.instrs)) (list_any (λ (i : Instr). p i.op) (flat (map (program_block x) bs)))
-    (sym (any_join (λ (i : Instr). p i.op) b.instrs (flat bs)) ∙ a) (any_left p x k q b.instrs) (any_blocks p x k q bs)
+    (sym (list_any-append (λ (i : Instr). p i.op) b.instrs (flat bs)) ∙ a) (any_left p x k q b.instrs) (any_blocks p x k q bs)
 
 all_blocks : (p : Op → Bool) (x : Module) → Kept p x → (bs : List Block) → list_all (λ (i : Instr). p i.op) (flat bs) ≡ true → list_all (λ (i : Instr). p i.op) (flat (map (program_block x) bs)) ≡ true
 all_blocks p x k [] a = refl
@@ -289,7 +284,7 @@ all_blocks p x k (b ∷ bs) a =
 keeps_kept : (x : Module) (bs : Option (List Block)) (n r : ℕ) → keeps_address x.types (flat (blocks_of_option bs)) n r ≡ true → keeps_address x.types (flat (blocks_of_option (option_map (map (program_block x)) bs))) n r ≡ true
 keeps_kept x None n r e = e
 keeps_kept x (Some bs) n r e =
-    both_of (list_any (λ (i : Instr). allocates x.types r n i.op) (flat (map (program_block x) bs))) (list_all (λ (i : Instr). uses_as_address r i.op) (flat (map (program_block x) bs)))
+    and_from (list_any (λ (i : Instr). allocates x.types r n i.op) (flat (map (program_block x) bs))) (list_all (λ (i : Instr). uses_as_address r i.op) (flat (map (program_block x) bs)))
     (any_blocks (allocates x.types r n) x (allocates_kept x.types r n x) (mark_allocates x.types r n) bs (first_of (list_any (λ (i : Instr). allocates x.types r n i.op) (flat bs)) (list_all (λ (i : Instr). uses_as_address r i.op) (flat bs)) e))
     (all_blocks (uses_as_address r) x (uses_kept r x) bs (second_of (list_any (λ (i : Instr). allocates x.types r n i.op) (flat bs)) (list_all (λ (i : Instr). uses_as_address r i.op) (flat bs)) e))
 

@@ -3,6 +3,10 @@ use Rattle.std.proofs.Common.{◌≡◌, ℕ, zero, suc, ◌+◌, ◌<◌, Bool,
 use Rattle.std.specs.Prelude.{slice_get, option_map, filter, cond, unwrap_or, bytes_eq, codes, position, is_some}
 use Rattle.std.specs.List.{list_all, list_any, position_or_len}
 use Rattle.std.proofs.lemmas.Option.{slice_get-map, slice_get_within}
+use Rattle.std.proofs.lemmas.Bool.{not-true, and_right, and_from}
+use Rattle.lx_words.proofs.Lists.{bytes_itself, got_take, got_past, got_first, split_at, there_is}
+use Rattle.lx_words.proofs.Options.{some_same, none_some}
+use Rattle.lx_words.proofs.Tests.{false_true, first_of, second_of}
 use Rattle.lx_ir.specs.declared.module.Symbol.TheVariants as symbol
 use Rattle.lx_ir.specs.declared.module.Block.{Block}
 use Rattle.lx_ir.specs.declared.module.GlobalVar.{GlobalVar}
@@ -19,8 +23,7 @@ use Rattle.lx_image_texts.specs.ImageFaults.{has_out_wrapper, has_wrapper_named}
 use Rattle.lx_image_texts.specs.Erased.{wrapped_number, erased_number, erased_callee, erased_text, erased_functions}
 use Rattle.lx_image_texts.specs.Programs.{IsClosed}
 use Rattle.lx_image_texts.proofs.Closed.{lawful_closed}
-use Rattle.lx_image_texts.proofs.Values.{false_true, first_of, second_of, both_of}
-use Rattle.lx_image_texts.proofs.Erasing.{some_same, none_some, got_take, got_past, got_first, split_at, there_is, names_of, out_prefix, is_program_name, names_append, guarded_names, drop_names, plain_functions, kept_functions, CallsBack, functions_back}
+use Rattle.lx_image_texts.proofs.Erasing.{names_of, out_prefix, is_program_name, names_append, guarded_names, drop_names, plain_functions, kept_functions, CallsBack, functions_back}
 
 -- the names of the image
 
@@ -127,10 +130,6 @@ position_at p xs k x e t none =
     let at : position_or_len p xs ≡ k = place_at p xs k x e t none in
     position_within p xs (subst (λ (n : ℕ). n < length xs) (sym at) (slice_get_within xs k x e)) ∙ ap (λ (n : ℕ). Some n) at
 
-pub same_bytes : (xs : List ℕ) → bytes_eq xs xs ≡ true
-same_bytes [] = refl
-same_bytes (x ∷ xs) = grind (arith, same_bytes xs)
-
 prefixed : (a b : List ℕ) → bytes_eq (out_prefix ++ a) (out_prefix ++ b) ≡ bytes_eq a b
 prefixed a b = refl
 
@@ -146,24 +145,16 @@ same_defined m f (Some bs) (Some cs) h = refl
 same_defined m f None (Some cs) h = absurd h
 same_defined m f (Some bs) None h = absurd h
 
-pub not_own : (b : Bool) → not b ≡ true → b ≡ false
-not_own true e = false_true e
-not_own false e = refl
-
 pub all_at : (p : List ℕ → Bool) (ns : List (List ℕ)) (k : ℕ) (n : List ℕ) → list_all p ns ≡ true → slice_get ns k ≡ Some n → p n ≡ true
 all_at p [] k n a e = none_some e
 all_at p (x ∷ ns) zero n a e = ap p (sym (some_same e)) ∙ first_of (p x) (list_all p ns) a
 all_at p (x ∷ ns) (suc k) n a e = all_at p ns k n (second_of (p x) (list_all p ns) a) e
 
-never : (a b : Bool) → b ≡ false → (a && b) ≡ false
-never true b e = e
-never false b e = refl
-
 pub less : (j k n : ℕ) → j < k → k < n → j < n
 less j k n h l = omega (arith, h, l)
 
 pub program_name : (m : Module) (i : Interface) (x : Module) → Guards i m x → (k : ℕ) (f : Function) → slice_get m.functions k ≡ Some f → is_own_name f.name ≡ false
-program_name m i x g k f e = not_own (is_own_name f.name) (all_at is_program_name (names_of m.functions) k f.name (plain_functions m g.plain) (name_got m.functions k f e))
+program_name m i x g k f e = not-true (is_own_name f.name) (all_at is_program_name (names_of m.functions) k f.name (plain_functions m g.plain) (name_got m.functions k f e))
 
 import_found : (i : Interface) (m x : Module) → is_distinct (names_of m.functions) ≡ true → Guards i m x → (k : ℕ) (f : Function) → k < length m.functions → slice_get m.functions k ≡ Some f → is_wrapped f ≡ true → wrapped_number x (out_prefix ++ f.name) ≡ Some k
 import_found i m x law g k f l e t =
@@ -172,15 +163,15 @@ import_found i m x law g k f l e t =
     let name : one.0.name ≡ f.name = one.2.name in
     let defined : is_defined one.0 ≡ is_defined f = same_defined m f f.blocks one.0.blocks one.2.body in
     let has : has_out_wrapper one.0 ≡ true
-    = both_of (not (is_defined one.0) && not (is_alias one.0)) (not (is_own_name one.0.name))
+    = and_from (not (is_defined one.0) && not (is_alias one.0)) (not (is_own_name one.0.name))
     ((λ j. not (defined j) && not (bytes_eq (name j) (codes "lxfi_princ_alias"))) ∙ t) (ap (λ (n : List ℕ). not (is_own_name n)) name ∙ ap not (program_name m i x g k f e)) in
-    let called : bytes_eq (out_prefix ++ one.0.name) (out_prefix ++ f.name) ≡ true = ap (λ (n : List ℕ). bytes_eq (out_prefix ++ n) (out_prefix ++ f.name)) name ∙ same_bytes (out_prefix ++ f.name) in
-    position_at (has_wrapper_named (out_prefix ++ f.name)) x.functions k one.0 got (both_of (has_out_wrapper one.0) (bytes_eq (out_prefix ++ one.0.name) (out_prefix ++ f.name)) has called)
+    let called : bytes_eq (out_prefix ++ one.0.name) (out_prefix ++ f.name) ≡ true = ap (λ (n : List ℕ). bytes_eq (out_prefix ++ n) (out_prefix ++ f.name)) name ∙ bytes_itself (out_prefix ++ f.name) in
+    position_at (has_wrapper_named (out_prefix ++ f.name)) x.functions k one.0 got (and_from (has_out_wrapper one.0) (bytes_eq (out_prefix ++ one.0.name) (out_prefix ++ f.name)) has called)
     (λ j y lj ey. (
     let mine = there_is m.functions j (less j k (length m.functions) lj l) in
     let same = same_at i m x g j mine.0 mine.1 in
     let it : y.name ≡ mine.0.name = ap (λ (z : Function). z.name) (some_same (sym ey ∙ same.1)) ∙ same.2 in
-    never (has_out_wrapper y) (bytes_eq y.name f.name)
+    and_right (has_out_wrapper y) (bytes_eq y.name f.name)
     (ap (λ (n : List ℕ). bytes_eq n f.name) it ∙ distinct_at (names_of m.functions) j k mine.0.name f.name law (name_got m.functions j mine.0 mine.1) (name_got m.functions k f e) lj)))
 
 -- so each call comes back
@@ -227,8 +218,8 @@ any_first p (x ∷ xs) ys e = any_by (p x) (list_any p xs) (list_any p (xs ++ ys
 pub distinct_first : (xs ys : List (List ℕ)) → is_distinct (xs ++ ys) ≡ true → is_distinct xs ≡ true
 distinct_first [] ys d = refl
 distinct_first (x ∷ xs) ys d =
-    both_of (not (list_any (bytes_eq x) xs)) (is_distinct xs)
-    (ap not (any_first (bytes_eq x) xs ys (not_own (list_any (bytes_eq x) (xs ++ ys)) (first_of (not (list_any (bytes_eq x) (xs ++ ys))) (is_distinct (xs ++ ys)) d))))
+    and_from (not (list_any (bytes_eq x) xs)) (is_distinct xs)
+    (ap not (any_first (bytes_eq x) xs ys (not-true (list_any (bytes_eq x) (xs ++ ys)) (first_of (not (list_any (bytes_eq x) (xs ++ ys))) (is_distinct (xs ++ ys)) d))))
     (distinct_first xs ys (second_of (not (list_any (bytes_eq x) (xs ++ ys))) (is_distinct (xs ++ ys)) d))
 
 -- of an image in which each name stands once

@@ -3,6 +3,10 @@ use Rattle.std.proofs.Common.{◌≡◌, ℕ, zero, suc, ◌+◌, ◌<◌, Bool,
 use Rattle.std.specs.Prelude.{bytes_eq, cond, codes, slice_get, slice_index_or, option_map, flat_map, filter, ◌⊎◌}
 use Rattle.std.specs.List.{list_all, list_any}
 use Rattle.std.proofs.lemmas.Option.{slice_get_within}
+use Rattle.std.proofs.lemmas.Bool.{or_from, and_from, not-true}
+use Rattle.lx_words.proofs.Lists.{bytes_itself, got_take, split_at, all_joined, there_is, heads, tails}
+use Rattle.lx_words.proofs.Tests.{true_false, or_true, and_false, true_less, false_true, first_of, second_of}
+use Rattle.lx_words.proofs.Options.{some_same, none_some, neither_some}
 use Rattle.lx_ir.specs.declared.types.Scalar.{Scalar}
 use Rattle.lx_ir.specs.declared.module.Symbol.TheVariants as symbol
 use Rattle.lx_ir.specs.declared.module.Pointer.{Pointer}
@@ -33,24 +37,19 @@ use Rattle.lx_image_texts.specs.Guards.{unlined_global, ops_of, StandsAt, IsMark
 use Rattle.lx_image_texts.specs.WrapperText.{wrappers_of}
 use Rattle.lx_image_texts.specs.ImageFaults.{BodyReached, kind_if, mark_kind, kind_at, has_out_wrapper, has_wrapper_named, wraps_import, may_call_function, may_call, calls_well, pointer_mentions, constant_mentions, value_mentions, reaches_body, first_op, fault_at, fault_in_block, fault_in_blocks, fault_in_function, init_mentions, inits_mention, global_fault, wrapper_fault, import_fault, missing_fault, misplaced, defined_names, conflict_fault, right_wrappers, whole_fault, first_image_fault}
 use Rattle.lx_image_texts.specs.Programs.{constant_within, value_within, callee_within, call_within, op_within, init_within, inits_within, IsClosed}
-use Rattle.lx_image_texts.proofs.Values.{false_true, first_of, second_of, both_of}
-use Rattle.lx_image_texts.proofs.Erasing.{some_same, none_some, got_take, names_of, is_program_name, out_prefix, all_first, all_second, all_joined, drop_names, there_is, split_at}
+use Rattle.lx_image_texts.proofs.Erasing.{names_of, is_program_name, out_prefix, all_first, all_second, drop_names}
 use Rattle.lx_image_texts.proofs.MarkedCode.{head_of, first_mark_kind, StandsBefore, WithMarks, are_plain, marked_none}
 use Rattle.lx_image_texts.proofs.Verified.{is_global, calls_no_global, CallsNoGlobal}
 use Rattle.lx_image_texts.proofs.Calling.{guarded_at, name_got, all_at, wrapper_at}
 use Rattle.lx_image_texts.proofs.SparedAlike.{spared_alike}
 use Rattle.lx_image_texts.proofs.SlotTypes.{half_of, still_agrees, defined_same}
-use Rattle.lx_image_texts.proofs.Comparing.{bytes_itself}
-use Rattle.lx_image_texts.proofs.Ordering.{or_none, none_or, heads, tails}
+use Rattle.lx_image_texts.proofs.Ordering.{none_or}
 use Rattle.lx_image_texts.proofs.Distinct.{Each}
-use Rattle.lx_image_texts.proofs.Wrapping.{StandsIn, all_stand, not_is, double}
+use Rattle.lx_image_texts.proofs.Wrapping.{StandsIn, all_stand, double}
 use Rattle.lx_image_texts.proofs.Right.{right_is}
-use Rattle.lx_image_texts.proofs.Sound.{head_same, named, less_of, all_ops}
+use Rattle.lx_image_texts.proofs.Sound.{head_same, named, all_ops}
 use Rattle.lx_image_texts.proofs.Whole.{are_wrappers, none_missing, all_defined, none_misplaced}
 use Rattle.lx_image_texts.proofs.Back.{Behind, in_parts}
-
-true_false : {A : Type 0} → true ≡ false → A
-true_false e = cc
 
 no_kind : {A B : Type 0} (f : A → B) (o : Option A) → o ≡ None → option_map f o ≡ None
 no_kind f o e = ap (option_map f) e
@@ -76,12 +75,12 @@ program_at i m x v k f e =
       g.0,
       sym (got_take x.functions (length m.functions) k (slice_get_less m.functions k f e)) ∙ g.1,
       g.2,
-      not_is (is_own_name g.0.name) (all_at is_program_name (names_of (take (length m.functions) x.functions)) k g.0.name h.program (name_got (take (length m.functions) x.functions) k g.0 g.1)),
+      not-true (is_own_name g.0.name) (all_at is_program_name (names_of (take (length m.functions) x.functions)) k g.0.name h.program (name_got (take (length m.functions) x.functions) k g.0 g.1)),
     )
 
 global_name : (gs : List (List ℕ)) (k : ℕ) → list_all is_program_name gs ≡ true → is_own_name (slice_index_or gs k []) ≡ false
 global_name [] k p = refl
-global_name (g ∷ gs) zero p = not_is (is_own_name g) (first_of (is_program_name g) (list_all is_program_name gs) p)
+global_name (g ∷ gs) zero p = not-true (is_own_name g) (first_of (is_program_name g) (list_all is_program_name gs) p)
 global_name (g ∷ gs) (suc k) p = global_name gs k (second_of (is_program_name g) (list_all is_program_name gs) p)
 
 names_same : (a b : List GlobalVar) → map unlined_global a ≡ map unlined_global b → map (λ (g : GlobalVar). g.name) a ≡ map (λ (g : GlobalVar). g.name) b
@@ -97,7 +96,7 @@ global_names i m x k = ap (list_all is_program_name) (names_same x.globals m.glo
 
 pointer_clean : (i : Interface) (m x : Module) → Given i m x → (p : Pointer) → is_lawful_pointer m p ≡ true → pointer_mentions x p ≡ false
 pointer_clean i m x v (pointer.Symbol (symbol.Function k) n) l =
-    let f = there_is m.functions k (less_of k (length m.functions) l) in
+    let f = there_is m.functions k (true_less k (length m.functions) l) in
     let g = program_at i m x v k f.0 f.1 in
     ap is_own_name (named x.functions k g.0 g.1) ∙ g.3
 pointer_clean i m x v (pointer.Symbol (symbol.Global k) n) l = global_name (map (λ (g : GlobalVar). g.name) x.globals) k (global_names i m x v.image)
@@ -112,21 +111,13 @@ value_clean : (i : Interface) (m x : Module) → Given i m x → (y : Value) →
 value_clean i m x v (value.Register r) l = refl
 value_clean i m x v (value.Constant c) l = constant_clean i m x v c l
 
-false_or : (a b : Bool) → a ≡ false → b ≡ false → (a || b) ≡ false
-false_or true b e h = true_false e
-false_or false b e h = h
-
 values_clean : (i : Interface) (m x : Module) → Given i m x → (xs : List Argument) → list_all (λ (a : Argument). value_within m a.value) xs ≡ true → list_any (λ (a : Argument). value_mentions x a.value) xs ≡ false
 values_clean i m x v [] l = refl
 values_clean i m x v (a ∷ xs) l =
-    false_or (value_mentions x a.value) (list_any (λ (a : Argument). value_mentions x a.value) xs) (value_clean i m x v a.value (first_of (value_within m a.value) (list_all (λ (a : Argument). value_within m a.value) xs) l))
+    or_from (value_mentions x a.value) (list_any (λ (a : Argument). value_mentions x a.value) xs) (value_clean i m x v a.value (first_of (value_within m a.value) (list_all (λ (a : Argument). value_within m a.value) xs) l))
     (values_clean i m x v xs (second_of (value_within m a.value) (list_all (λ (a : Argument). value_within m a.value) xs) l))
 
 -- calls
-
-or_true : (b : Bool) → (b || true) ≡ true
-or_true true = refl
-or_true false = refl
 
 any_at : (p : Function → Bool) (fs : List Function) (k : ℕ) (f : Function) → slice_get fs k ≡ Some f → p f ≡ true → list_any p fs ≡ true
 any_at p [] k f e t = none_some e
@@ -139,14 +130,14 @@ defined_at (g ∷ fs) zero f a e = ap is_defined (sym (some_same e)) ∙ first_o
 defined_at (g ∷ fs) (suc k) f a e = defined_at fs k f (second_of (is_defined g) (list_all is_defined fs) a) e
 
 own_by : (i : Interface) (m x : Module) → Given i m x → (k : ℕ) (w : Function) → is_own_name w.name ≡ true → (slice_get (take (length m.functions) x.functions) k ≡ Some w) ⊎ Behind (length (take (length m.functions) x.functions)) (drop (length m.functions) x.functions) k w → is_defined w ≡ true
-own_by i m x v k w n (inl e) = true_false (sym n ∙ not_is (is_own_name w.name) (all_at is_program_name (names_of (take (length m.functions) x.functions)) k w.name (half_of i m x v.image).program (name_got (take (length m.functions) x.functions) k w e)))
+own_by i m x v k w n (inl e) = true_false (sym n ∙ not-true (is_own_name w.name) (all_at is_program_name (names_of (take (length m.functions) x.functions)) k w.name (half_of i m x v.image).program (name_got (take (length m.functions) x.functions) k w e)))
 own_by i m x v k w n (inr b) = defined_at (drop (length m.functions) x.functions) b.place w v.defined b.at
 
 own_defined : (i : Interface) (m x : Module) → Given i m x → (k : ℕ) (w : Function) → slice_get x.functions k ≡ Some w → is_own_name w.name ≡ true → is_defined w ≡ true
 own_defined i m x v k w e n = own_by i m x v k w n (in_parts (take (length m.functions) x.functions) (drop (length m.functions) x.functions) k w (ap (λ (fs : List Function). slice_get fs k) (split_at (length m.functions) x.functions) ∙ e))
 
 may_own : (x : Module) (w : Function) → is_own_name w.name ≡ true → is_defined w ≡ true → wraps_import x w.name ≡ true → may_call_function x (Some w) ≡ true
-may_own x w n d e = ap (λ (b : Bool). cond b (is_defined w && wraps_import x w.name) (is_defined w || is_alias w)) n ∙ both_of (is_defined w) (wraps_import x w.name) d e
+may_own x w n d e = ap (λ (b : Bool). cond b (is_defined w && wraps_import x w.name) (is_defined w || is_alias w)) n ∙ and_from (is_defined w) (wraps_import x w.name) d e
 
 may_other : (x : Module) (g : Function) → is_own_name g.name ≡ false → (is_defined g || is_alias g) ≡ true → may_call_function x (Some g) ≡ true
 may_other x g n d = ap (λ (b : Bool). cond b (is_defined g && wraps_import x g.name) (is_defined g || is_alias g)) n ∙ d
@@ -165,16 +156,16 @@ call_by i m x v k f true e t =
     let g = program_at i m x v k f e in
     let own : is_own_name w.0.name ≡ true = ap is_own_name w.2 in
     let has : has_out_wrapper g.0 ≡ true
-    = both_of (not (is_defined g.0) && not (is_alias g.0)) (not (is_own_name g.0.name)) ((λ j. not (defined_same m f g.0 g.2 j) && not (bytes_eq (g.2.name j) (codes "lxfi_princ_alias"))) ∙ t) (ap not g.3) in
+    = and_from (not (is_defined g.0) && not (is_alias g.0)) (not (is_own_name g.0.name)) ((λ j. not (defined_same m f g.0 g.2 j) && not (bytes_eq (g.2.name j) (codes "lxfi_princ_alias"))) ∙ t) (ap not g.3) in
     let same : bytes_eq (out_prefix ++ g.0.name) w.0.name ≡ true = ap (λ (n : List ℕ). bytes_eq (out_prefix ++ n) w.0.name) g.2.name ∙ (ap (bytes_eq (out_prefix ++ f.name)) w.2 ∙ bytes_itself (out_prefix ++ f.name)) in
     ap (may_call_function x) w.1
-    ∙ may_own x w.0 own (own_defined i m x v (wrapper_number m k) w.0 w.1 own) (any_at (has_wrapper_named w.0.name) x.functions k g.0 g.1 (both_of (has_out_wrapper g.0) (bytes_eq (out_prefix ++ g.0.name) w.0.name) has same))
+    ∙ may_own x w.0 own (own_defined i m x v (wrapper_number m k) w.0 w.1 own) (any_at (has_wrapper_named w.0.name) x.functions k g.0 g.1 (and_from (has_out_wrapper g.0) (bytes_eq (out_prefix ++ g.0.name) w.0.name) has same))
 
 callee_clean : (i : Interface) (m x : Module) → Given i m x → (y : Callee) → callee_within m y ≡ true → not (is_global (image_callee m y)) ≡ true → may_call x (image_callee m y) ≡ true
 callee_clean i m x v (callee.Register r) l c = refl
 callee_clean i m x v (callee.Symbol (symbol.Global g)) l c = false_true c
 callee_clean i m x v (callee.Symbol (symbol.Function k)) l c =
-    let f = there_is m.functions k (less_of k (length m.functions) l) in
+    let f = there_is m.functions k (true_less k (length m.functions) l) in
     ap (λ (o : Option Function). may_call x (callee_for m k o)) f.1 ∙ call_by i m x v k f.0 (is_wrapped f.0) f.1 refl
 
 call_clean : (i : Interface) (m x : Module) → Given i m x → (o : Op) → not (is_image_line o) ≡ true → call_within m o ≡ true → calls_no_global (image_op m o) ≡ true → calls_well x (image_op m o) ≡ true
@@ -252,7 +243,7 @@ with_marks m x f g s (o ∷ os) is (rest, e, h) = (rest, stands_before m x f g s
 plain_code : (m : Module) (os : List Op) → list_all (λ (o : Op). not (is_image_line o)) os ≡ true → are_plain (map (image_op m) os) ≡ true
 plain_code m [] p = refl
 plain_code m (o ∷ os) p =
-    both_of (not (is_image_line (image_op m o))) (are_plain (map (image_op m) os)) (plain_image m o (first_of (not (is_image_line o)) (list_all (λ (o : Op). not (is_image_line o)) os) p))
+    and_from (not (is_image_line (image_op m o))) (are_plain (map (image_op m) os)) (plain_image m o (first_of (not (is_image_line o)) (list_all (λ (o : Op). not (is_image_line o)) os) p))
     (plain_code m os (second_of (not (is_image_line o)) (list_all (λ (o : Op). not (is_image_line o)) os) p))
 
 abbrev Unreached : Module → List Op → Type 0
@@ -260,8 +251,8 @@ Unreached x os = list_all (λ (o : Op). not (reaches_body x o)) os ≡ true
 
 guard_clean : (i : Interface) (m x : Module) → Given i m x → (at size : Value) (narrow : Bool) → value_within m at ≡ true → value_within m size ≡ true → Unreached x (op.Guard at size narrow ∷ [])
 guard_clean i m x v at size narrow a s =
-    both_of (not (reaches_body x (op.Guard at size narrow))) true
-    (none_reached true (value_mentions x at || (value_mentions x size || false)) refl (false_or (value_mentions x at) (value_mentions x size || false) (value_clean i m x v at a) (false_or (value_mentions x size) false (value_clean i m x v size s) refl))) refl
+    and_from (not (reaches_body x (op.Guard at size narrow))) true
+    (none_reached true (value_mentions x at || (value_mentions x size || false)) refl (or_from (value_mentions x at) (value_mentions x size || false) (value_clean i m x v at a) (or_from (value_mentions x size) false (value_clean i m x v size s) refl))) refl
 
 mark_clean : (i : Interface) (m x : Module) → Given i m x → (o : Op) → list_all (λ (a : Argument). value_within m a.value) (operands_of o) ≡ true → Unreached x (mark_of o)
 mark_clean i m x v (op.Store ty y at) w = guard_clean i m x v at (size_value ty) false (first_of (value_within m at) true (second_of (value_within m y) (value_within m at && true) w)) refl
@@ -277,7 +268,7 @@ mark_clean i m x v o w = refl
 
 joined_clean : (x : Module) (xs ys : List Op) → Unreached x xs → Unreached x ys → Unreached x (xs ++ ys)
 joined_clean x [] ys a b = b
-joined_clean x (o ∷ xs) ys a b = both_of (not (reaches_body x o)) (list_all (λ (o : Op). not (reaches_body x o)) (xs ++ ys)) (first_of (not (reaches_body x o)) (list_all (λ (o : Op). not (reaches_body x o)) xs) a) (joined_clean x xs ys (second_of (not (reaches_body x o)) (list_all (λ (o : Op). not (reaches_body x o)) xs) a) b)
+joined_clean x (o ∷ xs) ys a b = and_from (not (reaches_body x o)) (list_all (λ (o : Op). not (reaches_body x o)) (xs ++ ys)) (first_of (not (reaches_body x o)) (list_all (λ (o : Op). not (reaches_body x o)) xs) a) (joined_clean x xs ys (second_of (not (reaches_body x o)) (list_all (λ (o : Op). not (reaches_body x o)) xs) a) b)
 
 code_clean : (i : Interface) (m x : Module) → Given i m x → (f : Function) (os is : List Op) → list_all (λ (o : Op). not (is_image_line o)) os ≡ true → list_all (op_within m) os ≡ true → list_all calls_no_global is ≡ true → IsMarked m f os is → Unreached x is
 code_clean i m x v f [] is p w c h = ap (list_all (λ (o : Op). not (reaches_body x o))) h
@@ -286,14 +277,14 @@ code_clean i m x v f (o ∷ os) is p w c (rest, inl e, h) =
     let calls = all_second calls_no_global (mark_of o) (image_op m o ∷ rest) (ap (list_all calls_no_global) (sym e) ∙ c) in
     ap (list_all (λ (o : Op). not (reaches_body x o))) e
     ∙ joined_clean x (mark_of o) (image_op m o ∷ rest) (mark_clean i m x v o (second_of (call_within m o) (list_all (λ a. value_within m a.value) (operands_of o)) within))
-    (both_of (not (reaches_body x (image_op m o))) (list_all (λ (o : Op). not (reaches_body x o)) rest)
+    (and_from (not (reaches_body x (image_op m o))) (list_all (λ (o : Op). not (reaches_body x o)) rest)
     (op_clean i m x v o (first_of (not (is_image_line o)) (list_all (λ (o : Op). not (is_image_line o)) os) p) within (first_of (calls_no_global (image_op m o)) (list_all calls_no_global rest) calls))
     (code_clean i m x v f os rest (second_of (not (is_image_line o)) (list_all (λ (o : Op). not (is_image_line o)) os) p) (second_of (op_within m o) (list_all (op_within m) os) w) (second_of (calls_no_global (image_op m o)) (list_all calls_no_global rest) calls) h))
 code_clean i m x v f (o ∷ os) is p w c (rest, inr e, h) =
     let within = first_of (op_within m o) (list_all (op_within m) os) w in
     let calls : list_all calls_no_global (image_op m o ∷ rest) ≡ true = ap (list_all calls_no_global) (sym e.1) ∙ c in
     ap (list_all (λ (o : Op). not (reaches_body x o))) e.1
-    ∙ both_of (not (reaches_body x (image_op m o))) (list_all (λ (o : Op). not (reaches_body x o)) rest)
+    ∙ and_from (not (reaches_body x (image_op m o))) (list_all (λ (o : Op). not (reaches_body x o)) rest)
     (op_clean i m x v o (first_of (not (is_image_line o)) (list_all (λ (o : Op). not (is_image_line o)) os) p) within (first_of (calls_no_global (image_op m o)) (list_all calls_no_global rest) calls))
     (code_clean i m x v f os rest (second_of (not (is_image_line o)) (list_all (λ (o : Op). not (is_image_line o)) os) p) (second_of (op_within m o) (list_all (op_within m) os) w) (second_of (calls_no_global (image_op m o)) (list_all calls_no_global rest) calls) h)
 
@@ -304,7 +295,7 @@ kind_none false e = refl
 block_clean : (x : Module) (g : Function) (place : ℕ) (before : Option Op) (is : List Instr) → first_mark_kind x g before (map (λ (i : Instr). i.op) is) ≡ None → Unreached x (map (λ (i : Instr). i.op) is) → fault_in_block x g place before is ≡ None
 block_clean x g place before [] k u = refl
 block_clean x g place before (n ∷ is) k u =
-    let parts = or_none (mark_kind x g before n.op (head_of (map (λ (i : Instr). i.op) is))) (first_mark_kind x g (Some n.op) (map (λ (i : Instr). i.op) is)) k in
+    let parts = neither_some (mark_kind x g before n.op (head_of (map (λ (i : Instr). i.op) is))) (first_mark_kind x g (Some n.op) (map (λ (i : Instr). i.op) is)) k in
     none_or (option_map (fault_at g place n) (kind_at x g before n.op (first_op is))) (fault_in_block x g (suc place) (Some n.op) is)
     (no_kind (fault_at g place n) (kind_at x g before n.op (first_op is))
     (none_or (mark_kind x g before n.op (first_op is)) (kind_if (reaches_body x n.op) BodyReached) (ap (mark_kind x g before n.op) (head_same is) ∙ parts.0) (kind_none (reaches_body x n.op) (first_of (not (reaches_body x n.op)) _ u))))
@@ -342,7 +333,7 @@ functions_clean i m x v [] gs h n p w c = ap (first_some (fault_in_function x)) 
 functions_clean i m x v (f ∷ fs) [] h n p w c = absurd h
 functions_clean i m x v (f ∷ fs) (g ∷ gs) h n p w c =
     none_or (fault_in_function x g) (first_some (fault_in_function x) gs)
-    (one_clean i m x v f g h.0 (not_is (is_own_name g.name) (first_of (is_program_name g.name) (list_all is_program_name (names_of gs)) n)) (all_first (λ (i : Instr). not (is_image_line i.op)) (instrs_of f) (flat_map instrs_of fs) p) (all_first (λ (i : Instr). op_within m i.op) (instrs_of f) (flat_map instrs_of fs) w) (all_first (λ (i : Instr). calls_no_global i.op) (instrs_of g) (flat_map instrs_of gs) c))
+    (one_clean i m x v f g h.0 (not-true (is_own_name g.name) (first_of (is_program_name g.name) (list_all is_program_name (names_of gs)) n)) (all_first (λ (i : Instr). not (is_image_line i.op)) (instrs_of f) (flat_map instrs_of fs) p) (all_first (λ (i : Instr). op_within m i.op) (instrs_of f) (flat_map instrs_of fs) w) (all_first (λ (i : Instr). calls_no_global i.op) (instrs_of g) (flat_map instrs_of gs) c))
     (functions_clean i m x v fs gs h.1 (second_of (is_program_name g.name) (list_all is_program_name (names_of gs)) n) (all_second (λ (i : Instr). not (is_image_line i.op)) (instrs_of f) (flat_map instrs_of fs) p) (all_second (λ (i : Instr). op_within m i.op) (instrs_of f) (flat_map instrs_of fs) w) (all_second (λ (i : Instr). calls_no_global i.op) (instrs_of g) (flat_map instrs_of gs) c))
 
 wrappers_clean : (x : Module) (ws : List Function) → list_all (λ n. not (is_program_name n)) (names_of ws) ≡ true → first_some (fault_in_function x) ws ≡ None
@@ -355,20 +346,16 @@ wrappers_clean x (w ∷ ws) n =
 first_joined : {A : Type 0} (h : Function → Option A) (xs ys : List Function) → first_some h xs ≡ None → first_some h ys ≡ None → first_some h (xs ++ ys) ≡ None
 first_joined h [] ys a b = b
 first_joined h (x ∷ xs) ys a b =
-    let n = or_none (h x) (first_some h xs) a in
+    let n = neither_some (h x) (first_some h xs) a in
     none_or (h x) (first_some h (xs ++ ys)) n.0 (first_joined h xs ys n.1 b)
 
 -- the five parts
-
-and_false : (b : Bool) → (b && false) ≡ false
-and_false true = refl
-and_false false = refl
 
 imports_program : (fs : List Function) → list_all is_program_name (names_of fs) ≡ true → first_some import_fault fs ≡ None
 imports_program [] p = refl
 imports_program (f ∷ fs) p =
     none_or (import_fault f) (first_some import_fault fs)
-    (ap (λ (b : Bool). cond (not (is_defined f) && b) (Some (wrapper_fault f.line f.name 0)) None) (not_is (is_own_name f.name) (first_of (is_program_name f.name) (list_all is_program_name (names_of fs)) p))
+    (ap (λ (b : Bool). cond (not (is_defined f) && b) (Some (wrapper_fault f.line f.name 0)) None) (not-true (is_own_name f.name) (first_of (is_program_name f.name) (list_all is_program_name (names_of fs)) p))
     ∙ ap (λ (b : Bool). cond b (Some (wrapper_fault f.line f.name 0)) None) (and_false (not (is_defined f))))
     (imports_program fs (second_of (is_program_name f.name) (list_all is_program_name (names_of fs)) p))
 
@@ -388,14 +375,14 @@ mutual
 
   inits_clean : (i : Interface) (m x : Module) → Given i m x → (ns : Inits) → inits_within m ns ≡ true → inits_mention x ns ≡ false
   inits_clean i m x v no_more w = refl
-  inits_clean i m x v (more n ns) w = false_or (init_mentions x n) (inits_mention x ns) (init_clean i m x v n (first_of (init_within m n) (inits_within m ns) w)) (inits_clean i m x v ns (second_of (init_within m n) (inits_within m ns) w))
+  inits_clean i m x v (more n ns) w = or_from (init_mentions x n) (inits_mention x ns) (init_clean i m x v n (first_of (init_within m n) (inits_within m ns) w)) (inits_clean i m x v ns (second_of (init_within m n) (inits_within m ns) w))
 
 globals_clean : (i : Interface) (m x : Module) → Given i m x → (gs : List GlobalVar) → list_all is_program_name (map (λ (g : GlobalVar). g.name) gs) ≡ true → list_all (λ (g : GlobalVar). init_within m g.init) gs ≡ true → first_some (global_fault x) gs ≡ None
 globals_clean i m x v [] n w = refl
 globals_clean i m x v (g ∷ gs) n w =
     none_or (global_fault x g) (first_some (global_fault x) gs)
     (ap (λ (b : Bool). cond b (Some (wrapper_fault g.line g.name 0)) None)
-    (false_or (is_own_name g.name) (init_mentions x g.init) (not_is (is_own_name g.name) (first_of (is_program_name g.name) (list_all is_program_name (map (λ (g : GlobalVar). g.name) gs)) n)) (init_clean i m x v g.init (first_of (init_within m g.init) (list_all (λ (g : GlobalVar). init_within m g.init) gs) w))))
+    (or_from (is_own_name g.name) (init_mentions x g.init) (not-true (is_own_name g.name) (first_of (is_program_name g.name) (list_all is_program_name (map (λ (g : GlobalVar). g.name) gs)) n)) (init_clean i m x v g.init (first_of (init_within m g.init) (list_all (λ (g : GlobalVar). init_within m g.init) gs) w))))
     (globals_clean i m x v gs (second_of (is_program_name g.name) (list_all is_program_name (map (λ (g : GlobalVar). g.name) gs)) n) (second_of (init_within m g.init) (list_all (λ (g : GlobalVar). init_within m g.init) gs) w))
 
 inits_unlined : (m : Module) (gs : List GlobalVar) → list_all (λ (g : GlobalVar). init_within m g.init) gs ≡ list_all (λ (g : GlobalVar). init_within m g.init) (map unlined_global gs)

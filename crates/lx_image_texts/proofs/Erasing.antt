@@ -1,7 +1,10 @@
 -- Without what an image has besides, it is its program.
-use Rattle.std.proofs.Common.{◌≡◌, ℕ, zero, suc, ◌+◌, ◌<◌, Bool, true, false, not, ◌&&◌, List, [], ◌∷◌, ◌++◌, length, map, take, drop, Option, Some, None, inl, inr, refl, sym, ◌∙◌, ap, arith}
-use Rattle.std.specs.Prelude.{slice_get, option_map, filter, filter_map, cond, nat_lt, codes, flat_map, is_some}
+use Rattle.std.proofs.Common.{◌≡◌, ℕ, suc, ◌+◌, ◌<◌, Bool, true, false, not, ◌&&◌, List, [], ◌∷◌, ◌++◌, length, map, take, drop, Option, Some, None, inl, inr, refl, sym, ◌∙◌, ap, arith}
+use Rattle.std.specs.Prelude.{slice_get, option_map, filter, filter_map, cond, codes, flat_map, is_some}
 use Rattle.std.specs.List.{list_all}
+use Rattle.std.proofs.lemmas.Bool.{and_from}
+use Rattle.lx_words.proofs.Lists.{split_at, no_more, all_joined}
+use Rattle.lx_words.proofs.Tests.{true_less, false_true, first_of, second_of}
 use Rattle.lx_ir.specs.declared.types.Scalar.{Scalar}
 use Rattle.lx_ir.specs.declared.module.Symbol.TheVariants as symbol
 use Rattle.lx_ir.specs.declared.module.Block.{Block}
@@ -25,39 +28,8 @@ use Rattle.lx_image_texts.specs.Guards.{ops_of, BlockText, block_text, FunctionT
 use Rattle.lx_image_texts.specs.WrapperText.{out_if, out_wrappers, in_wrapper, in_wrappers, wrappers_of}
 use Rattle.lx_image_texts.specs.Programs.{callee_within, op_within}
 use Rattle.lx_image_texts.specs.Erased.{erased_callee, erased_op, erased_block, erased_text, is_of_program}
-use Rattle.lx_image_texts.proofs.Values.{false_true, first_of, second_of, both_of}
 
 -- lists
-
-pub true_false : {A : Type 0} → true ≡ false → A
-true_false e = cc
-
-pub some_same : {A : Type 0} {x y : A} → ◌≡◌ {A = Option A} (Some x) (Some y) → x ≡ y
-some_same e = cc
-
-pub none_some : {A B : Type 0} {x : A} → ◌≡◌ {A = Option A} None (Some x) → B
-none_some e = cc
-
-pub got_take : {A : Type 0} (xs : List A) (n k : ℕ) → k < n → slice_get (take n xs) k ≡ slice_get xs k
-got_take [] zero k h = absurd (omega (arith, h))
-got_take [] (suc n) k h = refl
-got_take (x ∷ xs) zero k h = absurd (omega (arith, h))
-got_take (x ∷ xs) (suc n) zero h = refl
-got_take (x ∷ xs) (suc n) (suc k) h = got_take xs n k (omega (arith, h))
-
-pub got_past : {A : Type 0} (xs ys : List A) (k : ℕ) → slice_get (xs ++ ys) (length xs + k) ≡ slice_get ys k
-got_past [] ys k = let e : 0 + k ≡ k = omega arith in ap (slice_get ys) e
-got_past (x ∷ xs) ys k = let e : suc (length xs) + k ≡ suc (length xs + k) = omega arith in ap (slice_get (x ∷ (xs ++ ys))) e ∙ got_past xs ys k
-
-pub got_first : {A : Type 0} (xs ys : List A) (k : ℕ) (x : A) → slice_get xs k ≡ Some x → slice_get (xs ++ ys) k ≡ Some x
-got_first [] ys k x e = none_some e
-got_first (y ∷ xs) ys zero x e = e
-got_first (y ∷ xs) ys (suc k) x e = got_first xs ys k x e
-
-pub split_at : {A : Type 0} (n : ℕ) (xs : List A) → take n xs ++ drop n xs ≡ xs
-split_at zero xs = refl
-split_at (suc n) [] = refl
-split_at (suc n) (x ∷ xs) = ap (λ ys. x ∷ ys) (split_at n xs)
 
 kept_one : (p : Function → Bool) (x : Function) (xs ys : List Function) (b : Bool) → p x ≡ b → b ≡ true → filter p (xs ++ ys) ≡ xs ++ filter p ys → filter p (x ∷ (xs ++ ys)) ≡ x ∷ (xs ++ filter p ys)
 kept_one p x xs ys true e t ih = λ j. cond (e j) (x ∷ ih j) (ih j)
@@ -75,26 +47,13 @@ kept_none : (p : Function → Bool) (xs : List Function) → list_all (λ x. not
 kept_none p [] a = refl
 kept_none p (x ∷ xs) a = dropped_one p x xs (p x) refl (first_of (not (p x)) (list_all (λ x. not (p x)) xs) a) (kept_none p xs (second_of (not (p x)) (list_all (λ x. not (p x)) xs) a))
 
-no_more : {A : Type 0} (xs : List A) → xs ++ [] ≡ xs
-no_more [] = refl
-no_more (x ∷ xs) = ap (λ ys. x ∷ ys) (no_more xs)
-
 pub all_second : {A : Type 0} (p : A → Bool) (xs ys : List A) → list_all p (xs ++ ys) ≡ true → list_all p ys ≡ true
 all_second p [] ys a = a
 all_second p (x ∷ xs) ys a = all_second p xs ys (second_of (p x) (list_all p (xs ++ ys)) a)
 
 pub all_first : {A : Type 0} (p : A → Bool) (xs ys : List A) → list_all p (xs ++ ys) ≡ true → list_all p xs ≡ true
 all_first p [] ys a = refl
-all_first p (x ∷ xs) ys a = both_of (p x) (list_all p xs) (first_of (p x) (list_all p (xs ++ ys)) a) (all_first p xs ys (second_of (p x) (list_all p (xs ++ ys)) a))
-
-pub all_joined : {A : Type 0} (p : A → Bool) (xs ys : List A) → list_all p xs ≡ true → list_all p ys ≡ true → list_all p (xs ++ ys) ≡ true
-all_joined p [] ys a b = b
-all_joined p (x ∷ xs) ys a b = both_of (p x) (list_all p (xs ++ ys)) (first_of (p x) (list_all p xs) a) (all_joined p xs ys (second_of (p x) (list_all p xs) a) b)
-
-pub there_is : {A : Type 0} (xs : List A) (k : ℕ) → k < length xs → (x : A) × (slice_get xs k ≡ Some x)
-there_is [] k h = absurd (omega (arith, h))
-there_is (x ∷ xs) zero h = (x, refl)
-there_is (x ∷ xs) (suc k) h = there_is xs k (omega (arith, h))
+all_first p (x ∷ xs) ys a = and_from (p x) (list_all p xs) (first_of (p x) (list_all p (xs ++ ys)) a) (all_first p xs ys (second_of (p x) (list_all p (xs ++ ys)) a))
 
 -- names
 
@@ -189,13 +148,10 @@ unmarked m f (o ∷ os) is (rest, inr e, h) = ap without_marks e.1 ∙ (none_dro
 abbrev pub CallsBack : Module → Module → Type 0
 CallsBack m x = (k : ℕ) → k < length m.functions → erased_callee x (image_callee m (callee.Symbol (symbol.Function k))) ≡ callee.Symbol (symbol.Function k)
 
-less_of : (j k : ℕ) → nat_lt j k ≡ true → j < k
-less_of j k e = grind (arith, e)
-
 call_back : (m x : Module) (to : Option ℕ) (ret : Option Scalar) (y : Callee) (args : List Argument) → CallsBack m x → callee_within m y ≡ true → erased_op x (image_op m (op.Call to ret y args)) ≡ op.Call to ret y args
 call_back m x to ret (callee.Register r) args back l = refl
 call_back m x to ret (callee.Symbol (symbol.Global g)) args back l = refl
-call_back m x to ret (callee.Symbol (symbol.Function k)) args back l = ap (λ (c : Callee). op.Call to ret c args) (back k (less_of k (length m.functions) l))
+call_back m x to ret (callee.Symbol (symbol.Function k)) args back l = ap (λ (c : Callee). op.Call to ret c args) (back k (true_less k (length m.functions) l))
 
 op_back : (m x : Module) (o : Op) → CallsBack m x → op_within m o ≡ true → not (is_image_line o) ≡ true → erased_op x (image_op m o) ≡ o
 op_back m x (op.Call to ret y args) back l p = call_back m x to ret y args back (first_of (callee_within m y) _ l)

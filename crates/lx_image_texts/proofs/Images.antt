@@ -1,6 +1,9 @@
 -- An image in which only spared stores lack their guards is one.
 use Rattle.std.proofs.Common.{◌≡◌, Bool, true, false, List, [], ◌∷◌, ◌++◌, map, take, length, Option, Some, None, inl, inr, refl, sym, subst, ap}
 use Rattle.std.specs.Prelude.{option_map}
+use Rattle.lx_words.proofs.Lists.{heads, tails, no_list}
+use Rattle.lx_words.proofs.Options.{some_same, none_some}
+use Rattle.lx_words.proofs.Tests.{true_false}
 use Rattle.lx_ir.specs.declared.module.Block.{Block}
 use Rattle.lx_ir.specs.declared.module.Function.{Function}
 use Rattle.lx_ir.specs.declared.module.Module.{Module}
@@ -24,21 +27,6 @@ stands_by m f o rest false s = inl refl
 code_marked : (leaves : Leaves) (m : Module) → Sparing leaves m → (f : Function) (os : List Op) → IsMarked m f os (image_code (leaves f) m os)
 code_marked leaves m s f [] = refl
 code_marked leaves m s f (o ∷ os) = (image_code (leaves f) m os, stands_by m f o (image_code (leaves f) m os) (leaves f o) (s f o), code_marked leaves m s f os)
-
-heads : {A : Type 0} {x y : A} {xs ys : List A} → ◌≡◌ {A = List A} (x ∷ xs) (y ∷ ys) → x ≡ y
-heads e = cc
-
-tails : {A : Type 0} {x y : A} {xs ys : List A} → ◌≡◌ {A = List A} (x ∷ xs) (y ∷ ys) → xs ≡ ys
-tails e = cc
-
-no_list : {A B : Type 0} {x : A} {xs : List A} → ◌≡◌ {A = List A} [] (x ∷ xs) → B
-no_list e = cc
-
-some_same : {A : Type 0} {x y : A} → ◌≡◌ {A = Option A} (Some x) (Some y) → x ≡ y
-some_same e = cc
-
-none_some : {A B : Type 0} {x : A} → ◌≡◌ {A = Option A} None (Some x) → B
-none_some e = cc
 
 blocks_marked : (leaves : Leaves) (m : Module) → Sparing leaves m → (f : Function) (bs cs : List Block) → map block_text cs ≡ map (image_block_text (leaves f) m) bs → AreMarked m f bs cs
 blocks_marked leaves m s f [] [] e = tt
@@ -78,9 +66,6 @@ functions_guarded leaves m s (f ∷ fs) (g ∷ gs) e = (function_guarded leaves 
 guards_but : (leaves : Leaves) (i : Interface) (m x : Module) → Sparing leaves m → IsPlain m → conflict_of i m ≡ None → GuardsBut leaves i m x → Guards i m x
 guards_but leaves i m x s p c g =
     record { plain = p; agrees = c; types = g.types; globals = g.globals; functions = functions_guarded leaves m s m.functions (take (length m.functions) x.functions) g.functions; wrappers = g.wrappers }
-
-true_false : {A : Type 0} → true ≡ false → A
-true_false e = cc
 
 pub full_guards : (i : Interface) (m x : Module) → IsPlain m → conflict_of i m ≡ None → GuardsBut leaves_none i m x → Guards i m x
 full_guards i m x p c g = guards_but leaves_none i m x (λ f o e. true_false (sym e)) p c g

@@ -3,6 +3,9 @@ use Rattle.std.proofs.Common.{◌≡◌, Bool, true, false, not, ◌&&◌, List,
 use Rattle.std.specs.Prelude.{◌⊎◌}
 use Rattle.std.specs.List.{list_all}
 use Rattle.std.specs.Option.{option_or}
+use Rattle.std.proofs.lemmas.Bool.{not-false, and_from}
+use Rattle.lx_words.proofs.Tests.{true_false, false_true, first_of, second_of}
+use Rattle.lx_words.proofs.Options.{some_none}
 use Rattle.lx_ir.specs.declared.module.Value.{Value}
 use Rattle.lx_ir.specs.declared.module.Value.TheVariants as value
 use Rattle.lx_ir.specs.declared.module.Function.{Function}
@@ -13,10 +16,10 @@ use Rattle.lx_ir.specs.declared.instr.Op.TheVariants as op
 use Rattle.lx_ir.specs.Lookup.{is_write}
 use Rattle.lx_ir.specs.Operands.{is_image_line}
 use Rattle.lx_ir.specs.Faults.{same_value}
+use Rattle.lx_ir.proofs.Equality.{value_is, value_itself}
 use Rattle.lx_image_texts.specs.Marks.{mark_of, size_value, is_narrow, without_marks}
 use Rattle.lx_image_texts.specs.Spared.{is_spared}
 use Rattle.lx_image_texts.specs.ImageFaults.{Kind, BareStore, GuardDiffers, BareIndirect, StrayGuard, kind_if, is_stray, same_narrow, same_mark, is_mark_of, differs, is_guarding, is_bare_store, is_checking, is_bare_call, mark_kind}
-use Rattle.lx_image_texts.proofs.Values.{false_true, first_of, second_of, both_of, values, value_itself}
 
 -- marks, and what wants one
 
@@ -41,14 +44,6 @@ WithMarks m f (o ∷ os) is = (rest : List Op) × StandsBefore m f o is rest × 
 -- no line that images alone have
 abbrev pub are_plain : List Op → Bool
 are_plain os = list_all (λ o. not (is_image_line o)) os
-
--- facts
-
-true_false : {A : Type 0} → true ≡ false → A
-true_false e = cc
-
-some_none : {A B : Type 0} {x : A} → ◌≡◌ {A = Option A} (Some x) None → B
-some_none e = cc
 
 -- kinds
 
@@ -95,10 +90,6 @@ unfaulted m f before o next c =
 
 -- marks
 
-not_false : (b : Bool) → not b ≡ false → b ≡ true
-not_false true e = refl
-not_false false e = true_false e
-
 narrow_is : (a b : Bool) → same_narrow a b ≡ true → a ≡ b
 narrow_is true true e = refl
 narrow_is true false e = false_true e
@@ -112,10 +103,10 @@ narrow_itself false = refl
 guard_is : (at size : Value) (narrow : Bool) (a s : Value) (n : Bool) → same_mark (op.Guard at size narrow) (op.Guard a s n) ≡ true → op.Guard at size narrow ≡ op.Guard a s n
 guard_is at size narrow a s n e =
     let front = first_of (same_value at a && same_value size s) (same_narrow narrow n) e in
-    λ j. op.Guard (values at a (first_of (same_value at a) (same_value size s) front) j) (values size s (second_of (same_value at a) (same_value size s) front) j) (narrow_is narrow n (second_of (same_value at a && same_value size s) (same_narrow narrow n) e) j)
+    λ j. op.Guard (value_is at a (first_of (same_value at a) (same_value size s) front) j) (value_is size s (second_of (same_value at a) (same_value size s) front) j) (narrow_is narrow n (second_of (same_value at a && same_value size s) (same_narrow narrow n) e) j)
 
 guard_itself : (at size : Value) (narrow : Bool) → same_mark (op.Guard at size narrow) (op.Guard at size narrow) ≡ true
-guard_itself at size narrow = both_of (same_value at at && same_value size size) (same_narrow narrow narrow) (both_of (same_value at at) (same_value size size) (value_itself at) (value_itself size)) (narrow_itself narrow)
+guard_itself at size narrow = and_from (same_value at at && same_value size size) (same_narrow narrow narrow) (and_from (same_value at at) (same_value size size) (value_itself at) (value_itself size)) (narrow_itself narrow)
 
 -- Code with its marks.
 
@@ -204,11 +195,11 @@ called_checked false c e = true_false e
 guard_stands : (m : Module) (f : Function) (at size : Value) (narrow : Bool) (a s : Value) (n : Bool) (w : Op) (rest : List Op) → mark_of w ≡ op.Guard a s n ∷ [] → not (is_mark_of (op.Guard at size narrow) (mark_of w)) ≡ false →
     op.Guard at size narrow ∷ w ∷ rest ≡ mark_of w ++ (w ∷ rest)
 guard_stands m f at size narrow a s n w rest em fits =
-    ap (λ (g : Op). g ∷ w ∷ rest) (guard_is at size narrow a s n (ap (is_mark_of (op.Guard at size narrow)) (sym em) ∙ not_false (is_mark_of (op.Guard at size narrow) (mark_of w)) fits))
+    ap (λ (g : Op). g ∷ w ∷ rest) (guard_is at size narrow a s n (ap (is_mark_of (op.Guard at size narrow)) (sym em) ∙ not-false (is_mark_of (op.Guard at size narrow) (mark_of w)) fits))
     ∙ ap (λ (ms : List Op). ms ++ (w ∷ rest)) (sym em)
 
 check_is : (t u : Value) → same_value t u ≡ true → op.Check t ≡ op.Check u
-check_is t u e = ap (λ (v : Value). op.Check v) (values t u e)
+check_is t u e = ap (λ (v : Value). op.Check v) (value_is t u e)
 
 stands_from : (m : Module) (f : Function) (is : List Op) (before : Option Op) → Unmarked before → first_mark_kind m f before is ≡ None → Stands m f is
 stands_from m f [] before u e = (refl, refl)
@@ -234,7 +225,7 @@ stands_from m f (op.Check target ∷ op.Call to ret (callee.Register r) args ∷
     let a = split m f before (op.Check target) (op.Call to ret (callee.Register r) args ∷ rest) e in
     let b = split m f (Some (op.Check target)) (op.Call to ret (callee.Register r) args) rest a.1 in
     let ih = stands_from m f rest (Some (op.Call to ret (callee.Register r) args)) (refl, refl) b.1 in
-    (ih.0, (rest, inl (ap (λ (g : Op). g ∷ op.Call to ret (callee.Register r) args ∷ rest) (check_is target (value.Register r) (not_false (same_value target (value.Register r)) a.0.fits))), ih.1))
+    (ih.0, (rest, inl (ap (λ (g : Op). g ∷ op.Call to ret (callee.Register r) args ∷ rest) (check_is target (value.Register r) (not-false (same_value target (value.Register r)) a.0.fits))), ih.1))
 stands_from m f (op.Check target ∷ op.Call to ret (callee.Symbol s) args ∷ rest) before u e = true_false (split m f before (op.Check target) (op.Call to ret (callee.Symbol s) args ∷ rest) e).0.stray
 stands_from m f (op.Check target ∷ w ∷ rest) before u e = true_false (split m f before (op.Check target) (w ∷ rest) e).0.stray
 stands_from m f (op.Enter s ∷ rest) before u e = some_none e

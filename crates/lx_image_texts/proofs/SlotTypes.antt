@@ -4,6 +4,10 @@ use Rattle.std.specs.Prelude.{slice_get, option_map, find, cond, nat_eq, flat_ma
 use Rattle.std.specs.List.{list_all, list_any}
 use Rattle.std.specs.Option.{option_or}
 use Rattle.std.proofs.lemmas.Option.{slice_get-map}
+use Rattle.std.proofs.lemmas.Grind.{flat_map-append}
+use Rattle.lx_words.proofs.Options.{some_same, none_some, some_none}
+use Rattle.lx_words.proofs.Lists.{split_at, map_append, no_more}
+use Rattle.lx_words.proofs.Tests.{false_true, first_of, second_of}
 use Rattle.lx_ir.specs.declared.types.NamedType.{NamedType}
 use Rattle.lx_ir.specs.declared.module.Symbol.TheVariants as symbol
 use Rattle.lx_ir.specs.declared.module.Pointer.TheVariants as pointer
@@ -28,26 +32,13 @@ use Rattle.lx_propagate.specs.Slots.{Conflict, conflict, other_slot, conflict_wi
 use Rattle.lx_image_texts.specs.Marks.{mark_of, image_op}
 use Rattle.lx_image_texts.specs.Guards.{unlined_global, ops_of, IsMarked, AreMarked, HasMarks, IsGuarded, AreGuarded, Guards}
 use Rattle.lx_image_texts.specs.ImageFaults.{without_body, without_wrappers}
-use Rattle.lx_image_texts.proofs.Values.{false_true, first_of, second_of}
-use Rattle.lx_image_texts.proofs.Erasing.{some_same, none_some, split_at, names_of, is_program_name, guarded_names, drop_names, plain_functions, all_own}
+use Rattle.lx_image_texts.proofs.Erasing.{names_of, is_program_name, guarded_names, drop_names, plain_functions, all_own}
 
 -- lists
-
-assoc : {A : Type 0} (xs ys zs : List A) → xs ++ (ys ++ zs) ≡ (xs ++ ys) ++ zs
-assoc [] ys zs = refl
-assoc (x ∷ xs) ys zs = ap (λ ws. x ∷ ws) (assoc xs ys zs)
-
-flat_join : {A B : Type 0} (h : A → List B) (xs ys : List A) → flat_map h (xs ++ ys) ≡ flat_map h xs ++ flat_map h ys
-flat_join h [] ys = refl
-flat_join h (x ∷ xs) ys = ap (λ zs. h x ++ zs) (flat_join h xs ys) ∙ assoc (h x) (flat_map h xs) (flat_map h ys)
 
 flat_of_map : {A B C : Type 0} (h : B → List C) (f : A → B) (xs : List A) → flat_map (λ x. h (f x)) xs ≡ flat_map h (map f xs)
 flat_of_map h f [] = refl
 flat_of_map h f (x ∷ xs) = ap (λ zs. h (f x) ++ zs) (flat_of_map h f xs)
-
-pub map_join : {A B : Type 0} (f : A → B) (xs ys : List A) → map f (xs ++ ys) ≡ map f xs ++ map f ys
-map_join f [] ys = refl
-map_join f (x ∷ xs) ys = ap (λ zs. f x ∷ zs) (map_join f xs ys)
 
 -- what an instruction adds, where marks and calls add nothing
 abbrev Silent : {B : Type 0} → (Op → List B) → Type 0
@@ -79,7 +70,7 @@ blocks_same h s m f (b ∷ bs) [] k = absurd k
 by_blocks : {B : Type 0} (h : Op → List B) (bs : List Block) → flat_map (λ (i : Instr). h i.op) (flat_map (λ (b : Block). b.instrs) bs) ≡ flat_map (λ (b : Block). flat_map h (ops_of b)) bs
 by_blocks h [] = refl
 by_blocks h (b ∷ bs) =
-    flat_join (λ (i : Instr). h i.op) b.instrs (flat_map (λ (b : Block). b.instrs) bs) ∙ (λ j. flat_of_map h (λ (i : Instr). i.op) b.instrs j ++ by_blocks h bs j)
+    flat_map-append (λ (i : Instr). h i.op) b.instrs (flat_map (λ (b : Block). b.instrs) bs) ∙ (λ j. flat_of_map h (λ (i : Instr). i.op) b.instrs j ++ by_blocks h bs j)
 
 bodies_same : {B : Type 0} (h : Op → List B) → Silent h → (m : Module) (f : Function) (bs cs : Option (List Block)) → HasMarks m f bs cs → flat_map (λ (i : Instr). h i.op) (flat_map (λ (b : Block). b.instrs) (blocks_of_option cs)) ≡ flat_map (λ (i : Instr). h i.op) (flat_map (λ (b : Block). b.instrs) (blocks_of_option bs))
 bodies_same h s m f None None k = refl
@@ -213,12 +204,8 @@ no_sites y (w ∷ ws) p =
     λ j. (ap (λ (z : Function). function_sites y (instrs_of z)) (wrapper_body w (is_own_name w.name) refl (first_of (not (is_program_name w.name)) (list_all (λ n. not (is_program_name n)) (names_of ws)) p))) j
     ++ no_sites y ws (second_of (not (is_program_name w.name)) (list_all (λ n. not (is_program_name n)) (names_of ws)) p) j
 
-pub no_more : {A : Type 0} (xs : List A) → xs ++ [] ≡ xs
-no_more [] = refl
-no_more (x ∷ xs) = ap (λ ys. x ∷ ys) (no_more xs)
-
 pub parts_map : (n : ℕ) (xs : List Function) → map without_body xs ≡ map without_body (take n xs) ++ map without_body (drop n xs)
-parts_map n xs = ap (map without_body) (sym (split_at n xs)) ∙ map_join without_body (take n xs) (drop n xs)
+parts_map n xs = ap (map without_body) (sym (split_at n xs)) ∙ map_append without_body (take n xs) (drop n xs)
 
 init_is : (a b : List GlobalVar) → map unlined_global a ≡ map unlined_global b → flat_map (λ g. init_sites g.ty g.init) a ≡ flat_map (λ g. init_sites g.ty g.init) b
 init_is a b e =
@@ -228,7 +215,7 @@ pub same_sites : (i : Interface) (m x : Module) → Half m x → sites_of (witho
 same_sites i m x k =
     λ j. init_is x.globals m.globals k.globals j
     ++ (ap (flat_map (λ (f : Function). function_sites (without_wrappers x) (instrs_of f))) (parts_map (length m.functions) x.functions)
-    ∙ (flat_join (λ (f : Function). function_sites (without_wrappers x) (instrs_of f)) (map without_body (take (length m.functions) x.functions)) (map without_body (drop (length m.functions) x.functions))
+    ∙ (flat_map-append (λ (f : Function). function_sites (without_wrappers x) (instrs_of f)) (map without_body (take (length m.functions) x.functions)) (map without_body (drop (length m.functions) x.functions))
     ∙ ((λ l. all_sites i m x k m.functions (take (length m.functions) x.functions) k.functions (k.program) l ++ no_sites (without_wrappers x) (drop (length m.functions) x.functions) (k.own) l)
     ∙ no_more (flat_map (λ (f : Function). function_sites m (instrs_of f)) m.functions)))) j
 
@@ -279,9 +266,6 @@ half_annotated i m x k =
     (no_marks i (without_wrappers x) (drop (length m.functions) x.functions) (k.own))
 
 -- conflicts
-
-some_none : {A B : Type 0} {x : A} → ◌≡◌ {A = Option A} (Some x) None → B
-some_none e = cc
 
 either_none : (a b : Option Conflict) → option_or a b ≡ None → (a ≡ None) × (b ≡ None)
 either_none None b e = (refl, e)

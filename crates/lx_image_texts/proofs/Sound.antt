@@ -1,9 +1,13 @@
 -- A text without a fault is the image of the program that erasing gives.
-use Rattle.std.proofs.Common.{◌≡◌, ℕ, zero, suc, ◌+◌, ◌<◌, Bool, true, false, not, ◌||◌, List, [], ◌∷◌, ◌++◌, length, map, take, drop, Option, Some, None, refl, sym, subst, ◌∙◌, ap, arith}
+use Rattle.std.proofs.Common.{◌≡◌, ℕ, zero, suc, ◌+◌, Bool, true, false, not, ◌||◌, List, [], ◌∷◌, ◌++◌, length, map, take, drop, Option, Some, None, refl, sym, subst, ◌∙◌, ap, arith}
 use Rattle.std.specs.Prelude.{bytes_eq, cond, filter, codes, slice_get, slice_index_or, option_map, flat_map, nat_lt}
 use Rattle.std.specs.List.{list_all, list_any}
 use Rattle.std.specs.Option.{option_or}
 use Rattle.std.proofs.lemmas.Option.{slice_get_within}
+use Rattle.std.proofs.lemmas.Bool.{or_parts, and_from, not-true}
+use Rattle.lx_words.proofs.Lists.{map_length, all_joined, there_is, all_filter}
+use Rattle.lx_words.proofs.Options.{some_same, none_some, neither_some, some_none, map_none}
+use Rattle.lx_words.proofs.Tests.{true_false, true_less, less_true, false_true, first_of, second_of}
 use Rattle.lx_ir.specs.declared.module.Symbol.TheVariants as symbol
 use Rattle.lx_ir.specs.declared.module.Pointer.{Pointer}
 use Rattle.lx_ir.specs.declared.module.Pointer.TheVariants as pointer
@@ -34,25 +38,14 @@ use Rattle.lx_image_texts.specs.WrapperText.{unlined}
 use Rattle.lx_image_texts.specs.ImageFaults.{ImageFault, Kind, BodyReached, kind_if, mark_kind, kind_at, may_call, calls_well, pointer_mentions, constant_mentions, value_mentions, reaches_body, first_op, fault_at, fault_in_block, fault_in_blocks, fault_in_function, init_mentions, inits_mention, global_fault, wrapper_fault, import_fault, missing_fault, misplaced, defined_names, conflict_fault, without_wrappers, right_wrappers, whole_fault, first_image_fault}
 use Rattle.lx_image_texts.specs.Erased.{erased_number, erased_callee, erased_op, erased_code, erased_block, erased_text, erased_functions, is_of_program}
 use Rattle.lx_image_texts.specs.Programs.{program_block, program_function, program_of, constant_within, value_within, callee_within, call_within, op_within, init_within, inits_within, IsClosed}
-use Rattle.lx_image_texts.proofs.Values.{false_true, first_of, second_of, both_of}
-use Rattle.lx_image_texts.proofs.Erasing.{some_same, none_some, names_of, is_program_name, all_first, all_second, all_joined, there_is}
+use Rattle.lx_image_texts.proofs.Erasing.{names_of, is_program_name, all_first, all_second}
 use Rattle.lx_image_texts.proofs.MarkedCode.{head_of, first_mark_kind, none_marked}
 use Rattle.lx_image_texts.proofs.SlotTypes.{Half, agrees_back}
-use Rattle.lx_image_texts.proofs.Ordering.{or_none, none_or, filter_yes, filter_no, sorted}
+use Rattle.lx_image_texts.proofs.Ordering.{none_or, sorted}
 use Rattle.lx_image_texts.proofs.Distinct.{Each}
-use Rattle.lx_image_texts.proofs.Wrapping.{each_filter, filter_own, filter_program, wrapped, not_is}
-use Rattle.lx_image_texts.proofs.Back.{Text, program, wrappers, length_map, in_program, in_module, callee_back, operands_kept, marked_back}
+use Rattle.lx_image_texts.proofs.Wrapping.{each_filter, filter_own, filter_program, wrapped}
+use Rattle.lx_image_texts.proofs.Back.{Text, program, wrappers, in_program, in_module, callee_back, operands_kept, marked_back}
 use Rattle.lx_image_texts.proofs.Right.{right_is}
-
-some_none : {A B : Type 0} {x : A} → ◌≡◌ {A = Option A} (Some x) None → B
-some_none e = cc
-
-true_false : {A : Type 0} → true ≡ false → A
-true_false e = cc
-
-map_none : {A B : Type 0} (f : A → B) (o : Option A) → option_map f o ≡ None → o ≡ None
-map_none f None e = refl
-map_none f (Some a) e = some_none e
 
 kind_none : (b : Bool) (k : Kind) → kind_if b k ≡ None → not b ≡ true
 kind_none true k e = some_none e
@@ -71,12 +64,12 @@ head_same (i ∷ is) = refl
 clean_block : (x : Module) (f : Function) (place : ℕ) (before : Option Op) (is : List Instr) → fault_in_block x f place before is ≡ None → Clean x f before (map (λ (i : Instr). i.op) is)
 clean_block x f place before [] e = record { marks = refl; reach = refl }
 clean_block x f place before (i ∷ is) e =
-    let n = or_none (option_map (fault_at f place i) (kind_at x f before i.op (first_op is))) (fault_in_block x f (suc place) (Some i.op) is) e in
-    let p = or_none (mark_kind x f before i.op (first_op is)) (kind_if (reaches_body x i.op) BodyReached) (map_none (fault_at f place i) (kind_at x f before i.op (first_op is)) n.0) in
+    let n = neither_some (option_map (fault_at f place i) (kind_at x f before i.op (first_op is))) (fault_in_block x f (suc place) (Some i.op) is) e in
+    let p = neither_some (mark_kind x f before i.op (first_op is)) (kind_if (reaches_body x i.op) BodyReached) (map_none (fault_at f place i) (kind_at x f before i.op (first_op is)) n.0) in
     let ih = clean_block x f (suc place) (Some i.op) is n.1 in
     record {
       marks = none_or (mark_kind x f before i.op (head_of (map (λ (i : Instr). i.op) is))) (first_mark_kind x f (Some i.op) (map (λ (i : Instr). i.op) is)) (ap (mark_kind x f before i.op) (sym (head_same is)) ∙ p.0) ih.marks;
-      reach = both_of (not (reaches_body x i.op)) (list_all (λ (o : Op). not (reaches_body x o)) (map (λ (i : Instr). i.op) is)) (kind_none (reaches_body x i.op) BodyReached p.1) ih.reach;
+      reach = and_from (not (reaches_body x i.op)) (list_all (λ (o : Op). not (reaches_body x o)) (map (λ (i : Instr). i.op) is)) (kind_none (reaches_body x i.op) BodyReached p.1) ih.reach;
     }
 
 -- a block of a function, and what lawfulness gives of it
@@ -87,7 +80,7 @@ record Good (x : Module) (f : Function) (b : Block) : Type 0 where
 good_blocks : (x : Module) (f : Function) (place : ℕ) (bs : List Block) → fault_in_blocks x f place bs ≡ None → list_all (λ (i : Instr). op_within x i.op) (flat_map (λ (b : Block). b.instrs) bs) ≡ true → Each (Good x f) bs
 good_blocks x f place [] e w = tt
 good_blocks x f place (b ∷ bs) e w =
-    let n = or_none (fault_in_block x f place None b.instrs) (fault_in_blocks x f (length b.instrs + place) bs) e in (
+    let n = neither_some (fault_in_block x f place None b.instrs) (fault_in_blocks x f (length b.instrs + place) bs) e in (
       record { clean = clean_block x f place None b.instrs n.0; within = all_first (λ (i : Instr). op_within x i.op) b.instrs (flat_map (λ (b : Block). b.instrs) bs) w },
       good_blocks x f (length b.instrs + place) bs n.1 (all_second (λ (i : Instr). op_within x i.op) b.instrs (flat_map (λ (b : Block). b.instrs) bs) w),
     )
@@ -101,22 +94,14 @@ good_function x f e w own = good_blocks x f 0 (blocks_of f) (sym (λ j. cond (ow
 good_functions : (x : Module) (fs : List Function) → first_some (fault_in_function x) fs ≡ None → list_all (λ (i : Instr). op_within x i.op) (flat_map instrs_of fs) ≡ true → Each (GoodFunction x) fs
 good_functions x [] e w = tt
 good_functions x (f ∷ fs) e w =
-    let n = or_none (fault_in_function x f) (first_some (fault_in_function x) fs) e in
+    let n = neither_some (fault_in_function x f) (first_some (fault_in_function x) fs) e in
     (good_function x f n.0 (all_first (λ (i : Instr). op_within x i.op) (instrs_of f) (flat_map instrs_of fs) w), good_functions x fs n.1 (all_second (λ (i : Instr). op_within x i.op) (instrs_of f) (flat_map instrs_of fs) w))
 
 -- what is left of code
 
-all_filter_by : {A : Type 0} (p q : A → Bool) (x : A) (xs : List A) (b : Bool) → q x ≡ b → p x ≡ true → list_all p (filter q xs) ≡ true → list_all p (filter q (x ∷ xs)) ≡ true
-all_filter_by p q x xs true e h ih = ap (list_all p) (filter_yes q x xs e) ∙ both_of (p x) (list_all p (filter q xs)) h ih
-all_filter_by p q x xs false e h ih = ap (list_all p) (filter_no q x xs e) ∙ ih
-
-all_filter : {A : Type 0} (p q : A → Bool) (xs : List A) → list_all p xs ≡ true → list_all p (filter q xs) ≡ true
-all_filter p q [] h = refl
-all_filter p q (x ∷ xs) h = all_filter_by p q x xs (q x) refl (first_of (p x) (list_all p xs) h) (all_filter p q xs (second_of (p x) (list_all p xs) h))
-
 all_each : {A : Type 0} (p q : A → Bool) (xs : List A) → ((x : A) → p x ≡ true → q x ≡ true) → list_all p xs ≡ true → list_all q xs ≡ true
 all_each p q [] k h = refl
-all_each p q (x ∷ xs) k h = both_of (q x) (list_all q xs) (k x (first_of (p x) (list_all p xs) h)) (all_each p q xs k (second_of (p x) (list_all p xs) h))
+all_each p q (x ∷ xs) k h = and_from (q x) (list_all q xs) (k x (first_of (p x) (list_all p xs) h)) (all_each p q xs k (second_of (p x) (list_all p xs) h))
 
 well_called : (c r : Bool) → not (not c || r) ≡ true → c ≡ true
 well_called true r e = refl
@@ -142,7 +127,7 @@ body_marked i x t f (Some bs) h = blocks_marked i x t f bs h
 are_guarded : (i : Interface) (x : Module) → Text i x → (fs : List Function) → Each (GoodFunction x) fs → list_all is_program_name (names_of fs) ≡ true → AreGuarded (program_of x) (map (program_function x) fs) fs
 are_guarded i x t [] h p = refl
 are_guarded i x t (f ∷ fs) h p = (
-  record { name = refl; params = refl; locals = refl; ret = refl; body = body_marked i x t f f.blocks (h.0 (not_is (is_own_name f.name) (first_of (is_program_name f.name) (list_all is_program_name (names_of fs)) p))) },
+  record { name = refl; params = refl; locals = refl; ret = refl; body = body_marked i x t f f.blocks (h.0 (not-true (is_own_name f.name) (first_of (is_program_name f.name) (list_all is_program_name (names_of fs)) p))) },
   are_guarded i x t fs h.1 (second_of (is_program_name f.name) (list_all is_program_name (names_of fs)) p),
 )
 
@@ -159,13 +144,13 @@ Holds x p = (o : Op) → Left x o → p (erased_op x o) ≡ true
 code_holds : (x : Module) (p : Op → Bool) → Holds x p → (os : List Op) → list_all (λ (o : Op). not (is_image_line o)) os ≡ true → list_all (λ (o : Op). not (reaches_body x o)) os ≡ true → list_all (op_within x) os ≡ true → list_all (λ (i : Instr). p i.op) (map unlined (map (erased_op x) os)) ≡ true
 code_holds x p h [] a b c = refl
 code_holds x p h (o ∷ os) a b c =
-    both_of (p (erased_op x o)) (list_all (λ (i : Instr). p i.op) (map unlined (map (erased_op x) os)))
+    and_from (p (erased_op x o)) (list_all (λ (i : Instr). p i.op) (map unlined (map (erased_op x) os)))
     (h o (record { plain = first_of (not (is_image_line o)) _ a; reach = first_of (not (reaches_body x o)) _ b; within = first_of (op_within x o) _ c }))
     (code_holds x p h os (second_of (not (is_image_line o)) _ a) (second_of (not (reaches_body x o)) _ b) (second_of (op_within x o) _ c))
 
 pub all_ops : (p : Op → Bool) (is : List Instr) → list_all (λ (i : Instr). p i.op) is ≡ true → list_all p (map (λ (i : Instr). i.op) is) ≡ true
 all_ops p [] a = refl
-all_ops p (i ∷ is) a = both_of (p i.op) (list_all p (map (λ (i : Instr). i.op) is)) (first_of (p i.op) (list_all (λ (i : Instr). p i.op) is) a) (all_ops p is (second_of (p i.op) (list_all (λ (i : Instr). p i.op) is) a))
+all_ops p (i ∷ is) a = and_from (p i.op) (list_all p (map (λ (i : Instr). i.op) is)) (first_of (p i.op) (list_all (λ (i : Instr). p i.op) is) a) (all_ops p is (second_of (p i.op) (list_all (λ (i : Instr). p i.op) is) a))
 
 blocks_hold : (x : Module) (p : Op → Bool) → Holds x p → (f : Function) (bs : List Block) → Each (Good x f) bs → list_all (λ (i : Instr). p i.op) (flat_map (λ (b : Block). b.instrs) (map (program_block x) bs)) ≡ true
 blocks_hold x p h f [] g = refl
@@ -182,7 +167,7 @@ functions_hold : (x : Module) (p : Op → Bool) → Holds x p → (fs : List Fun
 functions_hold x p h [] g n = refl
 functions_hold x p h (f ∷ fs) g n =
     all_joined (λ (i : Instr). p i.op) (instrs_of (program_function x f)) (flat_map instrs_of (map (program_function x) fs))
-    (body_holds x p h f f.blocks (g.0 (not_is (is_own_name f.name) (first_of (is_program_name f.name) (list_all is_program_name (names_of fs)) n))))
+    (body_holds x p h f f.blocks (g.0 (not-true (is_own_name f.name) (first_of (is_program_name f.name) (list_all is_program_name (names_of fs)) n))))
     (functions_hold x p h fs g.1 (second_of (is_program_name f.name) (list_all is_program_name (names_of fs)) n))
 
 plain_holds : (x : Module) → Holds x (λ (o : Op). not (is_image_line o))
@@ -191,12 +176,6 @@ plain_holds x o l = l.plain
 
 -- its symbols are its own
 
-pub less_of : (j k : ℕ) → nat_lt j k ≡ true → j < k
-less_of j k e = grind (arith, e)
-
-of_less : (j k : ℕ) → j < k → nat_lt j k ≡ true
-of_less j k e = grind (arith, e)
-
 pub named : (fs : List Function) (k : ℕ) (f : Function) → slice_get fs k ≡ Some f → slice_index_or (names_of fs) k [] ≡ f.name
 named [] k f e = none_some e
 named (g ∷ fs) zero f e = ap (λ (h : Function). h.name) (some_same e)
@@ -204,9 +183,9 @@ named (g ∷ fs) (suc k) f e = named fs k f e
 
 pointer_left : (i : Interface) (x : Module) → Text i x → (p : Pointer) → is_lawful_pointer x p ≡ true → pointer_mentions x p ≡ false → is_lawful_pointer (program_of x) p ≡ true
 pointer_left i x t (pointer.Symbol (symbol.Function k) n) l e =
-    let f = there_is x.functions k (less_of k (length x.functions) l) in
+    let f = there_is x.functions k (true_less k (length x.functions) l) in
     let own : is_own_name f.0.name ≡ false = ap is_own_name (sym (named x.functions k f.0 f.1)) ∙ e in
-    of_less k (length (program_of x).functions) (slice_get_within (program_of x).functions k (program_function x f.0) (in_module x k f.0 (in_program i x t k f.0 f.1 own)))
+    less_true k (length (program_of x).functions) (slice_get_within (program_of x).functions k (program_function x f.0) (in_module x k f.0 (in_program i x t k f.0 f.1 own)))
 pointer_left i x t (pointer.Symbol (symbol.Global k) n) l e = l
 pointer_left i x t p l e = refl
 
@@ -219,15 +198,11 @@ value_left : (i : Interface) (x : Module) → Text i x → (v : Value) → value
 value_left i x t (value.Register r) l e = refl
 value_left i x t (value.Constant c) l e = constant_left i x t c l e
 
-or_none_false : (a b : Bool) → (a || b) ≡ false → (a ≡ false) × (b ≡ false)
-or_none_false true b e = true_false e
-or_none_false false b e = (refl, e)
-
 values_left : (i : Interface) (x : Module) → Text i x → (xs : List Argument) → list_all (λ (a : Argument). value_within x a.value) xs ≡ true → list_any (λ (a : Argument). value_mentions x a.value) xs ≡ false → list_all (λ (a : Argument). value_within (program_of x) a.value) xs ≡ true
 values_left i x t [] l e = refl
 values_left i x t (a ∷ xs) l e =
-    let n = or_none_false (value_mentions x a.value) (list_any (λ (a : Argument). value_mentions x a.value) xs) e in
-    both_of (value_within (program_of x) a.value) (list_all (λ (a : Argument). value_within (program_of x) a.value) xs)
+    let n = or_parts (value_mentions x a.value) (list_any (λ (a : Argument). value_mentions x a.value) xs) e in
+    and_from (value_within (program_of x) a.value) (list_all (λ (a : Argument). value_within (program_of x) a.value) xs)
     (value_left i x t a.value (first_of (value_within x a.value) (list_all (λ (a : Argument). value_within x a.value) xs) l) n.0)
     (values_left i x t xs (second_of (value_within x a.value) (list_all (λ (a : Argument). value_within x a.value) xs) l) n.1)
 
@@ -237,7 +212,7 @@ no_global y = true
 
 number_left : (i : Interface) (x : Module) (j k : ℕ) (o : Option Function) → slice_get (program_of x).functions j ≡ o → callee_for (program_of x) j o ≡ callee.Symbol (symbol.Function k) → nat_lt j (length (program_of x).functions) ≡ true
 number_left i x j k None e back = true_false (sym (ap no_global back))
-number_left i x j k (Some f) e back = of_less j (length (program_of x).functions) (slice_get_within (program_of x).functions j f e)
+number_left i x j k (Some f) e back = less_true j (length (program_of x).functions) (slice_get_within (program_of x).functions j f e)
 
 callee_left : (i : Interface) (x : Module) → Text i x → (y : Callee) → may_call x y ≡ true → callee_within (program_of x) (erased_callee x y) ≡ true
 callee_left i x t (callee.Register r) may = refl
@@ -255,7 +230,7 @@ not_reached false r e = false_true e
 
 within_holds : (i : Interface) (x : Module) → Text i x → Holds x (op_within (program_of x))
 within_holds i x t o l =
-    both_of (call_within (program_of x) (erased_op x o)) (list_all (λ (a : Argument). value_within (program_of x) a.value) (operands_of (erased_op x o)))
+    and_from (call_within (program_of x) (erased_op x o)) (list_all (λ (a : Argument). value_within (program_of x) a.value) (operands_of (erased_op x o)))
     (call_left i x t o (well_called (calls_well x o) (list_any (λ a. value_mentions x a.value) (operands_of o)) l.reach))
     (ap (list_all (λ (a : Argument). value_within (program_of x) a.value)) (operands_kept x o)
     ∙ values_left i x t (operands_of o) (second_of (call_within x o) (list_all (λ a. value_within x a.value) (operands_of o)) l.within) (not_reached (calls_well x o) (list_any (λ a. value_mentions x a.value) (operands_of o)) l.reach))
@@ -276,25 +251,25 @@ mutual
   inits_left : (i : Interface) (x : Module) → Text i x → (ns : Inits) → inits_within x ns ≡ true → inits_mention x ns ≡ false → inits_within (program_of x) ns ≡ true
   inits_left i x t no_more l e = refl
   inits_left i x t (more n ns) l e =
-      both_of (init_within (program_of x) n) (inits_within (program_of x) ns)
-      (init_left i x t n (first_of (init_within x n) (inits_within x ns) l) (or_none_false (init_mentions x n) (inits_mention x ns) e).0)
-      (inits_left i x t ns (second_of (init_within x n) (inits_within x ns) l) (or_none_false (init_mentions x n) (inits_mention x ns) e).1)
+      and_from (init_within (program_of x) n) (inits_within (program_of x) ns)
+      (init_left i x t n (first_of (init_within x n) (inits_within x ns) l) (or_parts (init_mentions x n) (inits_mention x ns) e).0)
+      (inits_left i x t ns (second_of (init_within x n) (inits_within x ns) l) (or_parts (init_mentions x n) (inits_mention x ns) e).1)
 
 globals_left : (i : Interface) (x : Module) → Text i x → (gs : List GlobalVar) → first_some (global_fault x) gs ≡ None → list_all (λ (g : GlobalVar). init_within x g.init) gs ≡ true → list_all (λ (g : GlobalVar). init_within (program_of x) g.init) gs ≡ true
 globals_left i x t [] e l = refl
 globals_left i x t (g ∷ gs) e l =
-    let n = or_none (global_fault x g) (first_some (global_fault x) gs) e in
-    let both = or_none_false (is_own_name g.name) (init_mentions x g.init) (not_both (is_own_name g.name || init_mentions x g.init) (wrapper_fault g.line g.name 0) n.0) in
-    both_of (init_within (program_of x) g.init) (list_all (λ (g : GlobalVar). init_within (program_of x) g.init) gs)
+    let n = neither_some (global_fault x g) (first_some (global_fault x) gs) e in
+    let both = or_parts (is_own_name g.name) (init_mentions x g.init) (not_both (is_own_name g.name || init_mentions x g.init) (wrapper_fault g.line g.name 0) n.0) in
+    and_from (init_within (program_of x) g.init) (list_all (λ (g : GlobalVar). init_within (program_of x) g.init) gs)
     (init_left i x t g.init (first_of (init_within x g.init) (list_all (λ (g : GlobalVar). init_within x g.init) gs) l) both.1)
     (globals_left i x t gs n.1 (second_of (init_within x g.init) (list_all (λ (g : GlobalVar). init_within x g.init) gs) l))
 
 global_names : (x : Module) (gs : List GlobalVar) → first_some (global_fault x) gs ≡ None → list_all is_program_name (map (λ (g : GlobalVar). g.name) gs) ≡ true
 global_names x [] e = refl
 global_names x (g ∷ gs) e =
-    let n = or_none (global_fault x g) (first_some (global_fault x) gs) e in
-    both_of (is_program_name g.name) (list_all is_program_name (map (λ (g : GlobalVar). g.name) gs))
-    (ap not (or_none_false (is_own_name g.name) (init_mentions x g.init) (not_both (is_own_name g.name || init_mentions x g.init) (wrapper_fault g.line g.name 0) n.0)).0)
+    let n = neither_some (global_fault x g) (first_some (global_fault x) gs) e in
+    and_from (is_program_name g.name) (list_all is_program_name (map (λ (g : GlobalVar). g.name) gs))
+    (ap not (or_parts (is_own_name g.name) (init_mentions x g.init) (not_both (is_own_name g.name || init_mentions x g.init) (wrapper_fault g.line g.name 0) n.0)).0)
     (global_names x gs n.1)
 
 names_kept : (x : Module) (fs : List Function) → names_of (map (program_function x) fs) ≡ names_of fs
@@ -328,10 +303,10 @@ record Whole (i : Interface) (x : Module) : Type 0 where
 
 whole : (i : Interface) (x : Module) → whole_fault i x ≡ None → Whole i x
 whole i x e =
-    let a = or_none (first_some (global_fault x) x.globals) _ e in
-    let b = or_none (first_some import_fault x.functions) _ a.1 in
-    let c = or_none (first_some (missing_fault x) (right_wrappers i x)) _ b.1 in
-    let d = or_none (misplaced (defined_names x.functions ++ map (λ w. w.name) (right_wrappers i x)) (filter is_defined x.functions)) _ c.1 in
+    let a = neither_some (first_some (global_fault x) x.globals) _ e in
+    let b = neither_some (first_some import_fault x.functions) _ a.1 in
+    let c = neither_some (first_some (missing_fault x) (right_wrappers i x)) _ b.1 in
+    let d = neither_some (misplaced (defined_names x.functions ++ map (λ w. w.name) (right_wrappers i x)) (filter is_defined x.functions)) _ c.1 in
     record { globals = a.0; imports = b.0; missing = c.0; placed = d.0; agrees = map_none conflict_fault (conflict_of i (without_wrappers x)) d.1 }
 
 -- what erasing gives
@@ -355,13 +330,13 @@ program_text x = erased_program x (program x)
 
 pub sound : (i : Interface) (x : Module) → IsClosed x → is_distinct (names_of x.functions) ≡ true → Rattle.lx_ir.specs.Lawful.imports_first x.functions ≡ true → first_image_fault i x ≡ None → Guards i (program_of x) x × IsClosed (program_of x)
 sound i x closed distinct first e =
-    let n = or_none (first_some (fault_in_function x) x.functions) (whole_fault i x) e in
+    let n = neither_some (first_some (fault_in_function x) x.functions) (whole_fault i x) e in
     let w = whole i x n.1 in
     let s = sorted x.functions (map (λ w. w.name) (right_wrappers i x)) first w.imports w.placed in
     let t : Text i x = record { parts = s.1.parts; wrapped = wrapped i x s.0 distinct w.missing s.1.names; distinct = distinct } in
     let good = each_filter (GoodFunction x) is_of_program x.functions (good_functions x x.functions n.0 closed.lines) in
     let guarded : AreGuarded (program_of x) (program_of x).functions (program x) = are_guarded i x t (program x) good (filter_program x.functions) in
-    let count : length (program_of x).functions ≡ length (program x) = length_map (program_function x) (program x) in
+    let count : length (program_of x).functions ≡ length (program x) = map_length (program_function x) (program x) in
     let front : take (length (program_of x).functions) x.functions ≡ program x = ap (take (length (program_of x).functions)) t.parts ∙ take_front (program x) (program_of x).functions (wrappers x) count in
     let rest : drop (length (program_of x).functions) x.functions ≡ wrappers x = ap (drop (length (program_of x).functions)) t.parts ∙ drop_front (program x) (program_of x).functions (wrappers x) count in
     let half : Half (program_of x) x = record {

@@ -2,6 +2,11 @@
 use Rattle.std.proofs.Common.{◌≡◌, ℕ, Bool, true, false, not, ◌&&◌, ◌||◌, List, [], ◌∷◌, ◌++◌, map, Option, Some, None, inl, inr, refl, sym, ◌∙◌, ap, nat_eq}
 use Rattle.std.specs.Prelude.{zero, suc, flat_map, slice_get, length, take}
 use Rattle.std.specs.List.{list_all, list_any}
+use Rattle.std.proofs.lemmas.List.Folds.{list_any-append}
+use Rattle.std.proofs.lemmas.Bool.{and_from}
+use Rattle.lx_words.proofs.Options.{some_same, none_some}
+use Rattle.lx_words.proofs.Tests.{or_assoc, false_true, first_of, second_of}
+use Rattle.lx_words.proofs.Lists.{any_mapped as any_map}
 use Rattle.lx_ir.specs.declared.types.NamedType.{NamedType}
 use Rattle.lx_ir.specs.declared.types.Scalar.{Scalar}
 use Rattle.lx_ir.specs.declared.module.Value.{Value}
@@ -20,27 +25,14 @@ use Rattle.lx_ir.specs.Layout.{scalar_size}
 use Rattle.lx_ir.specs.Lookup.{blocks_of_option, instrs_of}
 use Rattle.lx_ir.specs.Operands.{callee_operands, is_image_line}
 use Rattle.lx_annot.specs.declared.interface.Interface.{Interface}
-use Rattle.lx_image_texts.proofs.Values.{false_true, first_of, second_of, both_of}
-use Rattle.lx_image_texts.proofs.Erasing.{some_same, none_some, all_first, all_second}
+use Rattle.lx_image_texts.proofs.Erasing.{all_first, all_second}
 use Rattle.lx_image_texts.specs.Marks.{mark_of, image_op, image_callee, callee_for, callee_if, is_wrapped}
 use Rattle.lx_image_texts.specs.Spared.{reads, uses_as_address, allocates, keeps_address, is_spared_at, is_spared_in, is_spared}
 use Rattle.lx_image_texts.specs.Guards.{ops_of, IsMarked, AreMarked, HasMarks, IsGuarded, AreGuarded, Guards}
 
-or_assoc : (a b c : Bool) → (a || (b || c)) ≡ ((a || b) || c)
-or_assoc true b c = refl
-or_assoc false b c = refl
-
 or_twice : (a b : Bool) → (a || (a || b)) ≡ (a || b)
 or_twice true b = refl
 or_twice false b = refl
-
-pub any_join : {A : Type 0} (p : A → Bool) (xs ys : List A) → list_any p (xs ++ ys) ≡ (list_any p xs || list_any p ys)
-any_join p [] ys = refl
-any_join p (x ∷ xs) ys = ap (λ (b : Bool). p x || b) (any_join p xs ys) ∙ or_assoc (p x) (list_any p xs) (list_any p ys)
-
-any_map : {A B : Type 0} (p : B → Bool) (f : A → B) (xs : List A) → list_any (λ x. p (f x)) xs ≡ list_any p (map f xs)
-any_map p f [] = refl
-any_map p f (x ∷ xs) = ap (λ (b : Bool). p (f x) || b) (any_map p f xs)
 
 not_or : (a b : Bool) → (not a && not b) ≡ not (a || b)
 not_or true b = refl
@@ -80,7 +72,7 @@ marked_any p q m f (o ∷ os) is a (rest, inr e, k) =
 
 all_ops : (is : List Instr) → list_all (λ (i : Instr). not (is_image_line i.op)) is ≡ true → list_all (λ (o : Op). not (is_image_line o)) (map (λ (i : Instr). i.op) is) ≡ true
 all_ops [] a = a
-all_ops (i ∷ is) a = both_of (not (is_image_line i.op)) _ (first_of (not (is_image_line i.op)) _ a) (all_ops is (second_of (not (is_image_line i.op)) _ a))
+all_ops (i ∷ is) a = and_from (not (is_image_line i.op)) _ (first_of (not (is_image_line i.op)) _ a) (all_ops is (second_of (not (is_image_line i.op)) _ a))
 
 abbrev Own : List Block → Type 0
 Own bs = list_all (λ (i : Instr). not (is_image_line i.op)) (flat_map (λ (b : Block). b.instrs) bs) ≡ true
@@ -94,9 +86,9 @@ blocks_any p q m f (b ∷ bs) (c ∷ cs) a k =
     let first : list_all (λ (i : Instr). not (is_image_line i.op)) b.instrs ≡ true = all_first (λ (i : Instr). not (is_image_line i.op)) b.instrs (flat_map (λ (b : Block). b.instrs) bs) a in
     let second : Own bs = all_second (λ (i : Instr). not (is_image_line i.op)) b.instrs (flat_map (λ (b : Block). b.instrs) bs) a in
     let here : list_any (λ (i : Instr). p i.op) c.instrs ≡ list_any (λ (i : Instr). p i.op) b.instrs = any_map p (λ (i : Instr). i.op) c.instrs ∙ (marked_any p q m f (ops_of b) (ops_of c) (all_ops b.instrs first) k.1 ∙ sym (any_map p (λ (i : Instr). i.op) b.instrs)) in
-    any_join (λ (i : Instr). p i.op) c.instrs (flat_map (λ (b : Block). b.instrs) cs)
+    list_any-append (λ (i : Instr). p i.op) c.instrs (flat_map (λ (b : Block). b.instrs) cs)
     ∙ ((λ j. here j || blocks_any p q m f bs cs second k.2 j)
-    ∙ sym (any_join (λ (i : Instr). p i.op) b.instrs (flat_map (λ (b : Block). b.instrs) bs)))
+    ∙ sym (list_any-append (λ (i : Instr). p i.op) b.instrs (flat_map (λ (b : Block). b.instrs) bs)))
 blocks_any p q m f [] (c ∷ cs) a k = absurd k
 blocks_any p q m f (b ∷ bs) [] a k = absurd k
 

@@ -2,6 +2,10 @@
 use Rattle.std.proofs.Common.{◌≡◌, Bool, true, false, not, List, [], ◌∷◌, Option, Some, None, inl, inr, refl, sym}
 use Rattle.std.specs.Prelude.{flat_map}
 use Rattle.std.specs.List.{list_all}
+use Rattle.std.proofs.lemmas.Bool.{and_from}
+use Rattle.lx_words.proofs.Lists.{all_joined}
+use Rattle.lx_words.proofs.Options.{neither_some, some_none}
+use Rattle.lx_words.proofs.Tests.{false_true, second_of}
 use Rattle.lx_ir.specs.declared.types.Scalar.{Scalar}
 use Rattle.lx_ir.specs.declared.module.Symbol.TheVariants as symbol
 use Rattle.lx_ir.specs.declared.module.Function.{Function}
@@ -15,9 +19,6 @@ use Rattle.lx_ir.specs.declared.instr.Op.TheVariants as op
 use Rattle.lx_ir.specs.Lookup.{blocks_of, instrs_of, all_instrs}
 use Rattle.lx_ir.specs.Operands.{operands_of, register_types}
 use Rattle.lx_ir.specs.Faults.{Fault, fault_unless, first_some, global_fault, end_fault, label_fault, value_fits, calls_well, form_fits, is_typed, type_fault, earlier_fault, block_phi_faults, FirstOrUnassigned, FirstOfFunctions, FirstBehind, FirstFault}
-use Rattle.lx_image_texts.proofs.Values.{false_true, second_of, both_of}
-use Rattle.lx_image_texts.proofs.Erasing.{all_joined}
-use Rattle.lx_image_texts.proofs.Ordering.{or_none}
 
 abbrev pub is_global : Callee → Bool
 is_global (callee.Symbol (symbol.Global g)) = true
@@ -30,9 +31,6 @@ calls_no_global o = true
 -- no call names a global: of a verified module this is so
 abbrev pub CallsNoGlobal : Module → Type 0
 CallsNoGlobal x = list_all (λ i. calls_no_global i.op) (all_instrs x) ≡ true
-
-some_none : {A B : Type 0} {x : A} → ◌≡◌ {A = Option A} (Some x) None → B
-some_none e = cc
 
 unless_none : (b : Bool) (x : Fault) → fault_unless b x ≡ None → b ≡ true
 unless_none true x e = refl
@@ -50,8 +48,8 @@ op_named m f o e = refl
 code_named : (m : Module) (f : Function) (types : List Scalar) (is : List Instr) → first_some (type_fault m f types) is ≡ None → list_all (λ (i : Instr). calls_no_global i.op) is ≡ true
 code_named m f types [] e = refl
 code_named m f types (i ∷ is) e =
-    let n = or_none (type_fault m f types i) (first_some (type_fault m f types) is) e in
-    both_of (calls_no_global i.op) (list_all (λ (i : Instr). calls_no_global i.op) is)
+    let n = neither_some (type_fault m f types i) (first_some (type_fault m f types) is) e in
+    and_from (calls_no_global i.op) (list_all (λ (i : Instr). calls_no_global i.op) is)
     (op_named m f i.op (second_of (list_all (λ a. value_fits types a.ty a.value) (operands_of i.op)) (form_fits m f i.op) (unless_none (is_typed m f types i.op) _ n.0)))
     (code_named m f types is n.1)
 
@@ -61,9 +59,9 @@ earlier_none (Some x) f h = some_none (sym h)
 
 function_named : (m : Module) (f : Function) → earlier_fault m f ≡ None → list_all (λ (i : Instr). calls_no_global i.op) (instrs_of f) ≡ true
 function_named m f e =
-    let a = or_none (first_some (end_fault f) (blocks_of f)) _ e in
-    let b = or_none (first_some (label_fault f) (instrs_of f)) _ a.1 in
-    let c = or_none (first_some (type_fault m f (register_types f)) (instrs_of f)) (block_phi_faults f (blocks_of f)) b.1 in
+    let a = neither_some (first_some (end_fault f) (blocks_of f)) _ e in
+    let b = neither_some (first_some (label_fault f) (instrs_of f)) _ a.1 in
+    let c = neither_some (first_some (type_fault m f (register_types f)) (instrs_of f)) (block_phi_faults f (blocks_of f)) b.1 in
     code_named m f (register_types f) (instrs_of f) c.0
 
 functions_named : (m : Module) (fs : List Function) → FirstOfFunctions m fs None → list_all (λ (i : Instr). calls_no_global i.op) (flat_map instrs_of fs) ≡ true

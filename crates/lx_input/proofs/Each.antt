@@ -70,10 +70,6 @@ pub grown : {A : Type 0} (xs : List A) (x : A) → length (xs ++ x ∷ []) ≡ l
 grown [] x = omega arith
 grown (y ∷ ys) x = let less = grown ys x in omega (arith, less)
 
-pub mapped_more : {A B : Type 0} (f : A → B) (xs : List A) (x : A) → map f (xs ++ x ∷ []) ≡ map f xs ++ f x ∷ []
-mapped_more f [] x = refl
-mapped_more f (y ∷ ys) x = ap (λ zs. f y ∷ zs) (mapped_more f ys x)
-
 -- as many have been marked as have passed
 pub marked_so_far : {A B : Type 0} (f : A → B) (xs : List A) (k : ℕ) (list : List B) → k < length xs → list ≡ map f (take k xs) → length list ≡ k
 marked_so_far f xs k list below is =

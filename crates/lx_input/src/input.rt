@@ -55,6 +55,6 @@ pub fn input_laws()
     ensures one { OneInput }
     ensures missing { MissingFilesEnd }
 {
-    lx_files::input_laws();
+    lx_files::file_laws();
     lx_ir_verify::verifier_laws();
 }

@@ -1,8 +1,14 @@
 //! The input of a command: its files are read, checked and linked.
 //!
-//! [`read_input`] reads the files of a command in their order, verifies the kernel and each module, finds which functions
-//! of the modules have which slot types, and links all. The first file that is not read, or the first fault, ends it: for
-//! a module `un.ll` that reads a register which nothing assigns, the fault that `fault_text` prints as
+//! ```text
+//! let asked = Asked { module: None, schedule: Some("one.schedule"), image: None };
+//! let input = read_input(alloc, &mut shelf, "one.case", asked)?;
+//! // The linked program, the calls of each thread, and the schedule that was asked for.
+//! (input.program, input.script, input.besides);
+//! ```
+//!
+//! The files are read in their order, the kernel and each module is verified, slot types are found, and all is linked. The first file that is not
+//! read, or the first fault, ends it: for a module `un.ll` that reads a register which nothing assigns, the fault that [`fault_text`] prints as
 //! `un.ll:2: verify 3 %x`.
 #![tactic(auto)]
 

@@ -2,6 +2,7 @@
 use Rattle.std.proofs.Common.{◌≡◌, ℕ, zero, suc, ◌+◌, Bool, true, false, cond, Option, Some, None, List, [], ◌∷◌, ◌++◌, length, map, take, drop, refl, ap, ◌∙◌, arith, append_assoc}
 use Rattle.std.specs.Prelude.{flat_map, option_map, slice_get, nat_le}
 use Rattle.lx_words.specs.declared.word.Width.TheVariants.{W1, W8, W16, W32, W64}
+use Rattle.lx_words.proofs.Lists.{map_append}
 use Rattle.lx_ir.specs.declared.types.Scalar.{Scalar}
 use Rattle.lx_ir.specs.declared.types.Scalar.TheVariants.{Int, Ptr}
 use Rattle.lx_ir.specs.declared.module.Symbol.TheVariants as symbol
@@ -87,10 +88,6 @@ op_is m (op.Leave f) = refl
 
 -- code without its lines
 
-map_join : {A B : Type 0} (f : A → B) (xs ys : List A) → map f (xs ++ ys) ≡ map f xs ++ map f ys
-map_join f [] ys = refl
-map_join f (x ∷ xs) ys = ap (λ zs. f x ∷ zs) (map_join f xs ys)
-
 append_three : {A : Type 0} (xs : List A) (y : A) (zs : List A) → (xs ++ y ∷ []) ++ zs ≡ xs ++ (y ∷ zs)
 append_three [] y zs = refl
 append_three (x ∷ xs) y zs = ap (λ ws. x ∷ ws) (append_three xs y zs)
@@ -105,14 +102,14 @@ ops_lined line (o ∷ os) = ap (λ ps. o ∷ ps) (ops_lined line os)
 instr_is : (m : Module) (leaves : Op → Bool) (i : Instr) → map op_of (instr_by (called_numbers m) leaves i) ≡ unless_left (leaves i.op) (mark_of i.op) ++ image_op m i.op ∷ []
 instr_is m leaves i =
     let marks = unless_left (leaves i.op) (mark_of i.op) in
-    map_join op_of (lined i.line marks) (record { op = op_by (called_numbers m) i.op; line = i.line } ∷ [])
+    map_append op_of (lined i.line marks) (record { op = op_by (called_numbers m) i.op; line = i.line } ∷ [])
     ∙ (λ j. ops_lined i.line marks j ++ op_is m i.op j ∷ [])
 
 code_is : (m : Module) (leaves : Op → Bool) (is : List Instr) → map op_of (flat_map (instr_by (called_numbers m) leaves) is) ≡ image_code leaves m (map op_of is)
 code_is m leaves [] = refl
 code_is m leaves (i ∷ is) =
     let rest = flat_map (instr_by (called_numbers m) leaves) is in
-    map_join op_of (instr_by (called_numbers m) leaves i) rest
+    map_append op_of (instr_by (called_numbers m) leaves i) rest
     ∙ (λ j. instr_is m leaves i j ++ code_is m leaves is j)
     ∙ append_three (unless_left (leaves i.op) (mark_of i.op)) (image_op m i.op) (image_code leaves m (map op_of is))
 

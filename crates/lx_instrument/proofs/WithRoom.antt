@@ -6,6 +6,7 @@ use Rattle.std.proofs.lemmas.List.{length-map}
 use Rattle.std.proofs.lemmas.List.Folds.{list_all-append, list_all-map}
 use Rattle.std.proofs.lemmas.Bool.{and_parts}
 use Rattle.std.proofs.lemmas.Bool.Decides.{nat_tests}
+use Rattle.lx_words.proofs.Lists.{split_at}
 use Rattle.lx_ir.specs.declared.module.Function.{Function}
 use Rattle.lx_ir.specs.declared.module.Module.{Module}
 use Rattle.lx_annot.specs.declared.interface.Interface.{Interface}
@@ -14,8 +15,7 @@ use Rattle.lx_propagate.specs.Slots.{annotated_of}
 use Rattle.lx_image_texts.specs.Guards.{FunctionText, function_text}
 use Rattle.lx_image_texts.specs.Instrumented.{Leaves, image_function_text, GuardsBut}
 use Rattle.lx_image_texts.specs.WrapperText.{wrappers_of}
-use Rattle.lx_image_texts.proofs.Erasing.{split_at}
-use Rattle.lx_image_programs.specs.Laws.{can_be_called, HasRoom}
+use Rattle.lx_image_texts.specs.ProgramLaws.{can_be_called, HasRoom}
 use Rattle.lx_instrument.specs.Room.{has_few_registers, has_room}
 
 abbrev few_in : FunctionText → Bool

@@ -5,7 +5,7 @@ use Rattle.lx_ir.specs.declared.module.Function.{Function}
 use Rattle.lx_ir.specs.declared.module.Module.{Module}
 use Rattle.lx_ir.specs.Operands.{register_count}
 use Rattle.lx_slot_types.specs.declared.Marked.{Marked}
-use Rattle.lx_image_programs.specs.Laws.{can_be_called}
+use Rattle.lx_image_texts.specs.ProgramLaws.{can_be_called}
 
 -- a `u32` numbers the registers of a function
 abbrev pub has_few_registers : Function → Bool

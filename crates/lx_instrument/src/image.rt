@@ -15,7 +15,7 @@ use crate::functions::{function_by, spared_function};
 use crate::numbers::called_numbers;
 use crate::room::has_room;
 use lx_annot::interface::Interface;
-use lx_image_programs::image_program_laws;
+use lx_image_texts::image_program_laws;
 use lx_ir::module::{Function, Module};
 use lx_ir_copies::{copied_named_types, copies};
 use lx_ir_verify::Verified;

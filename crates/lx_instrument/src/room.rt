@@ -5,7 +5,7 @@ ghost use Rattle.std.specs.List.{list_all, list_any};
 ghost use Rattle.lx_ir.specs.Lawful.{is_block_write};
 ghost use Rattle.lx_ir.specs.Text.{symbol_name};
 ghost use Rattle.lx_ir.specs.declared.module.Symbol.TheVariants as symbol;
-ghost use Rattle.lx_image_programs.specs.Laws.{can_be_called};
+ghost use Rattle.lx_image_texts.specs.ProgramLaws.{can_be_called};
 ghost use Rattle.lx_instrument.specs.Room.{has_few_registers, has_room};
 
 use lx_ir::module::{Function, Module};

@@ -21,6 +21,7 @@ use Rattle.lx_image_steps.specs.Marks.{plain_step}
 use Rattle.lx_image_steps.specs.Standing.{head_of}
 use Rattle.lx_frames.specs.Frames.{marked_frame_step}
 use Rattle.lx_interp.specs.Runner.{marked_step}
+use Rattle.lx_caps.proofs.Tests.{paid_less}
 
 abbrev pub steps_left : ImageThread → ℕ
 steps_left v = 2 * v.fuel + length v.frames
@@ -57,9 +58,6 @@ falls_first v n args fs (o ∷ lines) k = tt
 falls_costly : (c : Code) (m : Marks) (a : Activation) (fs : List ImageFrame) (o : Op) (w : Option ℕ) (v : ImageThread) (k : ℕ) → 2 * v.fuel + length fs + 2 < k → Falls k (costly_step c m a fs o w v)
 falls_costly c m a fs o (Some n) v k h = falls_room (has_room (Runs a ∷ fs)) v _ k (falls_first v n _ (Runs a ∷ fs) (called_lines c (text_of c.program a) o) k)
 falls_costly c m a fs o None v k h = falls_effect c v m a fs (effect c.program a o) k h
-
-paid_less : (fuel n l k : ℕ) → fuel ≡ suc n → 2 * fuel + l < k → 2 * n + l + 2 < k
-paid_less fuel n l k e h = omega (arith, e, h)
 
 falls_instruction : (c : Code) (v : ImageThread) (m : Marks) (a : Activation) (fs : List ImageFrame) (o : Op) (k : ℕ) → 2 * v.fuel + length fs < k →
     Falls k (if_paid v (costly_step c m a fs o (wrapped_import c (text_of c.program a) o)))

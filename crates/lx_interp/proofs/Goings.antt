@@ -1,7 +1,6 @@
 -- Steps up to the next request.
-use Rattle.std.proofs.Common.{◌≡◌, ℕ, zero, suc, ◌+◌, ◌-◌, ◌*◌, ◌<◌, true, false, Option, Some, None, List, length, drop, refl, sym, ap, ◌∙◌, subst, arith}
+use Rattle.std.proofs.Common.{◌≡◌, ℕ, zero, suc, ◌+◌, ◌-◌, ◌*◌, ◌<◌, true, false, Option, Some, None, length, refl, sym, ap, ◌∙◌, subst, arith}
 use Rattle.std.specs.Prelude.{is_some}
-use Rattle.lx_model.specs.declared.program.ScriptCall.{ScriptCall}
 use Rattle.lx_model.specs.declared.request.Request.{Request}
 use Rattle.lx_model.specs.Thread.{has_call}
 use Rattle.lx_images.specs.Image.{Code, ImageStep, ImageThread, Goes, Asks, Marks, image_next, image_next_within, image_step}
@@ -42,10 +41,6 @@ stepped c m v w None e =
     ∙ sym (enough c w (steps_left v) (subst (Falls (steps_left v)) e (step_falls c m v)))
     ∙ ap (asking_behind c v) (sym e)
 stepped c m v w (Some q) e = ap (asking_behind c v) (sym e)
-
-pub same_left : (old new : Runner) → new.calls ≡ old.calls → new.endings ≡ old.endings → calls_left new ≡ calls_left old
-same_left old new calls ended =
-    ap (λ (xs : List ScriptCall). drop (length new.endings.items) xs) calls ∙ ap (λ v. drop (length v.items) old.calls) ended
 
 pub taken_on : (c : Code) (old new : Runner) → old.request ≡ None → HasTaken c old new (marked_step c old.marks (thread_of c old)) → GoesOn c old new
 taken_on c old new idle h =

@@ -1,5 +1,6 @@
 -- What stands on top, and the step that it takes.
 use Rattle.std.proofs.Common.{◌≡◌, ℕ, zero, suc, ◌-◌, ◌<◌, Bool, true, false, Option, Some, None, IsSome, List, [], ◌∷◌, drop, map, refl, sym, ap, ◌∙◌, subst, arith}
+use Rattle.std.proofs.lemmas.Option.{same_Some}
 use Rattle.lx_words.specs.Word.{Word}
 use Rattle.lx_ir.specs.declared.instr.Op.{Op}
 use Rattle.lx_ir.specs.declared.instr.Op.TheVariants as op
@@ -101,9 +102,6 @@ wrapper_marked c (Some m) v None below l e = absurd (cc)
 wrapper_marked c (Some m) v (Some (kept.Runs run)) below l e = absurd (cc)
 wrapper_marked c (Some m) v (Some (kept.Wraps n args wrapper at x)) below l e = refl
 
-some_line : (l k : Line) → Some l ≡ Some k → l ≡ k
-some_line l k e = cc
-
 -- the number behind a line
 numbered : ℕ → Line → ℕ
 numbered d (line.Pre k) = k
@@ -126,7 +124,7 @@ pub acts : (c : Code) (v : ImageThread) (top : Option KeptFrame) (below : Stack)
 acts c v None below post k e = absurd (cc)
 acts c v (Some (kept.Runs run)) below post k e = absurd (cc)
 acts c v (Some (kept.Wraps n args wrapper at x)) below post k e =
-    acts_at c v n args x (map (frame_of c) below.frames) (drop at (wrapper_lines c wrapper)) post k (some_line _ _ e)
+    acts_at c v n args x (map (frame_of c) below.frames) (drop at (wrapper_lines c wrapper)) post k (same_Some _ _ e)
 
 -- an action that the function has not
 pub no_action : (v : ImageThread) (n : ℕ) (args : List Word) (post : Bool) (k : ℕ) (x : Option Word) → action_on false v n args post k x ≡ comes_to (Trapped Unreachable) v
@@ -145,7 +143,7 @@ pub returns_by : (c : Code) (v : ImageThread) (top : Option KeptFrame) (below : 
 returns_by c v None below e = absurd (cc)
 returns_by c v (Some (kept.Runs run)) below e = absurd (cc)
 returns_by c v (Some (kept.Wraps n args wrapper at x)) below e =
-    returns_at c v n args x (map (frame_of c) below.frames) (drop at (wrapper_lines c wrapper)) (some_line _ _ e)
+    returns_at c v n args x (map (frame_of c) below.frames) (drop at (wrapper_lines c wrapper)) (same_Some _ _ e)
 
 -- the line that leaves, with the `ret` behind it or not
 leaving_by : (v : ImageThread) (x : Option Word) (fs : List ImageFrame) (lines : List Op) → is_ret (Some (line_of (first_op lines))) ≡ true → leaving_line v x fs lines ≡ Goes (after_leaving x fs v)
@@ -169,7 +167,7 @@ pub leaves_by : (c : Code) (v : ImageThread) (top : Option KeptFrame) (below : S
 leaves_by c v None below e r = absurd (cc)
 leaves_by c v (Some (kept.Runs run)) below e r = absurd (cc)
 leaves_by c v (Some (kept.Wraps n args wrapper at x)) below e r =
-    leaves_at c v n args x (map (frame_of c) below.frames) (drop at (wrapper_lines c wrapper)) (some_line _ _ e)
+    leaves_at c v n args x (map (frame_of c) below.frames) (drop at (wrapper_lines c wrapper)) (same_Some _ _ e)
     ∙ leaving_by (with_shadow (tail v.shadow) v) x (map (frame_of c) below.frames) (behind_head (drop at (wrapper_lines c wrapper))) r
 
 pub leaves_lost : (c : Code) (v : ImageThread) (top : Option KeptFrame) (below : Stack) → line_on (frames_of c top below) ≡ Some line.Leave → is_ret (line_behind_on (frames_of c top below)) ≡ false →
@@ -177,7 +175,7 @@ pub leaves_lost : (c : Code) (v : ImageThread) (top : Option KeptFrame) (below :
 leaves_lost c v None below e r = absurd (cc)
 leaves_lost c v (Some (kept.Runs run)) below e r = absurd (cc)
 leaves_lost c v (Some (kept.Wraps n args wrapper at x)) below e r =
-    leaves_at c v n args x (map (frame_of c) below.frames) (drop at (wrapper_lines c wrapper)) (some_line _ _ e)
+    leaves_at c v n args x (map (frame_of c) below.frames) (drop at (wrapper_lines c wrapper)) (same_Some _ _ e)
     ∙ leaving_lost (with_shadow (tail v.shadow) v) x (map (frame_of c) below.frames) (behind_head (drop at (wrapper_lines c wrapper))) r
 
 -- any other line
@@ -201,4 +199,4 @@ pub idles : (c : Code) (v : ImageThread) (top : Option KeptFrame) (below : Stack
 idles c v None below l e i = absurd (cc)
 idles c v (Some (kept.Runs run)) below l e i = absurd (cc)
 idles c v (Some (kept.Wraps n args wrapper at x)) below l e i =
-    idles_at c v n args x (map (frame_of c) below.frames) (drop at (wrapper_lines c wrapper)) (ap is_idle (some_line _ _ e) ∙ i)
+    idles_at c v n args x (map (frame_of c) below.frames) (drop at (wrapper_lines c wrapper)) (ap is_idle (same_Some _ _ e) ∙ i)

@@ -1,5 +1,6 @@
 -- What a reply leaves.
 use Rattle.std.proofs.Common.{◌≡◌, ℕ, Bool, true, Option, Some, None, List, IsTrue, refl, sym, ap, ◌∙◌, subst}
+use Rattle.std.proofs.lemmas.Option.{same_Some}
 use Rattle.lx_words.specs.Word.{Word}
 use Rattle.lx_caps.specs.declared.Principal.{Principal}
 use Rattle.lx_model.specs.declared.request.Outcome.{Outcome}
@@ -52,11 +53,8 @@ end_stands c t old mid new asking answer o a e number state marks idle b =
     stands_by c t new _ (b.number ∙ number ∙ a.number) (b.marks ∙ marks) (b.request ∙ idle)
     (b.state ∙ ap (after_end o) (state ∙ sym a.thread) ∙ end_absorbed c t asking.thread asking.request answer o e)
 
-some_same : (x y : Request) → Some x ≡ Some y → x ≡ y
-some_same x y e = cc
-
 pub asked_is : (c : Code) (t : ℕ) (old : Runner) (asking : ImageAsking) (q : Request) → IsAsking c t old asking → Some q ≡ old.request → q ≡ asking.request
-asked_is c t old asking q a e = some_same q asking.request (e ∙ a.request)
+asked_is c t old asking q a e = same_Some q asking.request (e ∙ a.request)
 
 pub reply_stands : (c : Code) (t : ℕ) (old mid new : Runner) (asking : ImageAsking) (q : Request) (answer : Reply) → IsAsking c t old asking → Some q ≡ old.request → None ≡ end_in answer →
     mid.thread ≡ old.thread → thread_of c mid ≡ thread_of c old → mid.marks ≡ None → mid.request ≡ None →

@@ -16,7 +16,6 @@ use std::alloc::Global;
 /// The runner of a thread: its calls and how the first of them ended, the fuel of the one that runs, an outcome that it comes
 /// to, its frames with the principals of its wrappers, what guards and checks have left for the next instruction, if they have been
 /// gone past already, and what it asks.
-#[derive(Drop)]
 pub struct Runner {
     alloc: Global,
     thread: u32,
@@ -28,4 +27,20 @@ pub struct Runner {
     marks: Option<Marks>,
     request: Option<Request>,
     ghost room: { length calls ≤ vec_capacity endings },
+}
+
+impl Drop for Runner {
+    fn drop(self) {
+        let Runner {
+            alloc: _,
+            thread: _,
+            calls: _,
+            endings: _,
+            fuel: _,
+            due: _,
+            stack: _,
+            marks: _,
+            request: _,
+        } = self;
+    }
 }

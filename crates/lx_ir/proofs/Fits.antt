@@ -3,14 +3,15 @@ use Rattle.std.proofs.Common.{◌≡◌, ℕ, zero, suc, ◌*◌, ◌≤◌, Boo
 use Rattle.std.specs.Prelude.{if◌then◌else◌, option_and_then}
 use Rattle.std.specs.List.{list_all}
 use Rattle.std.specs.Option.{option_flatten}
-use Rattle.std.proofs.lemmas.Bool.{le-leb}
+use Rattle.std.proofs.lemmas.Bool.{le-leb, and_parts}
 use Rattle.std.proofs.lemmas.Option.{slice_get-map}
+use Rattle.lx_words.proofs.Tests.{next_above}
 use Rattle.lx_ir.specs.declared.types.NamedType.{NamedType}
 use Rattle.lx_ir.specs.IrType.{IrType, One, Array, Struct, Packed, Named, IrTypes, none, also}
 use Rattle.lx_ir.specs.TypeNodes.{types_of_list}
 use Rattle.lx_ir.specs.Layout.{Layout, Part, layout, beside, padded, layout_in, fields_in, layout_of, layout_of_entry, named_layouts, unnamed, is_struct, fields_of, parts_of, list_of_types, entry_or, is_type_within, field_after, field_of, offset_of}
 use Rattle.lx_ir.specs.Fitting.{◌>>?◌, Layouts, limited, laid_beside, fit_type, fit_fields, layouts_through, fitting_layouts, starts_in, starts_behind, rest_behind, starts_of, named_starts}
-use Rattle.lx_ir.proofs.Layouts.{and_true, next_le, fields_grow, within, same_layout, name_layout}
+use Rattle.lx_ir.proofs.Layouts.{fields_grow, within, same_layout, name_layout}
 
 -- a layout within the limit
 pub limited_is : (l : Layout) → l.size ≤ 4294967296 → limited l ≡ Some l
@@ -29,7 +30,7 @@ module _ (types : List NamedType) (n j : ℕ)
       → fit_fields (layouts_through types j) packed ts laid ≡ Some (fields_in (named_layouts types j) packed ts laid)
   fields_fit packed none laid h le = refl
   fields_fit packed (also t ts) laid h le =
-      let both = and_true (is_type_within types n t) (list_all (is_type_within types n) (list_of_types ts)) h in
+      let both = and_parts (is_type_within types n t) (list_all (is_type_within types n) (list_of_types ts)) h in
       let next : Layout = beside packed laid (layout_in (named_layouts types j) t) in
       let grows : next.size ≤ (fields_in (named_layouts types j) packed ts next).size = fields_grow (named_layouts types j) packed ts next in
       ap (λ o. o >>? λ l. laid_beside packed laid l >>? λ more. fit_fields (layouts_through types j) packed ts more) (fits t both.0)
@@ -41,7 +42,7 @@ module _ (types : List NamedType) (n j : ℕ)
   struct_fits (Array c t) e h le = absurd (cc e)
   struct_fits (Struct ts) e h le =
       let whole : Layout = fields_in (named_layouts types j) false ts (layout 0 1) in
-      let grown : whole.size ≤ (padded whole).size = next_le whole.size whole.align in
+      let grown : whole.size ≤ (padded whole).size = next_above whole.size whole.align in
       ap (λ o. o >>? λ l. limited (padded l)) (fields_fit false ts (layout 0 1) h (omega (arith, grown, le))) ∙ limited_is (padded whole) le
   struct_fits (Packed ts) e h le = fields_fit true ts (layout 0 1) h le
   struct_fits (Named k) e h le = absurd (cc e)
@@ -59,7 +60,7 @@ type_fits types zero (Packed ts) j h a b = absurd (cc h)
 type_fits types zero (Named k) j h a b = absurd (cc h)
 type_fits types (suc n) (One s) j h a b = refl
 type_fits types (suc n) (Array c t) j h a b =
-    let p = and_true (is_type_within types n t) true (within types n (Array c t) h).parts in
+    let p = and_parts (is_type_within types n t) true (within types n (Array c t) h).parts in
     let l : Layout = layout_in (named_layouts types j) t in
     ap (λ o. o >>? λ m. limited (layout (c * m.size) m.align)) (type_fits types n t j p.0 (omega arith) (omega arith)) ∙ limited_is (layout (c * l.size) l.align) (size_fits types n (Array c t) j h a b)
 type_fits types (suc n) (Struct ts) j h a b =
@@ -99,18 +100,18 @@ module _ (types : List NamedType) (n : ℕ) (few : n ≤ 64) where
   starts_are false none laid zero h le = refl
   starts_are false none laid (suc k) h le = refl
   starts_are true (also t ts) laid zero h le =
-      let p = and_true (is_type_within types n t) (list_all (is_type_within types n) (list_of_types ts)) h in
+      let p = and_parts (is_type_within types n t) (list_all (is_type_within types n) (list_of_types ts)) h in
       ap (λ o. option_map pos (slice_get (starts_behind true laid o (λ more. starts_in (fitting_layouts types) true ts more)) zero)) (within_fits types n few t p.0)
   starts_are false (also t ts) laid zero h le =
-      let p = and_true (is_type_within types n t) (list_all (is_type_within types n) (list_of_types ts)) h in
+      let p = and_parts (is_type_within types n t) (list_all (is_type_within types n) (list_of_types ts)) h in
       ap (λ o. option_map pos (slice_get (starts_behind false laid o (λ more. starts_in (fitting_layouts types) false ts more)) zero)) (within_fits types n few t p.0)
   starts_are true (also t ts) laid (suc k) h le =
-      let p = and_true (is_type_within types n t) (list_all (is_type_within types n) (list_of_types ts)) h in
+      let p = and_parts (is_type_within types n t) (list_all (is_type_within types n) (list_of_types ts)) h in
       ap (λ o. option_map pos (slice_get (starts_behind true laid o (λ more. starts_in (fitting_layouts types) true ts more)) (suc k))) (within_fits types n few t p.0)
       ∙ ap (λ o. option_map pos (slice_get (rest_behind o (λ more. starts_in (fitting_layouts types) true ts more)) k)) (next_laid true ts laid t le)
       ∙ starts_are true ts (beside true laid (layout_of types t)) k p.1 le
   starts_are false (also t ts) laid (suc k) h le =
-      let p = and_true (is_type_within types n t) (list_all (is_type_within types n) (list_of_types ts)) h in
+      let p = and_parts (is_type_within types n t) (list_all (is_type_within types n) (list_of_types ts)) h in
       ap (λ o. option_map pos (slice_get (starts_behind false laid o (λ more. starts_in (fitting_layouts types) false ts more)) (suc k))) (within_fits types n few t p.0)
       ∙ ap (λ o. option_map pos (slice_get (rest_behind o (λ more. starts_in (fitting_layouts types) false ts more)) k)) (next_laid false ts laid t le)
       ∙ starts_are false ts (beside false laid (layout_of types t)) k p.1 le
@@ -121,7 +122,7 @@ struct_starts types (One s) k e h le = absurd (cc e)
 struct_starts types (Array c t) k e h le = absurd (cc e)
 struct_starts types (Struct ts) k e h le =
     let whole : Layout = fields_in (named_layouts types 64) false ts (layout 0 1) in
-    let grown : whole.size ≤ (padded whole).size = next_le whole.size whole.align in
+    let grown : whole.size ≤ (padded whole).size = next_above whole.size whole.align in
     starts_are types 63 (omega arith) false ts (layout 0 1) k h (omega (arith, grown, le))
 struct_starts types (Packed ts) k e h le = starts_are types 63 (omega arith) true ts (layout 0 1) k h le
 struct_starts types (Named q) k e h le = absurd (cc e)

@@ -3,22 +3,15 @@ use Rattle.std.proofs.Common.{◌≡◌, ℕ, ◌+◌, ◌*◌, ◌<◌, ◌≤�
 use Rattle.std.proofs.lemmas.List.{take_more, take-append-drop}
 use borrow.Author.Tests.{leb-true}
 use Rattle.std.specs.List.{list_all}
-use Rattle.std.specs.Int.{next_multiple_of}
+use Rattle.std.proofs.lemmas.Bool.{and_parts}
 use Rattle.lx_words.specs.declared.word.Width.TheVariants.{W1, W8, W16, W32, W64}
+use Rattle.lx_words.proofs.Tests.{next_above}
 use Rattle.lx_ir.specs.declared.types.Scalar.{Scalar}
 use Rattle.lx_ir.specs.declared.types.Scalar.TheVariants.{Int, Ptr}
 use Rattle.lx_ir.specs.declared.types.NamedType.{NamedType}
 use Rattle.lx_ir.specs.IrType.{IrType, One, Array, Struct, Packed, Named, IrTypes, none, also}
 use Rattle.lx_ir.specs.Layout.{Layout, layout, beside, padded, layout_in, fields_in, named_layouts, layout_of, layout_of_entry, laid_fields, field_start, size_of, entry_or, scalar_size, unnamed, list_of_types, fields_of, parts_of, is_struct, names_struct, is_scalar, is_type_within}
 use Rattle.lx_ir.specs.TypeNodes.{types_of_list}
-
--- the tests of a type that nests
-pub and_true : (a b : Bool) → (a && b) ≡ true → (a ≡ true) × (b ≡ true)
-and_true true b h = (refl, h)
-and_true false b h = cc
-
-pub next_le : (x y : ℕ) → x ≤ next_multiple_of x y
-next_le x y = omega arith
 
 -- alignments are above 0
 
@@ -61,7 +54,7 @@ type_align types t = layout_align (named_layouts types 64) (λ k. named_align ty
 
 beside_grows : (packed : Bool) (a b : Layout) → a.size ≤ (beside packed a b).size
 beside_grows true a b = omega arith
-beside_grows false a b = omega (arith, next_le a.size b.align)
+beside_grows false a b = omega (arith, next_above a.size b.align)
 
 pub fields_grow : (named : ℕ → Layout) (packed : Bool) (ts : IrTypes) (laid : Layout) → laid.size ≤ (fields_in named packed ts laid).size
 fields_grow named packed none laid = omega arith
@@ -96,7 +89,7 @@ front_le types packed xs i =
 same_fields : (a b : ℕ → Layout) (ok : IrType → Bool) → ((t : IrType) → ok t ≡ true → layout_in a t ≡ layout_in b t) → (packed : Bool) (ts : IrTypes) (laid : Layout) → list_all ok (list_of_types ts) ≡ true → fields_in a packed ts laid ≡ fields_in b packed ts laid
 same_fields a b ok same packed none laid h = refl
 same_fields a b ok same packed (also t ts) laid h =
-    let p = and_true (ok t) (list_all ok (list_of_types ts)) h in
+    let p = and_parts (ok t) (list_all ok (list_of_types ts)) h in
     ap (λ l. fields_in a packed ts (beside packed laid l)) (same t p.0) ∙ same_fields a b ok same packed ts (beside packed laid (layout_in b t)) p.1
 
 same_struct : (a b : ℕ → Layout) (ok : IrType → Bool) → ((t : IrType) → ok t ≡ true → layout_in a t ≡ layout_in b t) → (t : IrType) → is_struct t ≡ true → list_all ok (fields_of t) ≡ true → layout_in a t ≡ layout_in b t
@@ -114,8 +107,8 @@ pub record Within (types : List NamedType) (n : ℕ) (t : IrType) : Type 0 where
 
 pub within : (types : List NamedType) (n : ℕ) (t : IrType) → is_type_within types (suc n) t ≡ true → Within types n t
 within types n t h =
-    let p = and_true (names_struct types t && nat_le (size_of types t) 4294967296) (list_all (is_type_within types n) (parts_of types t)) h in
-    let q = and_true (names_struct types t) (nat_le (size_of types t) 4294967296) p.0 in
+    let p = and_parts (names_struct types t && nat_le (size_of types t) 4294967296) (list_all (is_type_within types n) (parts_of types t)) h in
+    let q = and_parts (names_struct types t) (nat_le (size_of types t) 4294967296) p.0 in
     record { names = q.0; size = leb-true _ _ q.1; parts = p.1 }
 
 same_entry : (types : List NamedType) (n q j k : ℕ) → ((t : IrType) → is_type_within types n t ≡ true → layout_in (named_layouts types j) t ≡ layout_in (named_layouts types k) t) → (o : Option NamedType) → is_struct (entry_or o (Named q)) ≡ true → list_all (is_type_within types n) (fields_of (entry_or o (Named q))) ≡ true → layout_of_entry (named_layouts types j) o ≡ layout_of_entry (named_layouts types k) o
@@ -131,7 +124,7 @@ same_layout types zero (Named q) j k h a b = cc
 same_layout types (suc n) (One s) j k h a b = refl
 same_layout types (suc n) (Array c t) j k h a b =
     let w = within types n (Array c t) h in
-    let p = and_true (is_type_within types n t) true w.parts in
+    let p = and_parts (is_type_within types n t) true w.parts in
     ap (λ l. layout (c * l.size) l.align) (same_layout types n t j k p.0 (omega arith) (omega arith))
 same_layout types (suc n) (Struct ts) j k h a b =
     same_struct (named_layouts types j) (named_layouts types k) (is_type_within types n) (λ u g. same_layout types n u j k g (omega arith) (omega arith)) (Struct ts) refl (within types n (Struct ts) h).parts
@@ -200,7 +193,7 @@ array_facts : (types : List NamedType) (depth n : ℕ) (e : IrType) → is_type_
 array_facts types zero n e h = cc
 array_facts types (suc d) n e h =
     let w = within types d (Array n e) h in
-    let p = and_true (is_type_within types d e) true w.parts in
+    let p = and_parts (is_type_within types d e) true w.parts in
     let k : d ≡ suc d - 1 = omega arith in
     record { nests = omega arith; part = subst (λ j. is_type_within types j e ≡ true) k p.0; size = w.size }
 
@@ -221,7 +214,7 @@ group_parts types depth false xs h = subst (λ us. list_all (is_type_within type
 
 group_size : (types : List NamedType) (packed : Bool) (xs : List IrType) → size_of types (group packed (types_of_list xs)) ≤ 4294967296 → (laid_fields types packed (types_of_list xs)).size ≤ 4294967296
 group_size types true xs h = h
-group_size types false xs h = let l = laid_fields types false (types_of_list xs) in omega (arith, next_le l.size l.align, h)
+group_size types false xs h = let l = laid_fields types false (types_of_list xs) in omega (arith, next_above l.size l.align, h)
 
 -- the fields of a struct lie within the limits
 pub fields_within : (types : List NamedType) (depth : ℕ) (packed : Bool) (xs ys : List IrType) (t : IrType) → group packed (types_of_list xs) ≡ t → ys ≡ xs → list_all (is_type_within types depth) (fields_of t) ≡ true → size_of types t ≤ 4294967296 → (list_all (is_type_within types depth) ys ≡ true) × ((laid_fields types packed (types_of_list ys)).size ≤ 4294967296)
@@ -250,11 +243,6 @@ lawful_fields types packed xs ys t u e f g h =
     fields_within types 63 packed xs ys (unnamed types t) (e ∙ g) f k.parts k.size
 
 -- where fields begin
-
-pub list_all_item : {X : Type 0} (p : X → Bool) (xs : List X) (k : ℕ) (x : X) → k < length xs → x ≡ get_or xs k x → list_all p xs ≡ true → p x ≡ true
-list_all_item p [] k x h e a = absurd (omega arith)
-list_all_item p (y ∷ ys) zero x h e a = ap p e ∙ (and_true (p y) (list_all p ys) a).0
-list_all_item p (y ∷ ys) (suc k) x h e a = list_all_item p ys k x (omega arith) e (and_true (p y) (list_all p ys) a).1
 
 start_le : (packed : Bool) (a b : Layout) → field_start packed a b ≤ (beside packed a b).size
 start_le true a b = omega arith

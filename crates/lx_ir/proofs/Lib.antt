@@ -6,3 +6,4 @@ pub mod Joined
 pub mod Layouts
 pub mod TypeLists
 pub mod Crossing
+pub mod Equality

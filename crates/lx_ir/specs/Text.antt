@@ -1,5 +1,5 @@
 -- The text of a module: types, globals, imports and functions in their order, one statement a line.
-use Rattle.std.specs.Prelude.{ℕ, zero, suc, Bool, true, false, ◌||◌, ◌&&◌, Option, Some, None, List, [], ◌∷◌, ◌++◌, map, flat_map, codes, nat_le, nat_eq, ◌/◌, ◌%◌, ◌+◌, nat_lt, if◌then◌else◌, slice_index_or}
+use Rattle.std.specs.Prelude.{◌≡◌, refl, bytes_eq, ℕ, zero, suc, Bool, true, false, ◌||◌, ◌&&◌, Option, Some, None, List, [], ◌∷◌, ◌++◌, map, flat_map, codes, nat_le, nat_eq, ◌/◌, ◌%◌, ◌+◌, nat_lt, if◌then◌else◌, slice_index_or}
 use Rattle.std.specs.List.{list_all}
 use Rattle.lx_words.specs.Text.{decimal_text, signed_text}
 use Rattle.lx_words.specs.Word.{signed}
@@ -247,6 +247,10 @@ predicate_word pred.Sle = codes "sle"
 
 abbrev pub unary_word : UnaryOp → Text
 unary_word unary.Freeze = codes "freeze"
+
+-- the word tells the operator
+pub unary_of_word : (a b : UnaryOp) → bytes_eq (unary_word a) (unary_word b) ≡ true → a ≡ b
+unary_of_word unary.Freeze unary.Freeze e = refl
 
 abbrev pub conversion_word : Conversion → Text
 conversion_word conversion.Trunc = codes "trunc"

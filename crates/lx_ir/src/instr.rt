@@ -50,17 +50,27 @@ impl Conversion {
 }
 
 /// A value of a `phi`, and the block that it comes from.
-#[derive(Drop)]
 pub struct Edge {
     pub value: Value,
     pub label: Name,
 }
 
+impl Drop for Edge {
+    fn drop(self) {
+        let Edge { value: _, label: _ } = self;
+    }
+}
+
 /// A case of a `switch`.
-#[derive(Drop)]
 pub struct SwitchCase {
     pub value: Value,
     pub label: Name,
+}
+
+impl Drop for SwitchCase {
+    fn drop(self) {
+        let SwitchCase { value: _, label: _ } = self;
+    }
 }
 
 /// An argument of a call, or an index of a `getelementptr`, with its type.
@@ -78,10 +88,15 @@ pub enum Callee {
 }
 
 /// An instruction, and its line.
-#[derive(Drop)]
 pub struct Instr {
     pub op: Op,
     pub line: u32,
+}
+
+impl Drop for Instr {
+    fn drop(self) {
+        let Instr { op: _, line: _ } = self;
+    }
 }
 
 /// The forms of instructions. `to` is the number of the register that is given.

@@ -17,7 +17,7 @@ const MOST_BYTES: u64 = 1 << 32;
 pub const MOST_NAMES: u32 = 64;
 
 /// How many bytes a type takes, at most 2^32, and what its addresses are divisible by.
-#[derive(Clone, Copy, Debug, PartialEq, Eq)]
+#[derive(Clone, Copy)]
 pub struct Layout {
     size: u64,
     align: u64,

@@ -1,4 +1,12 @@
-//! Modules of IR, plain and instrumented, and the layout of their types.
+//! Modules of IR, plain and instrumented: their types with the layout of these, globals and functions, and their text.
+//!
+//! ```text
+//! // The named type of `%struct.dev = type { i32, ptr }` takes 16 bytes, and its second field begins at byte 8.
+//! size_of(&module, &dev);
+//! offset_of(&module, &dev, 1);
+//! // The text, which reads again as the same module.
+//! let text = print(alloc, &module)?;
+//! ```
 #![tactic(auto)]
 
 ghost use Rattle.lx_ir.specs.Rows.{WorkedLayouts};

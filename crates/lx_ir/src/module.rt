@@ -92,7 +92,6 @@ impl Model for Init {
 }
 
 /// A global.
-#[derive(Drop)]
 pub struct GlobalVar {
     pub name: Name,
     pub constant: bool,
@@ -101,24 +100,45 @@ pub struct GlobalVar {
     pub line: u32,
 }
 
+impl Drop for GlobalVar {
+    fn drop(self) {
+        let GlobalVar {
+            name: _,
+            constant: _,
+            ty: _,
+            init: _,
+            line: _,
+        } = self;
+    }
+}
+
 /// A parameter, which is the register of its place.
-#[derive(Drop)]
 pub struct Parameter {
     pub name: Name,
     pub ty: Scalar,
 }
 
+impl Drop for Parameter {
+    fn drop(self) {
+        let Parameter { name: _, ty: _ } = self;
+    }
+}
+
 /// A block: its label, and its instructions.
-#[derive(Drop)]
 pub struct Block {
     pub name: Name,
     pub instrs: Items<Instr>,
 }
 
+impl Drop for Block {
+    fn drop(self) {
+        let Block { name: _, instrs: _ } = self;
+    }
+}
+
 /// A function. Its registers are the parameters, then what the instructions give, in the order of the text,
 /// then those that are read and that no instruction gives, in the order in which they are first read; `locals`
 /// names those behind the parameters. An import has no blocks and keeps no names.
-#[derive(Drop)]
 pub struct Function {
     pub name: Name,
     pub params: Items<Parameter>,
@@ -128,10 +148,32 @@ pub struct Function {
     pub line: u32,
 }
 
+impl Drop for Function {
+    fn drop(self) {
+        let Function {
+            name: _,
+            params: _,
+            locals: _,
+            ret: _,
+            blocks: _,
+            line: _,
+        } = self;
+    }
+}
+
 /// A module: its functions are the imports and then those that it defines.
-#[derive(Drop)]
 pub struct Module {
     pub types: NamedTypes,
     pub globals: Items<GlobalVar>,
     pub functions: Items<Function>,
+}
+
+impl Drop for Module {
+    fn drop(self) {
+        let Module {
+            types: _,
+            globals: _,
+            functions: _,
+        } = self;
+    }
 }

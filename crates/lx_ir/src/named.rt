@@ -11,11 +11,20 @@ use std::marker::Model;
 
 /// The types of a module that have names. The layout of each and where its fields begin are kept, so that no use of a name goes
 /// through what it names. Contracts see the list of the types.
-#[derive(Drop)]
 pub struct NamedTypes {
     entries: Items<NamedType>,
     layouts: Items<Option<Layout>>,
     starts: Items<Items<u64>>,
+}
+
+impl Drop for NamedTypes {
+    fn drop(self) {
+        let NamedTypes {
+            entries: _,
+            layouts: _,
+            starts: _,
+        } = self;
+    }
 }
 
 impl Model for NamedTypes {

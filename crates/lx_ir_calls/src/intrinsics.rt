@@ -12,7 +12,7 @@ use lx_ir_tokens::{Kind, Tok};
 use std::alloc::Global;
 
 /// What a text is: a program, or the image of one, which has lines of its own.
-#[derive(Clone, Copy, Debug, PartialEq, Eq)]
+#[derive(Clone, Copy)]
 pub enum TextForm {
     Program,
     Image,

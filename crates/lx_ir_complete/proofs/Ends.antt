@@ -1,8 +1,9 @@
 -- How a statement is read up to its last part, which may be longer than is said here. What that last part is hangs on tokens
 -- alone, and so it is read alike by each context.
 use Rattle.std.proofs.Common.{◌≡◌, ℕ, Bool, true, false, Option, Some, List, [], ◌∷◌, ◌++◌, Ok, ◌⊎◌, inl, inr, refl, sym, ap, ◌∙◌, subst, append_assoc}
-use Rattle.std.specs.Prelude.{not, ◌&&◌, ◌||◌, if◌then◌else◌}
+use Rattle.std.specs.Prelude.{not, ◌||◌, if◌then◌else◌}
 use Rattle.lx_words.specs.declared.token.Token.{Token}
+use Rattle.lx_words.proofs.Tests.{twice_by}
 use Rattle.lx_ir_tokens.specs.declared.token.Tok.{Tok}
 use Rattle.lx_ir_tokens.specs.declared.token.Kind.{Kind}
 use Rattle.lx_ir_tokens.specs.declared.token.Kind.TheVariants as kinds
@@ -24,16 +25,16 @@ use Rattle.lx_ir_terms.proofs.Written.{written_again}
 use Rattle.lx_ir_constants.specs.Constants.{first_name}
 use Rattle.lx_ir_constants.proofs.InitLaws.{init_again}
 use Rattle.lx_ir_calls.specs.declared.intrinsics.TextForm.{TextForm}
-use Rattle.lx_ir_heads.specs.declared.head.Head.{Head}
-use Rattle.lx_ir_heads.specs.Numbers.{has_number}
-use Rattle.lx_ir_heads.specs.Words.{is_any_word, is_linkage_word, import_attributes_at}
-use Rattle.lx_ir_heads.specs.Grammar.{IsResult, IsHead}
-use Rattle.lx_ir_heads.proofs.WordLaws.{result_reads, function_attributes_again}
-use Rattle.lx_ir_heads.proofs.ParameterLaws.{heads_again}
-use Rattle.lx_ir_heads.proofs.ImportLaws.{import_parameters_read}
+use Rattle.lx_ir_statements.specs.declared.head.Head.{Head}
+use Rattle.lx_ir_statements.specs.Numbers.{has_number}
+use Rattle.lx_ir_statements.specs.Words.{is_any_word, is_linkage_word, import_attributes_at}
+use Rattle.lx_ir_statements.specs.HeadGrammar.{IsResult, IsHead}
+use Rattle.lx_ir_statements.proofs.WordLaws.{result_reads, function_attributes_again}
+use Rattle.lx_ir_statements.proofs.ParameterLaws.{heads_again}
+use Rattle.lx_ir_statements.proofs.ImportLaws.{import_parameters_read}
 use Rattle.lx_ir_operands.specs.Grammar.{Repeated, IsAttribute}
-use Rattle.lx_ir_blocks.specs.Grammar.{IsBody}
-use Rattle.lx_ir_blocks.specs.Laws.{BodiesAreRead}
+use Rattle.lx_ir_statements.specs.BlockGrammar.{IsBody}
+use Rattle.lx_ir_statements.specs.BlockLaws.{BodiesAreRead}
 use Rattle.lx_ir_statements.specs.declared.form.Statement.{Statement}
 use Rattle.lx_ir_statements.specs.declared.form.Statement.TheVariants as statements
 use Rattle.lx_ir_statements.specs.declared.defined.Defined.{Defined}
@@ -43,10 +44,10 @@ use Rattle.lx_ir_statements.specs.Grammar.{IsSymbol, IsNewType, IsGlobal, is_dec
 use Rattle.lx_ir_statements.proofs.HeadWords.{linkage_over}
 use Rattle.lx_ir_statements.proofs.TypeNames.{local_name_is, new_type_again}
 use Rattle.lx_ir_statements.proofs.GlobalLaws.{new_symbol_reads}
-use Rattle.lx_ir_forgotten.specs.Alike.{knowing_registers, AlikeStatements}
-use Rattle.lx_ir_forgotten.specs.Laws.{StatementsAreForgotten}
-use Rattle.lx_ir_forgotten.proofs.SeenTypes.{unnamed, written_seen}
-use Rattle.lx_ir_forgotten.proofs.SeenInits.{init_seen}
+use Rattle.lx_ir_lawful.specs.Alike.{knowing_registers, AlikeStatements}
+use Rattle.lx_ir_lawful.specs.ForgottenLaws.{StatementsAreForgotten}
+use Rattle.lx_ir_lawful.proofs.SeenTypes.{unnamed, written_seen}
+use Rattle.lx_ir_lawful.proofs.SeenInits.{init_seen}
 
 -- the statement, where a last part that says nothing is read so
 abbrev pub ended : Statement → Read (Unit {0}) → Read Statement
@@ -75,10 +76,6 @@ function_goes k = is_mark Hash k || is_any_word k
 
 brace_no_word : (k : Kind) → is_mark OpenBrace k ≡ true → function_goes k ≡ false
 brace_no_word k e = ap function_goes (mark_is OpenBrace k e)
-
-twice_by : (a b : Bool) → b ≡ true → (a && not b) ≡ false
-twice_by true b e = rw e refl
-twice_by false b e = refl
 
 -- The last parts: an alignment behind a global, and words behind an import.
 

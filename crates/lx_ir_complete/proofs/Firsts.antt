@@ -17,7 +17,7 @@ use Rattle.lx_ir_read.specs.declared.first.Progress.{Progress}
 use Rattle.lx_ir_read.specs.declared.first.FirstReading.{FirstReading}
 use Rattle.lx_ir_read.specs.First.{found, with_found, first_by, first_at}
 use Rattle.lx_ir_read.specs.Grammar.{AreStatements}
-use Rattle.lx_ir_round_trip.proofs.Firsts.{statement_begins, begins_longer}
+use Rattle.lx_ir_complete.proofs.RoundTripFirsts.{statement_begins, begins_longer}
 
 -- Behind a statement of a module the next begins, or the text ends.
 pub follows : (c : Context) (form : TextForm) (places : List Token) (defined : Defined) (fs : List Found) (ts : List Tok) → AreStatements c form places defined fs ts → may_follow ts ≡ true

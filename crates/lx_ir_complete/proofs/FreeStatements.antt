@@ -9,12 +9,12 @@ use Rattle.lx_ir.specs.IrType.{Named}
 use Rattle.lx_ir_terms.specs.Context.{Context}
 use Rattle.lx_ir_terms.specs.Types.{depth_limit}
 use Rattle.lx_ir_calls.specs.declared.intrinsics.TextForm.{TextForm}
-use Rattle.lx_ir_heads.specs.declared.head.Head.{Head}
-use Rattle.lx_ir_heads.specs.Parameters.{no_parameters, with_parameter}
-use Rattle.lx_ir_heads.specs.Grammar.{AreFurtherParameters, AreParameters, IsHead}
-use Rattle.lx_ir_blocks.specs.declared.body.Locals.{Locals}
-use Rattle.lx_ir_blocks.specs.Blocks.{given, with_register}
-use Rattle.lx_ir_blocks.specs.Grammar.{AreInstrs, IsLabelled, IsFirst, AreFurtherBlocks, AreBlocks, IsBody}
+use Rattle.lx_ir_statements.specs.declared.head.Head.{Head}
+use Rattle.lx_ir_statements.specs.Parameters.{no_parameters, with_parameter}
+use Rattle.lx_ir_statements.specs.HeadGrammar.{AreFurtherParameters, AreParameters, IsHead}
+use Rattle.lx_ir_statements.specs.declared.body.Locals.{Locals}
+use Rattle.lx_ir_statements.specs.Blocks.{given, with_register}
+use Rattle.lx_ir_statements.specs.BlockGrammar.{AreInstrs, IsLabelled, IsFirst, AreFurtherBlocks, AreBlocks, IsBody}
 use Rattle.lx_ir_statements.specs.declared.form.Statement.{Statement}
 use Rattle.lx_ir_statements.specs.declared.form.Statement.TheVariants as statements
 use Rattle.lx_ir_statements.specs.declared.defined.Defined.{Defined}

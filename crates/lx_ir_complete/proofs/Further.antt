@@ -10,7 +10,7 @@ use Rattle.lx_ir_terms.specs.Context.{Context, bytes_of}
 use Rattle.lx_ir_terms.specs.Reading.{Read, ◌>>=◌}
 use Rattle.lx_ir_terms.proofs.Parts.{ok_same}
 use Rattle.lx_ir_calls.specs.declared.intrinsics.TextForm.{TextForm}
-use Rattle.lx_ir_blocks.specs.Laws.{BodiesAreRead}
+use Rattle.lx_ir_statements.specs.BlockLaws.{BodiesAreRead}
 use Rattle.lx_ir_statements.specs.declared.form.Statement.{Statement}
 use Rattle.lx_ir_statements.specs.declared.form.Statement.TheVariants as statements
 use Rattle.lx_ir_statements.specs.Defined.{with_statement, is_block_write}
@@ -18,15 +18,15 @@ use Rattle.lx_ir_statements.specs.Statements.{statement_at}
 use Rattle.lx_ir_statements.specs.Grammar.{IsStatement}
 use Rattle.lx_ir_statements.specs.Laws.{may_follow, StatementsAreRead}
 use Rattle.lx_ir_tables.specs.Numbering.{Numbering, table_of, own_numbers}
-use Rattle.lx_ir_forgotten.specs.Laws.{StatementsAreForgotten}
+use Rattle.lx_ir_lawful.specs.ForgottenLaws.{StatementsAreForgotten}
 use Rattle.lx_ir_read.specs.declared.first.Found.{Found}
 use Rattle.lx_ir_read.specs.declared.draft.Draft.{Draft}
 use Rattle.lx_ir_read.specs.First.{unknown_context}
 use Rattle.lx_ir_read.specs.Tables.{tokens_left}
 use Rattle.lx_ir_read.specs.Again.{registers_in, with_registers, import_of, with_declared, with_defined, kept, again_at, all_again}
-use Rattle.lx_ir_faults.specs.Fault.{line_shown}
+use Rattle.lx_ir_read.specs.Fault.{line_shown}
 use Rattle.lx_ir_read.specs.Grammar.{AreStatements, Adds, AddAll}
-use Rattle.lx_ir_round_trip.proofs.Firsts.{defined_alike}
+use Rattle.lx_ir_complete.proofs.RoundTripFirsts.{defined_alike}
 use Rattle.lx_ir_complete.proofs.Ends.{ended, ReadsAlike, statement_alike}
 use Rattle.lx_ir_complete.proofs.Firsts.{follows}
 

@@ -12,7 +12,7 @@ use Rattle.lx_ir_terms.proofs.Parts.{ok_same, next_reads, next_finds}
 use Rattle.lx_ir_terms.proofs.Stopping.{next_stops}
 use Rattle.lx_ir_constants.specs.Constants.{skipped}
 use Rattle.lx_ir_operands.specs.Steps.{steps_at, items_while}
-use Rattle.lx_ir_heads.specs.Going.{going_at}
+use Rattle.lx_ir_statements.specs.Going.{going_at}
 use Rattle.lx_ir_complete.proofs.Local.{Looks, has_looks, Same, Local, Plain, pure_local, pure_plain, bind_local, then_plain, last_plain, if_local, if_plain, same_local, behind_local, fuel_local, from_laws}
 
 -- Two loops that go on alike do the same.

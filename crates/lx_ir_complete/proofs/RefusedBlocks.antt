@@ -3,6 +3,7 @@ use Rattle.std.proofs.Common.{◌≡◌, ℕ, ◌<◌, Bool, true, false, not, O
 use Rattle.std.specs.Prelude.{if◌then◌else◌, ◌&&◌, ◌||◌}
 use Rattle.lx_words.specs.declared.token.Token.{Token}
 use Rattle.lx_words.specs.Text.{decimal_text}
+use Rattle.lx_words.proofs.Tests.{and_false}
 use Rattle.lx_ir_tokens.specs.declared.token.Tok.{Tok}
 use Rattle.lx_ir_tokens.specs.declared.token.Mark.TheVariants.{CloseBrace, Colon}
 use Rattle.lx_ir_tokens.specs.Names.{number_of}
@@ -19,12 +20,12 @@ use Rattle.lx_ir_constants.specs.Constants.{first_name}
 use Rattle.lx_ir_calls.specs.declared.intrinsics.TextForm.{TextForm}
 use Rattle.lx_ir_instructions.specs.Instructions.{instruction_at}
 use Rattle.lx_ir_instructions.proofs.InstructionLaws.{instructions_found}
-use Rattle.lx_ir_heads.specs.Numbers.{has_number, has_some}
-use Rattle.lx_ir_heads.specs.Parameters.{local_name}
-use Rattle.lx_ir_blocks.specs.declared.body.Locals.{Locals}
-use Rattle.lx_ir_blocks.specs.declared.body.Run.{Run}
-use Rattle.lx_ir_blocks.specs.Blocks.{line_at, may_be_label, has_label, ends_in_label, ends_block, given, line_of_text, with_register, instr_at, Going, run_goes_on, with_instr, run_step, no_instrs, further_instrs_at, run_at, block_behind, with_label, labelled_block_at, unlabelled_block_at, first_block_at, Body, body_goes_on, body_step, further_blocks_at, some_blocks_at, close_at, blocks_at}
-use Rattle.lx_ir_blocks.proofs.Filled.{instr_shorter}
+use Rattle.lx_ir_statements.specs.Numbers.{has_number, has_some}
+use Rattle.lx_ir_statements.specs.Parameters.{local_name}
+use Rattle.lx_ir_statements.specs.declared.body.Locals.{Locals}
+use Rattle.lx_ir_statements.specs.declared.body.Run.{Run}
+use Rattle.lx_ir_statements.specs.Blocks.{line_at, may_be_label, has_label, ends_in_label, ends_block, given, line_of_text, with_register, instr_at, Going, run_goes_on, with_instr, run_step, no_instrs, further_instrs_at, run_at, block_behind, with_label, labelled_block_at, unlabelled_block_at, first_block_at, Body, body_goes_on, body_step, further_blocks_at, some_blocks_at, close_at, blocks_at}
+use Rattle.lx_ir_statements.proofs.Filled.{instr_shorter}
 use Rattle.lx_ir_complete.proofs.Local.{first_of, Looks, Same, Local, Plain, pure_local, pure_plain, fault_local, end_local, bind_local, if_local, if_plain, choose_local, behind_local}
 use Rattle.lx_ir_complete.proofs.Loops.{Consumes, going_local, fits}
 use Rattle.lx_ir_complete.proofs.RefusedForms.{name_looks, instruction_plain}
@@ -86,10 +87,6 @@ SameLocals x y = x.1 ≡ y.1
 
 abbrev pub Anything : {A : Type 0} → A → A → Type 0
 Anything x y = Unit {0}
-
-and_false : (b : Bool) → (b && false) ≡ false
-and_false true = refl
-and_false false = refl
 
 module _ (asked : FaultKind → Bool) (context : Context) (free : context.limits ≡ None) (form : TextForm) (places : List Token) where
   -- Instructions.

@@ -14,11 +14,11 @@ use Rattle.lx_ir_terms.specs.Types.{scalar_in, scalar_at, scalar_refusal, result
 use Rattle.lx_ir_terms.specs.Words.{word_refusal, passed_at, passed_result_at}
 use Rattle.lx_ir_constants.specs.Constants.{is_register}
 use Rattle.lx_ir_operands.specs.Steps.{one_attribute_at}
-use Rattle.lx_ir_heads.specs.declared.head.Head.{Head}
-use Rattle.lx_ir_heads.specs.Numbers.{has_number, has_some}
-use Rattle.lx_ir_heads.specs.Words.{is_any_word, is_import_word, has_import_attribute, import_attributes_at, has_function_attribute, function_attributes_at}
-use Rattle.lx_ir_heads.specs.Parameters.{no_parameters, with_parameter, next_name, next_number, parameter_by, parameter_named, parameter_at, further_parameters_at, some_parameters_at, listed_parameters_at, parameters_at}
-use Rattle.lx_ir_heads.specs.Imports.{unkept_name_at, unkept_at, import_parameter_at, import_parameters_at}
+use Rattle.lx_ir_statements.specs.declared.head.Head.{Head}
+use Rattle.lx_ir_statements.specs.Numbers.{has_number, has_some}
+use Rattle.lx_ir_statements.specs.Words.{is_any_word, is_import_word, has_import_attribute, import_attributes_at, has_function_attribute, function_attributes_at}
+use Rattle.lx_ir_statements.specs.Parameters.{no_parameters, with_parameter, next_name, next_number, parameter_by, parameter_named, parameter_at, further_parameters_at, some_parameters_at, listed_parameters_at, parameters_at}
+use Rattle.lx_ir_statements.specs.Imports.{unkept_name_at, unkept_at, import_parameter_at, import_parameters_at}
 use Rattle.lx_ir_complete.proofs.Local.{first_of, Looks, has_looks, Same, Local, Plain, pure_plain, fault_local, end_local, other_fault, bind_local, then_plain, last_plain, if_plain, choose_local, same_local, behind_local}
 use Rattle.lx_ir_complete.proofs.Loops.{steps_plain, going_local, behind_consumes, has_some as has_one, next_plain, listed_plain}
 use Rattle.lx_ir_complete.proofs.RefusedOperands.{pick_plain, passed_plain, one_attribute_plain, one_attribute_shorter}

@@ -28,12 +28,12 @@ use Rattle.lx_ir_constants.proofs.InitsFound.{init_found}
 use Rattle.lx_ir_constants.proofs.InitStops.{init_stops}
 use Rattle.lx_ir_operands.specs.Steps.{one_align_at}
 use Rattle.lx_ir_calls.specs.declared.intrinsics.TextForm.{TextForm}
-use Rattle.lx_ir_heads.specs.declared.head.Head.{Head}
-use Rattle.lx_ir_heads.specs.Numbers.{has_number, has_some}
-use Rattle.lx_ir_heads.specs.Words.{is_linkage_word, import_attributes_at, function_attributes_at}
-use Rattle.lx_ir_heads.specs.Parameters.{parameters_at}
-use Rattle.lx_ir_heads.specs.Imports.{import_parameters_at}
-use Rattle.lx_ir_blocks.specs.Blocks.{blocks_at}
+use Rattle.lx_ir_statements.specs.declared.head.Head.{Head}
+use Rattle.lx_ir_statements.specs.Numbers.{has_number, has_some}
+use Rattle.lx_ir_statements.specs.Words.{is_linkage_word, import_attributes_at, function_attributes_at}
+use Rattle.lx_ir_statements.specs.Parameters.{parameters_at}
+use Rattle.lx_ir_statements.specs.Imports.{import_parameters_at}
+use Rattle.lx_ir_statements.specs.Blocks.{blocks_at}
 use Rattle.lx_ir_statements.specs.declared.form.Statement.{Statement}
 use Rattle.lx_ir_statements.specs.declared.form.Statement.TheVariants as statements
 use Rattle.lx_ir_statements.specs.declared.defined.Defined.{Defined}

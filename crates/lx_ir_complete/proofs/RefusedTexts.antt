@@ -19,7 +19,7 @@ use Rattle.lx_ir_read.specs.declared.first.Progress.{Progress}
 use Rattle.lx_ir_read.specs.First.{unknown_context, found, no_progress, with_found, found_at, stopped, first_by, first_at}
 use Rattle.lx_ir_read.specs.Grammar.{AreStatements}
 use Rattle.lx_ir_complete.proofs.Firsts.{firsts}
-use Rattle.lx_ir_round_trip.proofs.Firsts.{statement_begins, begins_longer}
+use Rattle.lx_ir_complete.proofs.RoundTripFirsts.{statement_begins, begins_longer}
 use Rattle.lx_ir_complete.specs.Alike.{BeginAlike, StopsThere}
 use Rattle.lx_ir_complete.proofs.Local.{same_split, first_of, Looks, nothing_looks, Local, pure_local, fault_local, bind_local, choose_local, same_local, fuel_local, stops_there}
 use Rattle.lx_ir_complete.proofs.RefusedStatements.{SameDefined, statement_any}

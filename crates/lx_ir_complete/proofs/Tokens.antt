@@ -6,13 +6,14 @@ use Rattle.lx_words.specs.declared.token.TokenRule.TheVariants.{Ir}
 use Rattle.lx_words.specs.declared.token.Token.{Token}
 use Rattle.lx_words.specs.declared.token.Stop.{Stop}
 use Rattle.lx_words.specs.Cuts.{bytes_of, Scans}
+use Rattle.lx_words.proofs.Lists.{at_end}
 use Rattle.lx_ir_tokens.specs.declared.token.Tok.{Tok}
 use Rattle.lx_ir_tokens.specs.declared.read.IrTokens.{IrTokens}
 use Rattle.lx_ir_tokens.specs.Lines.{kept_tokens, last_line}
 use Rattle.lx_ir_tokens.specs.Names.{number_of}
 use Rattle.lx_ir_tokens.specs.Said.{kind_of}
 use Rattle.lx_ir_tokens.specs.Reading.{said_at, with_said, names_of, StandsFor, IsTokOf, ReadsAs}
-use Rattle.lx_ir_round_trip.proofs.Placed.{name_at_number}
+use Rattle.lx_ir_complete.proofs.Placed.{name_at_number}
 use Rattle.lx_ir_complete.proofs.Cutting.{text_is_scanned}
 
 -- Names that stand in a table stay in it.
@@ -25,10 +26,6 @@ front_stays : (names more : List (List ℕ)) (n : ℕ) (name : List ℕ) → sli
 front_stays [] more n name h = cc
 front_stays (x ∷ xs) more zero name h = h
 front_stays (x ∷ xs) more (suc n) name h = front_stays xs more n name h
-
-at_end : (names : List (List ℕ)) (name : List ℕ) → slice_get (names ++ name ∷ []) (length names) ≡ Some name
-at_end [] name = refl
-at_end (x ∷ xs) name = at_end xs name
 
 stays_if : (there : Bool) (names : List (List ℕ)) (new : List ℕ) (said : Option (List ℕ)) → Named names said → Named (if there then names else names ++ new ∷ []) said
 stays_if true names new said h = h

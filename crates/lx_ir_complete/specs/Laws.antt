@@ -10,7 +10,7 @@ use Rattle.lx_ir_terms.specs.declared.fault.Fault.{Fault}
 use Rattle.lx_ir_terms.specs.declared.fault.FaultKind.TheVariants.{Twice}
 use Rattle.lx_ir_terms.specs.Reading.{Read}
 use Rattle.lx_ir_statements.specs.Defined.{nothing_defined}
-use Rattle.lx_ir_faults.specs.declared.fault.ReadFault.{ReadFault}
+use Rattle.lx_ir_read.specs.declared.fault.ReadFault.{ReadFault}
 use Rattle.lx_ir_read.specs.declared.first.Found.{Found}
 use Rattle.lx_ir_read.specs.declared.first.FirstReading.{FirstReading}
 use Rattle.lx_ir_read.specs.First.{unknown_context, first_reading}

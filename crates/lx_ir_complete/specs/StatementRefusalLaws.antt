@@ -8,7 +8,7 @@ use Rattle.lx_ir_terms.specs.declared.fault.FaultKind.TheVariants.{Twice}
 use Rattle.lx_ir_terms.specs.Context.{Context}
 use Rattle.lx_ir_terms.specs.Reading.{has}
 use Rattle.lx_ir_calls.specs.declared.intrinsics.TextForm.{TextForm}
-use Rattle.lx_ir_blocks.specs.Blocks.{blocks_at}
+use Rattle.lx_ir_statements.specs.Blocks.{blocks_at}
 use Rattle.lx_ir_statements.specs.declared.defined.Defined.{Defined}
 use Rattle.lx_ir_statements.specs.Statements.{statement_at}
 use Rattle.lx_ir_statements.specs.Grammar.{is_define_word}

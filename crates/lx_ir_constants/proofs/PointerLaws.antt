@@ -1,7 +1,8 @@
 -- Pointers: what is in the grammar is read, and what is read is in the grammar.
 use Rattle.std.proofs.Common.{◌≡◌, Bool, true, false, Some, None, List, [], ◌∷◌, ◌++◌, Ok, refl, sym, ap, ◌∙◌, subst, append_assoc}
-use Rattle.std.specs.Prelude.{if◌then◌else◌, ◌&&◌, ℤ}
+use Rattle.std.specs.Prelude.{if◌then◌else◌, ℤ}
 use Rattle.std.specs.List.{list_all}
+use Rattle.std.proofs.lemmas.Bool.{and_parts}
 use Rattle.lx_ir_tokens.specs.declared.token.Tok.{Tok}
 use Rattle.lx_ir_tokens.specs.declared.token.Kind.{Kind}
 use Rattle.lx_ir_tokens.specs.declared.token.Kind.TheVariants as kinds
@@ -46,15 +47,11 @@ form_finds p how ts us x e =
 no_flag : (k : Kind) → is_mark OpenParenthesis k ≡ true → is_flag_word k ≡ false
 no_flag k h = ap is_flag_word (mark_is OpenParenthesis k h)
 
-split_and : (a b : Bool) → (a && b) ≡ true → (a ≡ true) × (b ≡ true)
-split_and true b h = (refl, h)
-split_and false b h = cc
-
 pub flags_over : (fs vs : List Tok) → AreFlags fs → has is_flag_word vs ≡ false → skipped is_flag_word (fs ++ vs) ≡ vs
 flags_over [] [] e n = refl
 flags_over [] (t ∷ vs) e n = rw n refl
 flags_over (f ∷ fs) vs e n =
-    let s = split_and (is_flag_word f.kind) (list_all (λ u. is_flag_word u.kind) fs) e in
+    let s = and_parts (is_flag_word f.kind) (list_all (λ u. is_flag_word u.kind) fs) e in
     rw s.0 (flags_over fs vs s.1 n)
 
 pub opened_reads : Reads opened_at tt IsOpened

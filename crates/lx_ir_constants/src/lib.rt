@@ -1,4 +1,11 @@
 //! Constants, operands and initialisers of IR text: which tokens they are, and how they are read.
+//!
+//! ```text
+//! // At `7`, behind `i32`: the number 7 of 32 bits.
+//! let seven = constant(alloc, &mut reader, &context, Scalar::Int(Width::W32))?;
+//! // At `%p`, behind `ptr`: the register that the context says for the name.
+//! let p = value(alloc, &mut reader, &context, Scalar::Ptr)?;
+//! ```
 #![tactic(auto)]
 
 ghost use Rattle.lx_ir_constants.specs.Laws.{ConstantsAreRead, ConstantsAreFound, ValuesAreRead, ValuesAreFound, InitsAreRead, InitsAreFound, ConstantsAreRefused, ValuesAreRefused, InitsAreRefused};

@@ -1,4 +1,9 @@
 //! Copies of parts of modules, each equal to what is copied.
+//!
+//! ```text
+//! let same = copied_op(alloc, &op)?;
+//! let params = copies(alloc, function.params.as_slice())?;
+//! ```
 #![tactic(auto)]
 
 mod copied;

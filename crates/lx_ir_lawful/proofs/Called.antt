@@ -2,6 +2,7 @@
 use Rattle.std.proofs.Common.{◌≡◌, ℕ, Bool, true, false, ◌&&◌, ◌||◌, Option, Some, None, List, refl, sym, ap, ◌∙◌}
 use Rattle.std.specs.Prelude.{codes, bytes_eq, not, if◌then◌else◌}
 use Rattle.lx_words.specs.declared.word.Width.TheVariants.{W32, W64}
+use Rattle.lx_words.proofs.Options.{map_some}
 use Rattle.lx_ir_tokens.specs.declared.token.Kind.{Kind}
 use Rattle.lx_ir_tokens.specs.declared.token.Kind.TheVariants as kinds
 use Rattle.lx_ir.specs.declared.module.Symbol.{Symbol}
@@ -23,7 +24,7 @@ use Rattle.lx_ir_calls.specs.ImageLines.{image_line_named}
 use Rattle.lx_ir_calls.specs.Intrinsics.{line_named, write_or_line, intrinsic_named, intrinsic_of}
 use Rattle.lx_ir_calls.specs.Calls.{callee_of}
 use Rattle.lx_ir_lawful.specs.Tells.{Tells}
-use Rattle.lx_ir_lawful.proofs.Constants.{mapped, symbol_lawful}
+use Rattle.lx_ir_lawful.proofs.Constants.{symbol_lawful}
 use Rattle.lx_ir_lawful.specs.Said.{Names}
 
 neither : (w : Option BlockWrite) (l : Option ImageLine) → write_or_line w l ≡ None → (w ≡ None) × (l ≡ None)
@@ -109,6 +110,6 @@ module _ (m : Module) (context : Context) (form : TextForm) (tells : Tells m con
   pub callee_said : (k : Kind) (name : ℕ) (f : Callee) → callee_of context k name ≡ Some f → intrinsic_of context form k name ≡ None → is_lawful_callee m f ≡ true
   callee_said kinds.Local name f e h = let s : callee.Register (register_number context name) ≡ f = cc in ap (is_lawful_callee m) (sym s)
   callee_said kinds.Global name f e h =
-      let s = mapped callee.Symbol (symbol_of context name) f e in
+      let s = map_some callee.Symbol (symbol_of context name) f e in
       ap (is_lawful_callee m) (sym s.2) ∙ symbol_callee name s.0 s.1 h
   callee_said k name f e h = absurd (cc e)

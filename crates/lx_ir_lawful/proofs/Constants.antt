@@ -1,10 +1,12 @@
 -- Constants that tokens say are lawful.
-use Rattle.std.proofs.Common.{◌≡◌, ℕ, zero, suc, ◌+◌, ◌%◌, ◌^◌, ◌≤◌, Bool, true, false, ◌&&◌, Option, Some, None, List, ℤ, ◌⊎◌, inl, inr, refl, sym, ap, ◌∙◌, subst, arith, option_map}
+use Rattle.std.proofs.Common.{◌≡◌, ℕ, zero, suc, ◌+◌, ◌%◌, ◌^◌, ◌≤◌, Bool, true, false, Option, Some, None, List, ℤ, ◌⊎◌, inl, inr, refl, sym, ap, ◌∙◌, subst, arith}
 use Rattle.std.specs.Prelude.{if◌then◌else◌}
+use Rattle.std.proofs.lemmas.Bool.{and_from}
 use Rattle.lx_words.specs.declared.word.Width.{Width}
-use Rattle.lx_words.specs.declared.word.Width.TheVariants.{W1, W8, W16, W32, W64}
 use Rattle.lx_words.specs.Width.{same_width}
 use Rattle.lx_words.specs.Word.{Word, word_of_int}
+use Rattle.lx_words.proofs.Options.{map_some}
+use Rattle.lx_words.proofs.Widths.{width_itself}
 use Rattle.lx_ir_tokens.specs.declared.token.Tok.{Tok}
 use Rattle.lx_ir_tokens.specs.declared.token.Kind.{Kind}
 use Rattle.lx_ir_tokens.specs.declared.token.Kind.TheVariants as kinds
@@ -30,20 +32,6 @@ use Rattle.lx_ir_terms.specs.Grammar.{is_inside_limits, IsWritten}
 use Rattle.lx_ir_constants.specs.Constants.{is_in_range, word_of, number_value, number_in, blank_of, pointer_of_word, symbol_pointer, flat_pointer_of, moved_by, blank_at_type, constant_of_word, number_at_type, flat_constant_of}
 use Rattle.lx_ir_constants.specs.Grammar.{IsPointer, IsPointerExpression, IsCast, IsAddressConstant, IsExpression, IsConstant}
 use Rattle.lx_ir_lawful.specs.Tells.{Tells}
-
-pub mapped : {A B : Type 0} (f : A → B) (o : Option A) (y : B) → option_map f o ≡ Some y → (x : A) × (o ≡ Some x) × (f x ≡ y)
-mapped f (Some x) y e = (x, refl, cc)
-mapped f None y e = absurd (cc e)
-
-pub both_true : (a b : Bool) → a ≡ true → b ≡ true → (a && b) ≡ true
-both_true a b p q = rw (p, q) refl
-
-pub same_width_is : (w : Width) → same_width w w ≡ true
-same_width_is W1 = refl
-same_width_is W8 = refl
-same_width_is W16 = refl
-same_width_is W32 = refl
-same_width_is W64 = refl
 
 -- a number at a width is a word of it
 word_at : (w : Width) (z : ℤ) (b : Bool) (n : Word) → (if b then Some (word_of_int w z) else None) ≡ Some n → n.width ≡ w
@@ -93,14 +81,14 @@ module _ (m : Module) (context : Context) (tells : Tells m context) where
   word_pointer constants.True p e = absurd (cc e)
   word_pointer constants.False p e = absurd (cc e)
   word_pointer constants.Null p e = let s : pointers.Null ≡ p = cc in subst (LawfulPointer 0) s (record { lawful = refl; nesting = omega arith })
-  word_pointer constants.Undef p e = let s = mapped pointers.Blank (blank_of constants.Undef) p e in subst (LawfulPointer 0) s.2 (record { lawful = refl; nesting = omega arith })
-  word_pointer constants.Poison p e = let s = mapped pointers.Blank (blank_of constants.Poison) p e in subst (LawfulPointer 0) s.2 (record { lawful = refl; nesting = omega arith })
-  word_pointer constants.Zero p e = let s = mapped pointers.Blank (blank_of constants.Zero) p e in subst (LawfulPointer 0) s.2 (record { lawful = refl; nesting = omega arith })
+  word_pointer constants.Undef p e = let s = map_some pointers.Blank (blank_of constants.Undef) p e in subst (LawfulPointer 0) s.2 (record { lawful = refl; nesting = omega arith })
+  word_pointer constants.Poison p e = let s = map_some pointers.Blank (blank_of constants.Poison) p e in subst (LawfulPointer 0) s.2 (record { lawful = refl; nesting = omega arith })
+  word_pointer constants.Zero p e = let s = map_some pointers.Blank (blank_of constants.Zero) p e in subst (LawfulPointer 0) s.2 (record { lawful = refl; nesting = omega arith })
 
   flat_pointer : (k : Kind) (name : ℕ) (p : Pointer) → flat_pointer_of context k name ≡ Some p → LawfulPointer 0 p
   flat_pointer (kinds.Word (keywords.Constant w)) name p e = word_pointer w p e
   flat_pointer kinds.Global name p e =
-      let s = mapped symbol_pointer (symbol_of context name) p e in
+      let s = map_some symbol_pointer (symbol_of context name) p e in
       subst (LawfulPointer 0) s.2 (record { lawful = symbol_lawful name s.0 s.1; nesting = omega arith })
   flat_pointer k name p e = absurd (cc e)
 
@@ -144,28 +132,28 @@ module _ (m : Module) (context : Context) (tells : Tells m context) where
     pub nesting : nesting_of_constant c ≤ depth
 
   blank_lawful : (ty : Scalar) (b : Blank) (c : Constant) → blank_at_type ty b ≡ c → LawfulConstant 0 ty c
-  blank_lawful (Int w) b c e = subst (LawfulConstant 0 (Int w)) e (record { lawful = same_width_is w; nesting = omega arith })
+  blank_lawful (Int w) b c e = subst (LawfulConstant 0 (Int w)) e (record { lawful = width_itself w; nesting = omega arith })
   blank_lawful Ptr b c e = subst (LawfulConstant 0 Ptr) e (record { lawful = refl; nesting = omega arith })
 
   word_constant : (ty : Scalar) (w : ConstantWord) (c : Constant) → constant_of_word ty w ≡ Some c → LawfulConstant 0 ty c
   word_constant ty constants.True c e = let s : made.Truth true ≡ c = cc in subst (LawfulConstant 0 ty) s (record { lawful = refl; nesting = omega arith })
   word_constant ty constants.False c e = let s : made.Truth false ≡ c = cc in subst (LawfulConstant 0 ty) s (record { lawful = refl; nesting = omega arith })
   word_constant ty constants.Null c e = let s : made.Pointer pointers.Null ≡ c = cc in subst (LawfulConstant 0 ty) s (record { lawful = refl; nesting = omega arith })
-  word_constant ty constants.Undef c e = let s = mapped (blank_at_type ty) (blank_of constants.Undef) c e in blank_lawful ty s.0 c s.2
-  word_constant ty constants.Poison c e = let s = mapped (blank_at_type ty) (blank_of constants.Poison) c e in blank_lawful ty s.0 c s.2
-  word_constant ty constants.Zero c e = let s = mapped (blank_at_type ty) (blank_of constants.Zero) c e in blank_lawful ty s.0 c s.2
+  word_constant ty constants.Undef c e = let s = map_some (blank_at_type ty) (blank_of constants.Undef) c e in blank_lawful ty s.0 c s.2
+  word_constant ty constants.Poison c e = let s = map_some (blank_at_type ty) (blank_of constants.Poison) c e in blank_lawful ty s.0 c s.2
+  word_constant ty constants.Zero c e = let s = map_some (blank_at_type ty) (blank_of constants.Zero) c e in blank_lawful ty s.0 c s.2
 
   number_constant : (ty : Scalar) (k : Kind) (c : Constant) → number_at_type ty k ≡ Some c → LawfulConstant 0 ty c
   number_constant (Int w) k c e =
-      let s = mapped made.Number (number_in w k) c e in
-      subst (LawfulConstant 0 (Int w)) s.2 (record { lawful = ap (λ v. same_width v w) (number_width w k s.0 s.1) ∙ same_width_is w; nesting = omega arith })
+      let s = map_some made.Number (number_in w k) c e in
+      subst (LawfulConstant 0 (Int w)) s.2 (record { lawful = ap (λ v. same_width v w) (number_width w k s.0 s.1) ∙ width_itself w; nesting = omega arith })
   number_constant Ptr k c e = absurd (cc e)
 
   flat_constant : (ty : Scalar) (k : Kind) (name : ℕ) (c : Constant) → flat_constant_of context ty k name ≡ Some c → LawfulConstant 0 ty c
   flat_constant ty (kinds.Word (keywords.Constant w)) name c e = word_constant ty w c e
   flat_constant ty kinds.Global name c e =
-      let s = mapped (λ x. made.Pointer (symbol_pointer x)) (symbol_of context name) c e in
-      subst (LawfulConstant 0 ty) s.2 (record { lawful = both_true (is_lawful_symbol m s.0) true (symbol_lawful name s.0 s.1) refl; nesting = omega arith })
+      let s = map_some (λ x. made.Pointer (symbol_pointer x)) (symbol_of context name) c e in
+      subst (LawfulConstant 0 ty) s.2 (record { lawful = and_from (is_lawful_symbol m s.0) true (symbol_lawful name s.0 s.1) refl; nesting = omega arith })
   flat_constant ty (kinds.Number v minus) name c e = number_constant ty (kinds.Number v minus) c e
   flat_constant ty k name c e = absurd (cc e)
 
@@ -194,7 +182,7 @@ module _ (m : Module) (context : Context) (tells : Tells m context) where
   expression_lawful : (depth : ℕ) (ty : Scalar) (c : Constant) → LawfulExpression m depth c → LawfulConstant depth ty c
   expression_lawful depth ty c (inl (p, w, l, n, e)) = subst (LawfulConstant depth ty) e (record { lawful = l; nesting = n })
   expression_lawful depth ty c (inr (p, l, n, s, e)) =
-      subst (LawfulConstant depth ty) e (record { lawful = both_true (is_lawful_pointer m p) (fits_pointer ty p) l (solid_fits ty p s); nesting = n })
+      subst (LawfulConstant depth ty) e (record { lawful = and_from (is_lawful_pointer m p) (fits_pointer ty p) l (solid_fits ty p s); nesting = n })
 
   pub constant_lawful : (depth : ℕ) (ty : Scalar) (c : Constant) (ts : List Tok) → IsConstant context depth ty c ts → LawfulConstant depth ty c
   constant_lawful depth ty c ts (inl (t, e, f)) =

@@ -4,6 +4,7 @@ use Rattle.std.specs.Prelude.{if◌then◌else◌}
 use Rattle.std.specs.Option.{option_flatten}
 use Rattle.std.specs.List.{list_all}
 use Rattle.std.proofs.lemmas.Bool.{and_parts, eqb-true}
+use Rattle.std.proofs.lemmas.Option.{same_Some}
 use Rattle.lx_ir.specs.declared.module.Symbol.{Symbol}
 use Rattle.lx_ir.specs.declared.module.Symbol.TheVariants as symbol
 use Rattle.lx_ir.specs.Text.{name_at}
@@ -15,12 +16,9 @@ use Rattle.lx_ir_lawful.proofs.Placed.{name_at_number}
 
 -- Tables.
 
-some_same : {A : Type 0} (x y : A) → Some x ≡ Some y → x ≡ y
-some_same x y e = cc e
-
 table_entry : (s c i : ℕ) (things : List (Option ℕ)) (o : Option ℕ) → slice_get (numbers_from s c things) i ≡ Some o → o ≡ number_named things (s + i)
 table_entry s zero i things o e = absurd (cc e)
-table_entry s (suc c) zero things o e = let here : s ≡ s + 0 = omega arith in sym (some_same (number_named things s) o e) ∙ ap (number_named things) here
+table_entry s (suc c) zero things o e = let here : s ≡ s + 0 = omega arith in sym (same_Some (number_named things s) o e) ∙ ap (number_named things) here
 table_entry s (suc c) (suc i) things o e = let here : suc s + i ≡ s + suc i = omega arith in table_entry (suc s) c i things o e ∙ ap (number_named things) here
 
 abbrev TwoEntries : List (Option ℕ) → List (Option ℕ) → ℕ → Option Symbol → Type 0
@@ -30,13 +28,13 @@ two_entries : (gs fs : List (Option ℕ)) (i : ℕ) (o : Option Symbol) → slic
 two_entries [] [] i o e = absurd (cc e)
 two_entries [] (f ∷ fs) i o e = absurd (cc e)
 two_entries (g ∷ gs) [] i o e = absurd (cc e)
-two_entries (g ∷ gs) (f ∷ fs) zero o e = (g, f, refl, refl, some_same (symbol_by g f) o e)
+two_entries (g ∷ gs) (f ∷ fs) zero o e = (g, f, refl, refl, same_Some (symbol_by g f) o e)
 two_entries (g ∷ gs) (f ∷ fs) (suc i) o e = two_entries gs fs i o e
 
 flat : (o : Option (Option Symbol)) (s : Symbol) → option_flatten o ≡ Some s → o ≡ Some (Some s)
 flat None s e = absurd (cc e)
 flat (Some None) s e = absurd (cc e)
-flat (Some (Some x)) s e = ap (λ y. Some (Some y)) (some_same x s e)
+flat (Some (Some x)) s e = ap (λ y. Some (Some y)) (same_Some x s e)
 
 -- Names.
 
@@ -52,7 +50,7 @@ module _ (names : List (List ℕ)) where
   placed_by : (b : Bool) (w : List ℕ) (ws : List (List ℕ)) (j n k : ℕ) → has_name n (number_of names w) ≡ b → (number_from (suc j) (map (number_of names) ws) n ≡ Some k → Placed ws (suc j) n k)
       → (if b then Some j else number_from (suc j) (map (number_of names) ws) n) ≡ Some k → Placed (w ∷ ws) j n k
   placed_by true w ws j n k here rest e =
-      let same : j ≡ k = some_same j k e in
+      let same : j ≡ k = same_Some j k e in
       (0, omega (arith, same), omega arith, name_at_number names w n (named_is n (number_of names w) here))
   placed_by false w ws j n k here rest e =
       let (i, place, less, at) = rest e in
@@ -79,8 +77,8 @@ module _ (names : List (List ℕ)) where
   IsPlaced gs fs n (symbol.Function k) = StandsIn fs n k
 
   by_two : (gs fs : List (List ℕ)) (n : ℕ) (s : Symbol) (g f : Option ℕ) → slice_get (table_of (named_things names gs)) n ≡ Some g → slice_get (table_of (named_things names fs)) n ≡ Some f → symbol_by g f ≡ Some s → IsPlaced gs fs n s
-  by_two gs fs n s (Some k) f a b e = subst (IsPlaced gs fs n) (some_same (symbol.Global k) s e) (stands gs n k (Some k) a refl)
-  by_two gs fs n s None (Some k) a b e = subst (IsPlaced gs fs n) (some_same (symbol.Function k) s e) (stands fs n k (Some k) b refl)
+  by_two gs fs n s (Some k) f a b e = subst (IsPlaced gs fs n) (same_Some (symbol.Global k) s e) (stands gs n k (Some k) a refl)
+  by_two gs fs n s None (Some k) a b e = subst (IsPlaced gs fs n) (same_Some (symbol.Function k) s e) (stands fs n k (Some k) b refl)
   by_two gs fs n s None None a b e = absurd (cc e)
 
   pub is_placed : (gs fs : List (List ℕ)) (n : ℕ) (s : Symbol) → entry (symbols_by (table_of (named_things names gs)) (table_of (named_things names fs))) n ≡ Some s → IsPlaced gs fs n s

@@ -31,7 +31,7 @@ use Rattle.lx_ir_tables.specs.Numbering.{Numbering}
 use Rattle.lx_ir_read.specs.declared.first.Found.{Found}
 use Rattle.lx_ir_read.specs.declared.draft.Draft.{Draft}
 use Rattle.lx_ir_read.specs.Again.{registers_in, with_defined, with_declared, import_of, local_names, kept}
-use Rattle.lx_ir_faults.specs.Fault.{line_shown}
+use Rattle.lx_ir_read.specs.Fault.{line_shown}
 use Rattle.lx_ir_read.specs.Grammar.{AreStatements, AddAll}
 
 -- Tokens.

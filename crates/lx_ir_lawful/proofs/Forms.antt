@@ -2,8 +2,10 @@
 use Rattle.std.proofs.Common.{◌≡◌, ℕ, Bool, true, false, ◌||◌, Option, Some, None, List, [], ◌∷◌, ◌++◌, refl, sym, ap, ◌∙◌, nat_lt, length}
 use Rattle.std.specs.Prelude.{codes, bytes_eq, is_none, is_some, if◌then◌else◌}
 use Rattle.std.specs.List.{list_all}
+use Rattle.std.proofs.lemmas.Bool.{and_from}
 use Rattle.lx_words.specs.declared.word.Width.{Width}
 use Rattle.lx_words.specs.declared.word.Width.TheVariants.{W1, W8, W32, W64}
+use Rattle.lx_words.proofs.Options.{map_some}
 use Rattle.lx_ir_tokens.specs.declared.token.Tok.{Tok}
 use Rattle.lx_ir_tokens.specs.declared.token.Kind.{Kind}
 use Rattle.lx_ir_tokens.specs.declared.token.Kind.TheVariants as kinds
@@ -38,7 +40,7 @@ use Rattle.lx_ir_calls.specs.Calls.{call_result_in}
 use Rattle.lx_ir_calls.specs.Grammar.{IsArgument, IsGivenArgument, IsNextArgument, IsSymbolArgument, IsPlainCall}
 use Rattle.lx_ir_instructions.specs.Grammar.{IsForm}
 use Rattle.lx_ir_lawful.specs.Tells.{Tells}
-use Rattle.lx_ir_lawful.proofs.Constants.{mapped, both_true, symbol_lawful}
+use Rattle.lx_ir_lawful.proofs.Constants.{symbol_lawful}
 use Rattle.lx_ir_lawful.specs.Said.{is_said, Names, Said}
 use Rattle.lx_ir_lawful.proofs.Ops.{one, two, three, value_said, typed_said, second_said, address_said, again_said, all_edges_said, all_indices_said, cases_said}
 use Rattle.lx_ir_lawful.proofs.Called.{callee_said}
@@ -82,7 +84,7 @@ length_is : (a : Argument) (w : Width) → a.ty ≡ Int w → is_long w ≡ true
 length_is a w e h = ap (λ t. same_scalar (Int W32) t || same_scalar (Int W64) t) e ∙ h
 
 given_result : (k : Kind) (ret : Option Scalar) → call_result_in true k ≡ Some ret → is_some ret ≡ true
-given_result k ret e = let s = mapped Some (scalar_in k) ret e in ap is_some (sym s.2)
+given_result k ret e = let s = map_some Some (scalar_in k) ret e in ap is_some (sym s.2)
 
 module _ (m : Module) (context : Context) (form : TextForm) (tells : Tells m context) (names : Names form m context)
     (written : (t : IrType) (ts : List Tok) → IsWritten context t ts → is_lawful_type m.types t ≡ true) where
@@ -108,11 +110,11 @@ module _ (m : Module) (context : Context) (form : TextForm) (tells : Tells m con
 
   further_arguments : (xs : List Argument) (ts : List Tok) → AreFurther (IsArgument context) xs ts → list_all (λ a. is_said m a.ty a.value) xs ≡ true
   further_arguments [] ts h = refl
-  further_arguments (x ∷ xs) ts h = both_true (is_said m x.ty x.value) _ (argument_said x _ h.3.2) (further_arguments xs _ h.3.3)
+  further_arguments (x ∷ xs) ts h = and_from (is_said m x.ty x.value) _ (argument_said x _ h.3.2) (further_arguments xs _ h.3.3)
 
   arguments_said : (xs : List Argument) (ts : List Tok) → AreListed (IsArgument context) xs ts → list_all (λ a. is_said m a.ty a.value) xs ≡ true
   arguments_said [] ts h = refl
-  arguments_said (x ∷ xs) ts h = both_true (is_said m x.ty x.value) _ (argument_said x _ h.2) (further_arguments xs _ h.3)
+  arguments_said (x ∷ xs) ts h = and_from (is_said m x.ty x.value) _ (argument_said x _ h.2) (further_arguments xs _ h.3)
 
   called_operands : (f : Callee) (xs : List Argument) → list_all (λ a. is_said m a.ty a.value) xs ≡ true → list_all (λ a. is_said m a.ty a.value) (callee_operands f ++ xs) ≡ true
   called_operands (callee.Register r) xs h = h
@@ -122,7 +124,7 @@ module _ (m : Module) (context : Context) (form : TextForm) (tells : Tells m con
   call_said to ret f args ts r h =
       let c = h.2 in
       record {
-        form = both_true (is_none to || is_some ret) (is_lawful_callee m f) r (callee_said m context form tells names c.0.kind c.0.name f c.1 c.2);
+        form = and_from (is_none to || is_some ret) (is_lawful_callee m f) r (callee_said m context form tells names c.0.kind c.0.name f c.1 c.2);
         values = called_operands f args (arguments_said args _ h.3.3.2);
       }
 
@@ -147,8 +149,8 @@ module _ (m : Module) (context : Context) (form : TextForm) (tells : Tells m con
       let body = h.3.3.3 in
       let l = all_indices_said m context tells indices _ body.3.3.3 in
       record {
-        form = both_true (is_lawful_type m.types ty) (nat_lt 0 (length indices)) (written ty _ body.2.3) l.0;
-        values = both_true (is_said m Ptr base) _ (address_said m context tells base _ body.3.2) l.1;
+        form = and_from (is_lawful_type m.types ty) (nat_lt 0 (length indices)) (written ty _ body.2.3) l.0;
+        values = and_from (is_said m Ptr base) _ (address_said m context tells base _ body.3.2) l.1;
       }
   form_said (op.Call None ret f args) ts h = call_said None ret f args _ refl h.3.3.3.2
   form_said (op.Call (Some to) ret f args) ts h =
@@ -185,7 +187,7 @@ module _ (m : Module) (context : Context) (form : TextForm) (tells : Tells m con
   form_said (op.Branch c a b) ts h = record { form = refl; values = one (is_said m (Int W1) c) (value_said m context tells (Int W1) c _ h.3.3.2) }
   form_said (op.Switch ty v otherwise cases) ts h =
       let l = cases_said m context tells ty cases _ h.3.3.3.3.2 in
-      record { form = l.0; values = both_true (is_said m ty v) _ (typed_said m context tells (argument ty v) _ h.3.2.3) l.1 }
+      record { form = l.0; values = and_from (is_said m ty v) _ (typed_said m context tells (argument ty v) _ h.3.2.3) l.1 }
   form_said op.Unreachable ts h = record { form = refl; values = refl }
   form_said (op.Guard at size narrow) ts h =
       let parts = h.3.3.3.2.3.3 in

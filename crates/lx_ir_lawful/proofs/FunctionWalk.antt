@@ -3,6 +3,7 @@ use Rattle.std.proofs.Common.{◌≡◌, ℕ, Bool, true, false, ◌&&◌, Optio
 use Rattle.std.specs.Prelude.{if◌then◌else◌}
 use Rattle.std.specs.List.{list_all}
 use Rattle.std.proofs.lemmas.List.Folds.{list_all-append}
+use Rattle.std.proofs.lemmas.Bool.{and_from}
 use Rattle.lx_words.specs.declared.token.Token.{Token}
 use Rattle.lx_ir.specs.declared.types.Scalar.{Scalar}
 use Rattle.lx_ir.specs.declared.module.Parameter.{Parameter}
@@ -18,7 +19,7 @@ use Rattle.lx_ir_statements.specs.declared.defined.Defined.{Defined}
 use Rattle.lx_ir_statements.specs.Defined.{nothing_defined, is_block_write, with_statement}
 use Rattle.lx_ir_statements.specs.Grammar.{IsFunction, IsStatement}
 use Rattle.lx_ir_tables.specs.Numbering.{table_of}
-use Rattle.lx_ir_faults.specs.Fault.{line_shown}
+use Rattle.lx_ir_read.specs.Fault.{line_shown}
 use Rattle.lx_ir_read.specs.declared.first.Found.{Found}
 use Rattle.lx_ir_read.specs.declared.draft.Draft.{Draft}
 use Rattle.lx_ir_read.specs.First.{unknown_context}
@@ -29,11 +30,8 @@ use Rattle.lx_ir_read.specs.Grammar.{AreStatements, AddAll, IsModule}
 use Rattle.lx_ir_lawful.proofs.Sizes.{left_there}
 use Rattle.lx_ir_lawful.specs.FunctionLaws.{last_context}
 
-both_true : (a b : Bool) → a ≡ true → b ≡ true → (a && b) ≡ true
-both_true a b p q = rw (p, q) refl
-
 one_more : (p : Function → Bool) (xs : List Function) (x : Function) → list_all p xs ≡ true → p x ≡ true → list_all p (xs ++ x ∷ []) ≡ true
-one_more p xs x h g = list_all-append p xs (x ∷ []) ∙ both_true (list_all p xs) (p x && true) h (both_true (p x) true g refl)
+one_more p xs x h g = list_all-append p xs (x ∷ []) ∙ and_from (list_all p xs) (p x && true) h (and_from (p x) true g refl)
 
 -- the function that is kept of a statement which the first reading found there
 abbrev pub function_of : Context → Statement → ℕ → Option Scalar → List Parameter → List Block → ℕ → Function
@@ -105,5 +103,5 @@ functions_pass form text m is q imported each =
     let g : Good q is.draft =
     all_good form is.ir.places full is.ir.toks q imported each is.statements nothing_defined [] is.ir.toks no_draft is.draft is.falls refl is.says (record { imports = refl; functions = refl }) in
     let both : list_all q (is.draft.imports ++ is.draft.functions) ≡ true =
-    list_all-append q is.draft.imports is.draft.functions ∙ both_true (list_all q is.draft.imports) (list_all q is.draft.functions) g.imports g.functions in
+    list_all-append q is.draft.imports is.draft.functions ∙ and_from (list_all q is.draft.imports) (list_all q is.draft.functions) g.imports g.functions in
     subst (λ (n : Module). list_all q n.functions ≡ true) is.is both

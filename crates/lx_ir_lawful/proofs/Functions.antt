@@ -1,8 +1,8 @@
 -- The functions of a module that is read are lawful.
-use Rattle.std.proofs.Common.{◌≡◌, ℕ, ◌+◌, ◌<◌, Bool, true, false, not, ◌&&◌, ◌||◌, List, [], ◌∷◌, length, map, refl, sym, ◌∙◌, subst}
+use Rattle.std.proofs.Common.{◌≡◌, ℕ, ◌+◌, ◌<◌, Bool, true, false, not, ◌||◌, List, [], ◌∷◌, length, map, refl, sym, ◌∙◌, subst}
 use Rattle.std.specs.Prelude.{◌^◌, flat_map, if◌then◌else◌}
 use Rattle.std.specs.List.{list_all}
-use Rattle.std.proofs.lemmas.Bool.{and_parts}
+use Rattle.std.proofs.lemmas.Bool.{and_parts, and_from}
 use Rattle.std.proofs.lemmas.List.Folds.{list_all-append}
 use Rattle.lx_ir.specs.declared.module.Function.{Function}
 use Rattle.lx_ir.specs.declared.module.Module.{Module}
@@ -30,9 +30,6 @@ use Rattle.lx_ir_lawful.proofs.ImageLines.{form_no_line}
 use Rattle.lx_ir_lawful.proofs.ReadBodies.{body_of}
 use Rattle.lx_ir_lawful.proofs.FunctionWalk.{functions_pass}
 
-both_true : (a b : Bool) → a ≡ true → b ≡ true → (a && b) ≡ true
-both_true a b p q = rw (p, q) refl
-
 -- Functions are lawful.
 
 -- an import, or a function with a lawful body
@@ -49,8 +46,8 @@ all_lawful m (f ∷ fs) named bodies imports =
     let name = and_parts (is_name f.name) (list_all is_name (map (λ f. f.name) fs)) named in
     let body = and_parts (has_body m f) (list_all (has_body m) fs) bodies in
     let first = and_parts (is_first_or_defined f) (list_all is_first_or_defined fs) imports in
-    both_true (is_lawful_function m f) (list_all (is_lawful_function m) fs)
-    (both_true (is_name f.name) (if is_defined f then is_lawful_body m f else is_lawful_import f) name.0 (defined_or_import (is_defined f) (is_lawful_body m f) (is_lawful_import f) body.0 first.0))
+    and_from (is_lawful_function m f) (list_all (is_lawful_function m) fs)
+    (and_from (is_name f.name) (if is_defined f then is_lawful_body m f else is_lawful_import f) name.0 (defined_or_import (is_defined f) (is_lawful_body m f) (is_lawful_import f) body.0 first.0))
     (all_lawful m fs name.1 body.1 first.1)
 
 pub functions_are_lawful : (form : TextForm) (text : List ℕ) (m : Module) (is : IsModule form text m) → Tells m (last_context form text m is) → Names form m (last_context form text m is) → length is.ir.toks + 1 < 2 ^ 32 → list_all (is_lawful_function m) m.functions ≡ true
@@ -72,7 +69,7 @@ all_of_all : {X Y : Type 0} (p : Y → Bool) (g : X → List Y) (xs : List X) �
 all_of_all p g [] h = refl
 all_of_all p g (x ∷ xs) h =
     let both = and_parts (list_all p (g x)) (list_all (λ y. list_all p (g y)) xs) h in
-    list_all-append p (g x) (flat_map g xs) ∙ both_true (list_all p (g x)) (list_all p (flat_map g xs)) both.0 (all_of_all p g xs both.1)
+    list_all-append p (g x) (flat_map g xs) ∙ and_from (list_all p (g x)) (list_all p (flat_map g xs)) both.0 (all_of_all p g xs both.1)
 
 -- no instruction of the function is such a line
 abbrev has_no_line : Function → Bool

@@ -16,8 +16,8 @@ use Rattle.lx_ir_calls.specs.declared.intrinsics.TextForm.{TextForm}
 use Rattle.lx_ir_calls.specs.Calls.{is_tail_word}
 use Rattle.lx_ir_calls.specs.Grammar.{IsCall}
 use Rattle.lx_ir_instructions.specs.Grammar.{IsRegister, IsForm, IsInstr}
-use Rattle.lx_ir_heads.specs.Parameters.{local_name}
-use Rattle.lx_ir_blocks.specs.Blocks.{given}
+use Rattle.lx_ir_statements.specs.Parameters.{local_name}
+use Rattle.lx_ir_statements.specs.Blocks.{given}
 
 -- the name that stands first names the register that is given
 abbrev pub IsGiven : Context → Option ℕ → Option ℕ → Type 0

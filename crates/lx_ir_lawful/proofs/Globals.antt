@@ -2,7 +2,7 @@
 use Rattle.std.proofs.Common.{◌≡◌, ℕ, ◌≤◌, Bool, true, false, ◌&&◌, List, [], ◌∷◌, ◌++◌, map, nat_le, Option, refl, ◌∙◌, subst, arith}
 use Rattle.std.specs.Prelude.{if◌then◌else◌}
 use Rattle.std.specs.List.{list_all}
-use Rattle.std.proofs.lemmas.Bool.{and_parts}
+use Rattle.std.proofs.lemmas.Bool.{and_parts, and_from}
 use Rattle.std.proofs.lemmas.Bool.Decides.{nat_tests}
 use Rattle.std.proofs.lemmas.List.Folds.{list_all-append}
 use Rattle.lx_words.specs.declared.token.Token.{Token}
@@ -23,14 +23,11 @@ use Rattle.lx_ir_tables.specs.Numbering.{Numbering, table_of}
 use Rattle.lx_ir_read.specs.declared.first.Found.{Found}
 use Rattle.lx_ir_read.specs.declared.draft.Draft.{Draft}
 use Rattle.lx_ir_read.specs.Again.{registers_in, with_registers, with_defined, with_declared, import_of, kept}
-use Rattle.lx_ir_faults.specs.Fault.{line_shown}
+use Rattle.lx_ir_read.specs.Fault.{line_shown}
 use Rattle.lx_ir_read.specs.Grammar.{AddAll}
 use Rattle.lx_ir_lawful.specs.Tells.{Tells}
 use Rattle.lx_ir_lawful.proofs.Constants.{written_lawful}
 use Rattle.lx_ir_lawful.proofs.Initialisers.{init_lawful}
-
-both_true : (a b : Bool) → a ≡ true → b ≡ true → (a && b) ≡ true
-both_true a b p q = rw (p, q) refl
 
 shallow : (n : ℕ) → n ≤ 64 → nat_le n 64 ≡ true
 shallow n h = grind (arith, nat_tests, h)
@@ -41,7 +38,7 @@ module _ (m : Module) where
   is_said_global g = is_lawful_init m g.ty g.init && nat_le (nesting_of_init g.init) 64
 
   one_more : (gs : List GlobalVar) (g : GlobalVar) → list_all is_said_global gs ≡ true → is_said_global g ≡ true → list_all is_said_global (gs ++ g ∷ []) ≡ true
-  one_more gs g h e = list_all-append is_said_global gs (g ∷ []) ∙ both_true (list_all is_said_global gs) (is_said_global g && true) h (both_true (is_said_global g) true e refl)
+  one_more gs g h e = list_all-append is_said_global gs (g ∷ []) ∙ and_from (list_all is_said_global gs) (is_said_global g && true) h (and_from (is_said_global g) true e refl)
 
   import_said : (b : Bool) (d : Draft) (f : Function) → list_all is_said_global d.globals ≡ true → list_all is_said_global (if b then d else with_declared d f).globals ≡ true
   import_said true d f g = g
@@ -54,7 +51,7 @@ module _ (m : Module) where
         let context : Context = with_registers c (table_of registers) in
         let x : GlobalVar = record { name = bytes_of c name; constant = constant; ty = ty; init = init; line = line } in
         let l = init_lawful m context (tells (table_of registers)) (written_lawful m context (tells (table_of registers)) lawful) 64 ty init f6 init_is in
-        one_more d.globals x g (both_true (is_lawful_init m ty init) (nat_le (nesting_of_init init) 64) l.lawful (shallow (nesting_of_init init) l.nesting))
+        one_more d.globals x g (and_from (is_lawful_init m ty init) (nat_le (nesting_of_init init) 64) l.lawful (shallow (nesting_of_init init) l.nesting))
     kept_said registers line d (statements.Import name ret params) front back is g =
         import_said (is_block_write c name) (with_defined c d (statements.Import name ret params)) (import_of (bytes_of c name) ret params line) g
     kept_said registers line d (statements.Function name ret params blocks) front back is g = g
@@ -72,7 +69,7 @@ module _ (m : Module) where
       let two = and_parts (is_lawful_type m.types g.ty) (list_all (λ (x : GlobalVar). is_lawful_type m.types x.ty) gs) k in
       let three = and_parts (is_said_global g) (list_all is_said_global gs) l in
       let both = and_parts (is_lawful_init m g.ty g.init) (nat_le (nesting_of_init g.init) 64) three.0 in
-      both_true (is_lawful_global m g) (list_all (is_lawful_global m) gs)
-      (both_true ((is_name g.name && is_lawful_type m.types g.ty) && is_lawful_init m g.ty g.init) (nat_le (nesting_of_init g.init) 64)
-      (both_true (is_name g.name && is_lawful_type m.types g.ty) (is_lawful_init m g.ty g.init) (both_true (is_name g.name) (is_lawful_type m.types g.ty) one.0 two.0) both.0) both.1)
+      and_from (is_lawful_global m g) (list_all (is_lawful_global m) gs)
+      (and_from ((is_name g.name && is_lawful_type m.types g.ty) && is_lawful_init m g.ty g.init) (nat_le (nesting_of_init g.init) 64)
+      (and_from (is_name g.name && is_lawful_type m.types g.ty) (is_lawful_init m g.ty g.init) (and_from (is_name g.name) (is_lawful_type m.types g.ty) one.0 two.0) both.0) both.1)
       (each_global gs one.1 two.1 three.1)

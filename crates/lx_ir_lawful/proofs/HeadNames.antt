@@ -3,7 +3,7 @@ use Rattle.std.proofs.Common.{◌≡◌, ◌⊎◌, inl, inr, ℕ, suc, ◌+◌,
 use Rattle.std.specs.Prelude.{unwrap_or, nat_le, not, nat_lt, nat_eq}
 use Rattle.std.specs.List.{list_all, list_any, AllByRecursion}
 use Rattle.std.specs.Char.{IsAsciiDigit}
-use Rattle.std.proofs.lemmas.Bool.{le-leb, leb-true, and_parts}
+use Rattle.std.proofs.lemmas.Bool.{le-leb, leb-true, and_parts, and_from}
 use Rattle.std.proofs.lemmas.Bool.Decides.{nat_tests}
 use Rattle.std.proofs.lemmas.List.{length-append, map-append}
 use Rattle.std.proofs.lemmas.List.Elements.{recursion_from_All}
@@ -22,10 +22,10 @@ use Rattle.lx_ir_terms.specs.Context.{Context}
 use Rattle.lx_ir_terms.specs.Reading.{is_mark}
 use Rattle.lx_ir_terms.proofs.Marks.{mark_is}
 use Rattle.lx_ir_constants.specs.Constants.{is_register}
-use Rattle.lx_ir_heads.specs.declared.head.Head.{Head}
-use Rattle.lx_ir_heads.specs.Numbers.{has_number, has_some}
-use Rattle.lx_ir_heads.specs.Parameters.{is_number, counted, no_parameters, with_parameter, next_name, next_number}
-use Rattle.lx_ir_heads.specs.Grammar.{IsName, IsParameter, AreFurtherParameters, AreParameters, IsHead}
+use Rattle.lx_ir_statements.specs.declared.head.Head.{Head}
+use Rattle.lx_ir_statements.specs.Numbers.{has_number, has_some}
+use Rattle.lx_ir_statements.specs.Parameters.{is_number, counted, no_parameters, with_parameter, next_name, next_number}
+use Rattle.lx_ir_statements.specs.HeadGrammar.{IsName, IsParameter, AreFurtherParameters, AreParameters, IsHead}
 use Rattle.lx_ir_statements.proofs.TypeNames.{local_name_is}
 use Rattle.lx_ir_lawful.specs.Named.{AllNamed}
 use Rattle.lx_ir_lawful.proofs.NamedForms.{front, back}
@@ -38,13 +38,10 @@ use Rattle.lx_ir_lawful.proofs.RegisterTables.{unknown}
 
 -- Decimal texts.
 
-both_true : (a b : Bool) → a ≡ true → b ≡ true → (a && b) ≡ true
-both_true a b p q = rw (p, q) refl
-
 all_digits : (bs : List ℕ) → AllByRecursion IsAsciiDigit bs → list_all is_digit bs ≡ true
 all_digits [] h = refl
 all_digits (b ∷ bs) h =
-    both_true (is_digit b) (list_all is_digit bs) (both_true (nat_le 48 b) (nat_le b 57) (le-leb 48 b (omega (arith, h.0))) (le-leb b 57 (omega (arith, h.0)))) (all_digits bs h.1)
+    and_from (is_digit b) (list_all is_digit bs) (and_from (nat_le 48 b) (nat_le b 57) (le-leb 48 b (omega (arith, h.0))) (le-leb b 57 (omega (arith, h.0)))) (all_digits bs h.1)
 
 pub decimal_digits : (n : ℕ) → list_all is_digit (decimal_text n) ≡ true
 decimal_digits n = all_digits (decimal_text n) (recursion_from_All IsAsciiDigit (decimal_text n) (number_texts.digits n))
@@ -64,7 +61,7 @@ all_stand : (bs : List ℕ) → list_all is_digit bs ≡ true → list_all stand
 all_stand [] h = refl
 all_stand (b ∷ bs) h =
     let both = and_parts (is_digit b) (list_all is_digit bs) h in
-    both_true (stands_in_name b) (list_all stands_in_name bs) (digit_stands b both.0) (all_stand bs both.1)
+    and_from (stands_in_name b) (list_all stands_in_name bs) (digit_stands b both.0) (all_stand bs both.1)
 
 name_of_digits : (bs : List ℕ) → 0 < length bs → list_all is_digit bs ≡ true → is_name bs ≡ true
 name_of_digits [] some h = absurd (omega (arith, some))
@@ -121,7 +118,7 @@ module _ (names : List (List ℕ)) (once : AreOnce names) where
       let things : map (number_of names) (said_by h.params ++ name ∷ []) ≡ map (number_of names) (said_by h.params) ++ number_of names name ∷ [] = map-append (number_of names) (said_by h.params) (name ∷ []) in
       record {
         distinct = ap is_distinct said ∙ distinct_more (said_by h.params) name g.distinct absent;
-        each = ap (list_all is_name) said ∙ list_all-append is_name (said_by h.params) (name ∷ []) ∙ both_true (list_all is_name (said_by h.params)) (is_name name && true) g.each (both_true (is_name name) true is_it refl);
+        each = ap (list_all is_name) said ∙ list_all-append is_name (said_by h.params) (name ∷ []) ∙ and_from (list_all is_name (said_by h.params)) (is_name name && true) g.each (and_from (is_name name) true is_it refl);
         numbers = ap (numbers_of names) said ∙ ap somes things ∙ somes_more (map (number_of names) (said_by h.params)) (number_of names name) h.registers g.numbers free;
         numbered = λ w e none. by w none (any_split (bytes_eq w) (said_by h.params) name (ap (list_any (bytes_eq w)) (sym said) ∙ e));
       }

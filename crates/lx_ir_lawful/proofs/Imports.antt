@@ -2,7 +2,7 @@
 use Rattle.std.proofs.Common.{◌≡◌, ℕ, Bool, true, false, not, ◌&&◌, ◌||◌, Option, Some, None, is_some, List, [], ◌∷◌, ◌++◌, length, map, bytes_eq, nat_eq, refl, ap, ◌∙◌, subst}
 use Rattle.std.specs.Prelude.{if◌then◌else◌, codes}
 use Rattle.std.specs.List.{list_all}
-use Rattle.std.proofs.lemmas.Bool.{and_parts}
+use Rattle.std.proofs.lemmas.Bool.{and_parts, and_from}
 use Rattle.std.proofs.lemmas.List.Folds.{list_all-append}
 use Rattle.lx_words.specs.declared.word.Width.TheVariants.{W32, W64}
 use Rattle.lx_words.specs.declared.token.Token.{Token}
@@ -24,13 +24,10 @@ use Rattle.lx_ir_tables.specs.Numbering.{Numbering}
 use Rattle.lx_ir_read.specs.declared.first.Found.{Found}
 use Rattle.lx_ir_read.specs.declared.draft.Draft.{Draft}
 use Rattle.lx_ir_read.specs.Again.{no_draft, registers_in, with_defined, with_declared, nameless, import_of, local_names, kept}
-use Rattle.lx_ir_faults.specs.Fault.{line_shown}
+use Rattle.lx_ir_read.specs.Fault.{line_shown}
 use Rattle.lx_ir_read.specs.Reading.{tables_of, full_context}
 use Rattle.lx_ir_read.specs.Grammar.{AddAll, IsModule}
 use Rattle.lx_ir_lawful.specs.OnceLaws.{HasLawfulImports, is_first_or_defined}
-
-both_true : (a b : Bool) → a ≡ true → b ≡ true → (a && b) ≡ true
-both_true a b p q = rw (p, q) refl
 
 -- Names of block writes.
 
@@ -60,7 +57,7 @@ no_write name h =
 
 nameless_all : (ps : List Scalar) → list_all (λ p. nat_eq (length p.name) 0) (map nameless ps) ≡ true
 nameless_all [] = refl
-nameless_all (p ∷ ps) = both_true true (list_all (λ q. nat_eq (length q.name) 0) (map nameless ps)) refl (nameless_all ps)
+nameless_all (p ∷ ps) = and_from true (list_all (λ q. nat_eq (length q.name) 0) (map nameless ps)) refl (nameless_all ps)
 
 -- Imports and functions apart.
 
@@ -69,11 +66,11 @@ is_import f = not (is_defined f) && is_lawful_import f
 
 import_is : (name : List ℕ) (ret : Option Scalar) (params : List Scalar) (line : ℕ) → is_written name ≡ false → is_import (import_of name ret params line) ≡ true
 import_is name ret params line h =
-    both_true true (is_lawful_import (import_of name ret params line)) refl
-    (both_true (list_all (λ p. nat_eq (length p.name) 0) (map nameless params) && true) (not (is_written name)) (both_true (list_all (λ p. nat_eq (length p.name) 0) (map nameless params)) true (nameless_all params) refl) (ap not h))
+    and_from true (is_lawful_import (import_of name ret params line)) refl
+    (and_from (list_all (λ p. nat_eq (length p.name) 0) (map nameless params) && true) (not (is_written name)) (and_from (list_all (λ p. nat_eq (length p.name) 0) (map nameless params)) true (nameless_all params) refl) (ap not h))
 
 one_more : (p : Function → Bool) (xs : List Function) (x : Function) → list_all p xs ≡ true → p x ≡ true → list_all p (xs ++ x ∷ []) ≡ true
-one_more p xs x h g = list_all-append p xs (x ∷ []) ∙ both_true (list_all p xs) (p x && true) h (both_true (p x) true g refl)
+one_more p xs x h g = list_all-append p xs (x ∷ []) ∙ and_from (list_all p xs) (p x && true) h (and_from (p x) true g refl)
 
 record Apart (d : Draft) : Type 0 where
   imports : list_all is_import d.imports ≡ true
@@ -103,7 +100,7 @@ defined_first : (fs : List Function) → list_all is_defined fs ≡ true → imp
 defined_first [] h = refl
 defined_first (f ∷ fs) h =
     let both = and_parts (is_defined f) (list_all is_defined fs) h in
-    both_true (not (is_defined f) || list_all is_defined fs) (imports_first fs) (or_right (not (is_defined f)) (list_all is_defined fs) both.1) (defined_first fs both.1)
+    and_from (not (is_defined f) || list_all is_defined fs) (imports_first fs) (or_right (not (is_defined f)) (list_all is_defined fs) both.1) (defined_first fs both.1)
   where
     or_right : (a b : Bool) → b ≡ true → (a || b) ≡ true
     or_right true b e = refl
@@ -114,20 +111,20 @@ first_imports [] fs h g = defined_first fs g
 first_imports (i ∷ is) fs h g =
     let both = and_parts (is_import i) (list_all is_import is) h in
     let one = and_parts (not (is_defined i)) (is_lawful_import i) both.0 in
-    both_true (not (is_defined i) || list_all is_defined (is ++ fs)) (imports_first (is ++ fs)) (ap (λ b. b || list_all is_defined (is ++ fs)) one.0) (first_imports is fs both.1 g)
+    and_from (not (is_defined i) || list_all is_defined (is ++ fs)) (imports_first (is ++ fs)) (ap (λ b. b || list_all is_defined (is ++ fs)) one.0) (first_imports is fs both.1 g)
 
 defined_or_lawful : (fs : List Function) → list_all is_defined fs ≡ true → list_all is_first_or_defined fs ≡ true
 defined_or_lawful [] h = refl
 defined_or_lawful (f ∷ fs) h =
     let both = and_parts (is_defined f) (list_all is_defined fs) h in
-    both_true (is_first_or_defined f) (list_all is_first_or_defined fs) (ap (λ b. b || is_lawful_import f) both.0) (defined_or_lawful fs both.1)
+    and_from (is_first_or_defined f) (list_all is_first_or_defined fs) (ap (λ b. b || is_lawful_import f) both.0) (defined_or_lawful fs both.1)
 
 all_or_lawful : (is fs : List Function) → list_all is_import is ≡ true → list_all is_defined fs ≡ true → list_all is_first_or_defined (is ++ fs) ≡ true
 all_or_lawful [] fs h g = defined_or_lawful fs g
 all_or_lawful (i ∷ is) fs h g =
     let both = and_parts (is_import i) (list_all is_import is) h in
     let one = and_parts (not (is_defined i)) (is_lawful_import i) both.0 in
-    both_true (is_first_or_defined i) (list_all is_first_or_defined (is ++ fs)) (or_right (is_defined i) (is_lawful_import i) one.1) (all_or_lawful is fs both.1 g)
+    and_from (is_first_or_defined i) (list_all is_first_or_defined (is ++ fs)) (or_right (is_defined i) (is_lawful_import i) one.1) (all_or_lawful is fs both.1 g)
   where
     or_right : (a b : Bool) → b ≡ true → (a || b) ≡ true
     or_right true b e = refl

@@ -1,8 +1,11 @@
 -- Initialisers that tokens say are lawful.
 use Rattle.std.proofs.Common.{◌≡◌, ℕ, zero, suc, ◌≤◌, Bool, true, false, Some, List, [], ◌∷◌, map, inl, inr, refl, ap, ◌∙◌, subst, arith}
 use Rattle.std.specs.List.{list_all}
+use Rattle.std.proofs.lemmas.Bool.{and_from}
 use Rattle.lx_words.specs.declared.word.Width.{Width}
 use Rattle.lx_words.specs.Width.{same_width}
+use Rattle.lx_words.proofs.Options.{map_some}
+use Rattle.lx_words.proofs.Widths.{width_itself}
 use Rattle.lx_ir_tokens.specs.declared.token.Tok.{Tok}
 use Rattle.lx_ir_tokens.specs.declared.token.Kind.{Kind}
 use Rattle.lx_ir_tokens.specs.declared.token.Kind.TheVariants as kinds
@@ -30,7 +33,7 @@ use Rattle.lx_ir_constants.specs.Inits.{init_of_word, symbol_init, number_init, 
 use Rattle.lx_ir_constants.specs.Grammar.{AreFurther}
 use Rattle.lx_ir_constants.specs.InitGrammar.{AreListed, IsLeaf, IsMember, IsGroup, IsInit}
 use Rattle.lx_ir_lawful.specs.Tells.{Tells}
-use Rattle.lx_ir_lawful.proofs.Constants.{mapped, both_true, same_width_is, number_width, is_blank, LawfulExpression, symbol_lawful, expression_is}
+use Rattle.lx_ir_lawful.proofs.Constants.{number_width, is_blank, LawfulExpression, symbol_lawful, expression_is}
 
 cast_item : (m : Module) (ty : IrType) (p : Pointer) (w : Width) → is_lawful_pointer m p ≡ true → is_lawful_item m ty (made.Cast p w) ≡ true
 cast_item m (One s) p w h = h
@@ -82,14 +85,14 @@ module _ (m : Module) (context : Context) (tells : Tells m context) (written : (
   word_init ty constants.True i e = let s : Plain (made.Truth true) ≡ i = cc in subst (LawfulInit 0 ty) s (record { lawful = truth_item m ty true; nesting = omega arith })
   word_init ty constants.False i e = let s : Plain (made.Truth false) ≡ i = cc in subst (LawfulInit 0 ty) s (record { lawful = truth_item m ty false; nesting = omega arith })
   word_init ty constants.Null i e = let s : Plain (made.Pointer pointers.Null) ≡ i = cc in subst (LawfulInit 0 ty) s (record { lawful = address_item m ty pointers.Null refl refl; nesting = omega arith })
-  word_init ty constants.Undef i e = let s = mapped Empty (blank_of constants.Undef) i e in empty_lawful ty i s.0 s.2
-  word_init ty constants.Poison i e = let s = mapped Empty (blank_of constants.Poison) i e in empty_lawful ty i s.0 s.2
-  word_init ty constants.Zero i e = let s = mapped Empty (blank_of constants.Zero) i e in empty_lawful ty i s.0 s.2
+  word_init ty constants.Undef i e = let s = map_some Empty (blank_of constants.Undef) i e in empty_lawful ty i s.0 s.2
+  word_init ty constants.Poison i e = let s = map_some Empty (blank_of constants.Poison) i e in empty_lawful ty i s.0 s.2
+  word_init ty constants.Zero i e = let s = map_some Empty (blank_of constants.Zero) i e in empty_lawful ty i s.0 s.2
 
   number_lawful : (ty : IrType) (k : Kind) (i : Init) → number_init ty k ≡ Some i → LawfulInit 0 ty i
   number_lawful (One (Int w)) k i e =
-      let s = mapped (λ n. Plain (made.Number n)) (number_in w k) i e in
-      subst (LawfulInit 0 (One (Int w))) s.2 (record { lawful = ap (λ v. same_width v w) (number_width w k s.0 s.1) ∙ same_width_is w; nesting = omega arith })
+      let s = map_some (λ n. Plain (made.Number n)) (number_in w k) i e in
+      subst (LawfulInit 0 (One (Int w))) s.2 (record { lawful = ap (λ v. same_width v w) (number_width w k s.0 s.1) ∙ width_itself w; nesting = omega arith })
   number_lawful (One Ptr) k i e = absurd (cc e)
   number_lawful (Array n t) k i e = absurd (cc e)
   number_lawful (Struct ts) k i e = absurd (cc e)
@@ -99,7 +102,7 @@ module _ (m : Module) (context : Context) (tells : Tells m context) (written : (
   flat_lawful : (ty : IrType) (k : Kind) (name : ℕ) (i : Init) → flat_init_of context ty k name ≡ Some i → LawfulInit 0 ty i
   flat_lawful ty (kinds.Word (keywords.Constant w)) name i e = word_init ty w i e
   flat_lawful ty kinds.Global name i e =
-      let s = mapped symbol_init (symbol_of context name) i e in
+      let s = map_some symbol_init (symbol_of context name) i e in
       subst (LawfulInit 0 ty) s.2 (record { lawful = address_item m ty (pointers.Symbol s.0 0) (symbol_lawful m context tells name s.0 s.1) refl; nesting = omega arith })
   flat_lawful ty (kinds.Number v minus) name i e = number_lawful ty (kinds.Number v minus) i e
   flat_lawful ty kinds.Bytes name i e =
@@ -139,8 +142,8 @@ module _ (m : Module) (context : Context) (tells : Tells m context) (written : (
         let a : nesting_of_init (init_of x) ≤ depth = one.init.nesting in
         let b : nesting_of_inits (inits_of_list (map init_of xs)) ≤ depth = rest.nesting in
         record {
-          types = both_true (is_lawful_type m.types (ty_of x)) (list_all (is_lawful_type m.types) (map ty_of xs)) one.ty rest.types;
-          inits = both_true (is_lawful_init m (ty_of x) (init_of x)) (are_lawful_inits m (map ty_of xs) (inits_of_list (map init_of xs))) one.init.lawful rest.inits;
+          types = and_from (is_lawful_type m.types (ty_of x)) (list_all (is_lawful_type m.types) (map ty_of xs)) one.ty rest.types;
+          inits = and_from (is_lawful_init m (ty_of x) (init_of x)) (are_lawful_inits m (map ty_of xs) (inits_of_list (map init_of xs))) one.init.lawful rest.inits;
           nesting = omega (arith, a, b);
         }
 
@@ -158,7 +161,7 @@ module _ (m : Module) (context : Context) (tells : Tells m context) (written : (
         let n : nesting_of_inits (inits_of_list (map init_of xs)) ≤ depth = l.nesting in
         subst (LawfulInit (suc depth) ty) e
         (record {
-          lawful = both_true (list_all (is_lawful_type m.types) (map ty_of xs)) (are_lawful_inits m (map ty_of xs) (inits_of_list (map init_of xs))) l.types l.inits;
+          lawful = and_from (list_all (is_lawful_type m.types) (map ty_of xs)) (are_lawful_inits m (map ty_of xs) (inits_of_list (map init_of xs))) l.types l.inits;
           nesting = omega (arith, n);
         })
 

@@ -1,8 +1,9 @@
 -- The labels of the blocks of a function.
-use Rattle.std.proofs.Common.{◌≡◌, inl, inr, ℕ, Bool, true, false, not, ◌&&◌, Option, Some, None, List, [], ◌∷◌, ◌++◌, map, refl, sym, ap, ◌∙◌, subst, append_assoc}
+use Rattle.std.proofs.Common.{◌≡◌, inl, inr, ℕ, true, false, not, ◌&&◌, Option, Some, None, List, [], ◌∷◌, ◌++◌, map, refl, sym, ap, ◌∙◌, subst, append_assoc}
 use Rattle.std.specs.Prelude.{unwrap_or}
 use Rattle.std.specs.List.{list_all, AllByRecursion}
 use Rattle.std.proofs.lemmas.List.{map-append, append-nil}
+use Rattle.std.proofs.lemmas.Bool.{and_from}
 use Rattle.lx_words.specs.declared.token.Token.{Token}
 use Rattle.lx_words.specs.Text.{decimal_text}
 use Rattle.lx_ir_tokens.specs.declared.token.Tok.{Tok}
@@ -15,17 +16,14 @@ use Rattle.lx_ir.specs.Operands.{is_terminator}
 use Rattle.lx_ir.specs.Lawful.{is_label, is_distinct, ends_once}
 use Rattle.lx_ir_terms.specs.Context.{Context}
 use Rattle.lx_ir_calls.specs.declared.intrinsics.TextForm.{TextForm}
-use Rattle.lx_ir_heads.specs.Numbers.{has_number, with_some}
-use Rattle.lx_ir_blocks.specs.Blocks.{given, with_register, with_label, may_be_label}
-use Rattle.lx_ir_blocks.specs.Grammar.{AreInstrs, is_run, IsLabelled, IsFirst, AreFurtherBlocks, IsBody}
+use Rattle.lx_ir_statements.specs.Numbers.{has_number, with_some}
+use Rattle.lx_ir_statements.specs.Blocks.{given, with_register, with_label, may_be_label}
+use Rattle.lx_ir_statements.specs.BlockGrammar.{AreInstrs, is_run, IsLabelled, IsFirst, AreFurtherBlocks, IsBody}
 use Rattle.lx_ir_lawful.specs.NamedThings.{somes, numbers_of, AreOnce}
 use Rattle.lx_ir_lawful.specs.TokenNames.{IsLabelled as IsLabelName, IsTokenNamed}
 use Rattle.lx_ir_lawful.proofs.Placed.{number_at_place}
 use Rattle.lx_ir_lawful.proofs.NamedThings.{somes_more, names_grow}
 use Rattle.lx_ir_lawful.proofs.HeadNames.{decimal_is_label}
-
-both_true : (a b : Bool) → a ≡ true → b ≡ true → (a && b) ≡ true
-both_true a b p q = rw (p, q) refl
 
 -- Parts of lists of tokens.
 
@@ -69,7 +67,7 @@ module _ (context : Context) (once : AreOnce context.names) (form : TextForm) (p
     each : list_all (λ x. is_label x.name && ends_once x.instrs) xs ≡ true
 
   good_block : (x : Block) → is_label x.name ≡ true → is_run x.instrs ≡ true → (is_label x.name && ends_once x.instrs) ≡ true
-  good_block x label run = both_true (is_label x.name) (ends_once x.instrs) label (run_ends x.instrs ∙ run)
+  good_block x label run = and_from (is_label x.name) (ends_once x.instrs) label (run_ends x.instrs ∙ run)
 
   -- one label more
   abbrev MoreLabels : List (List ℕ) → List ℕ → Block → Type 0
@@ -99,7 +97,7 @@ module _ (context : Context) (once : AreOnce context.names) (form : TextForm) (p
       let rest = further_labels xs middle last b us (W ++ x.name ∷ []) more (second_part (IsTokenNamed names) f b ts w all) step.0 step.1.0 in
       record {
         distinct = ap is_distinct (sym (append_assoc W (x.name ∷ []) (labels_of xs))) ∙ rest.distinct;
-        each = both_true (is_label x.name && ends_once x.instrs) (list_all (λ y. is_label y.name && ends_once y.instrs) xs) step.1.1 rest.each;
+        each = and_from (is_label x.name && ends_once x.instrs) (list_all (λ y. is_label y.name && ends_once y.instrs) xs) step.1.1 rest.each;
       }
 
   one_label : (o : Option ℕ) → somes (o ∷ []) ≡ with_some [] o
@@ -131,5 +129,5 @@ module _ (context : Context) (once : AreOnce context.names) (form : TextForm) (p
       record {
         some = (x, xs, refl);
         distinct = rest.distinct;
-        each = both_true (is_label x.name && ends_once x.instrs) (list_all (λ y. is_label y.name && ends_once y.instrs) xs) step.1.1 rest.each;
+        each = and_from (is_label x.name && ends_once x.instrs) (list_all (λ y. is_label y.name && ends_once y.instrs) xs) step.1.1 rest.each;
       }

@@ -19,16 +19,16 @@ use Rattle.lx_ir_terms.proofs.Parts as parts
 use Rattle.lx_ir_operands.specs.Grammar.{Repeated, IsAttribute}
 use Rattle.lx_ir_calls.specs.declared.intrinsics.TextForm.{TextForm}
 use Rattle.lx_ir_instructions.proofs.InstructionLaws.{instructions_read, instructions_found}
-use Rattle.lx_ir_heads.specs.declared.head.Head.{Head}
-use Rattle.lx_ir_heads.specs.Words.{is_any_word}
-use Rattle.lx_ir_heads.specs.Parameters.{local_name}
-use Rattle.lx_ir_heads.specs.Grammar.{IsResult, IsHead}
-use Rattle.lx_ir_heads.proofs.WordLaws.{result_reads, function_attributes_again}
-use Rattle.lx_ir_heads.proofs.ParameterLaws.{heads_again}
-use Rattle.lx_ir_blocks.specs.Grammar.{IsBody}
-use Rattle.lx_ir_blocks.proofs.Filled.{instr_filled}
-use Rattle.lx_ir_blocks.proofs.RunLaws.{InstrLaws}
-use Rattle.lx_ir_blocks.proofs.BlockLaws.{body_again}
+use Rattle.lx_ir_statements.specs.declared.head.Head.{Head}
+use Rattle.lx_ir_statements.specs.Words.{is_any_word}
+use Rattle.lx_ir_statements.specs.Parameters.{local_name}
+use Rattle.lx_ir_statements.specs.HeadGrammar.{IsResult, IsHead}
+use Rattle.lx_ir_statements.proofs.WordLaws.{result_reads, function_attributes_again}
+use Rattle.lx_ir_statements.proofs.ParameterLaws.{heads_again}
+use Rattle.lx_ir_statements.specs.BlockGrammar.{IsBody}
+use Rattle.lx_ir_statements.proofs.Filled.{instr_filled}
+use Rattle.lx_ir_statements.proofs.RunLaws.{InstrLaws}
+use Rattle.lx_ir_statements.proofs.BlockLaws.{body_again}
 use Rattle.lx_ir_statements.specs.declared.form.Statement.{Statement}
 use Rattle.lx_ir_statements.specs.declared.form.Statement.TheVariants as statements
 use Rattle.lx_ir_statements.specs.declared.defined.Defined.{Defined}

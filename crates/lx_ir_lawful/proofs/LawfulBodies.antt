@@ -2,12 +2,13 @@
 use Rattle.std.proofs.Common.{◌≡◌, ℕ, suc, ◌+◌, ◌<◌, ◌≤◌, Bool, true, false, ◌&&◌, Option, Some, List, [], ◌∷◌, ◌++◌, length, map, nat_eq, nat_lt, nat_le, refl, sym, ap, ◌∙◌, arith, append_assoc}
 use Rattle.std.specs.Prelude.{if◌then◌else◌, unwrap_or, flat_map, not, bytes_eq}
 use Rattle.std.specs.List.{list_all, list_any, cons_option, AllByRecursion}
-use Rattle.std.proofs.lemmas.Bool.{and_parts, eqb-true, leb-true}
+use Rattle.std.proofs.lemmas.Bool.{and_parts, eqb-true, leb-true, and_from}
 use Rattle.std.proofs.lemmas.Bool.Decides.{nat_tests}
 use Rattle.std.proofs.lemmas.Grind.{flat_map-append}
 use Rattle.std.proofs.lemmas.List.{length-map, length-append, append-nil}
 use Rattle.std.proofs.lemmas.List.Folds.{list_all-append}
 use Rattle.lx_words.specs.declared.token.Token.{Token}
+use Rattle.lx_words.proofs.Tests.{three_true, eq_self, less_true as less_test}
 use Rattle.lx_ir_tokens.specs.declared.token.Tok.{Tok}
 use Rattle.lx_ir_tokens.specs.declared.token.Kind.{Kind}
 use Rattle.lx_ir_tokens.specs.declared.token.Kind.TheVariants as kinds
@@ -28,7 +29,7 @@ use Rattle.lx_ir_lawful.proofs.LawfulLimits.{lawful}
 use Rattle.lx_ir_terms.specs.Context.{Context, nothing}
 use Rattle.lx_ir_constants.specs.Constants.{is_register}
 use Rattle.lx_ir_calls.specs.declared.intrinsics.TextForm.{TextForm}
-use Rattle.lx_ir_heads.specs.declared.head.Head.{Head}
+use Rattle.lx_ir_statements.specs.declared.head.Head.{Head}
 use Rattle.lx_ir_tables.specs.Numbering.{numbering, table_of}
 use Rattle.lx_ir_tables.specs.Registers.{with_parameters, with_all_given, with_all_read, registers_of}
 use Rattle.lx_ir_lawful.specs.Tells.{Tells}
@@ -46,12 +47,6 @@ use Rattle.lx_ir_lawful.proofs.Passes.{more_more, Grown, reads_then}
 use Rattle.lx_ir_lawful.proofs.Numbered.{all_given, all_read, body_from, AllGiven, body_given, blocks_read}
 use Rattle.lx_ir_lawful.proofs.HeadNames.{GoodHead, head_good, head_few}
 use Rattle.lx_ir_lawful.proofs.Labels.{labels_of as labels_in, LawfulLabels, body_labels}
-
-both_true : (a b : Bool) → a ≡ true → b ≡ true → (a && b) ≡ true
-both_true a b p q = rw (p, q) refl
-
-three_true : (a b c : Bool) → a ≡ true → b ≡ true → c ≡ true → (a && b && c) ≡ true
-three_true a b c p q r = rw (p, q, r) refl
 
 seven_true : (a b c d e f g : Bool) → a ≡ true → b ≡ true → c ≡ true → d ≡ true → e ≡ true → f ≡ true → g ≡ true → (a && b && c && d && e && f && g) ≡ true
 seven_true a b c d e f g p q r s t u v = rw (p, q, r, s, t, u, v) refl
@@ -78,7 +73,7 @@ below_last : (n last : ℕ) (ks : List ℕ) → first_come n last ks ≡ true �
 below_last n last [] h = refl
 below_last n last (k ∷ ks) h =
     let both = and_parts (nat_le k n) (first_come (if nat_eq k n then suc n else n) last ks) h in
-    both_true (nat_lt k last) (list_all (λ j. nat_lt j last) ks)
+    and_from (nat_lt k last) (list_all (λ j. nat_lt j last) ks)
     (below_by (nat_eq k n) k n last refl (leb-true k n both.0) (step_le (nat_eq k n) n last ks (λ m g. first_come_le m last ks g) both.1))
     (below_last (if nat_eq k n then suc n else n) last ks both.1)
 
@@ -86,9 +81,6 @@ below_last n last (k ∷ ks) h =
 counts_last : (n k : ℕ) (xs : List ℕ) → counts_from n (xs ++ k ∷ []) ≡ true → k ≡ n + length xs
 counts_last n k [] h = let e : k ≡ n = eqb-true k n (and_parts (nat_eq k n) true h).0 in omega (arith, e)
 counts_last n k (x ∷ xs) h = let e : k ≡ suc n + length xs = counts_last (suc n) k xs (and_parts (nat_eq x n) (counts_from (suc n) (xs ++ k ∷ [])) h).1 in omega (arith, e)
-
-eq_self : (n : ℕ) → nat_eq n n ≡ true
-eq_self n = grind (arith, nat_tests)
 
 -- Instructions.
 
@@ -105,14 +97,14 @@ module _ (m : Module) (f : Function) (c : Context) where
   operands_lawful (x ∷ xs) said low =
       let both = and_parts (is_said m x.ty x.value) (list_all (λ a. is_said m a.ty a.value) xs) said in
       let one = by_value x.ty x.value (registers_in xs) both.0 low in
-      both_true (is_lawful_value m f x.ty x.value) (list_all (λ a. is_lawful_value m f a.ty a.value) xs) one.0 (operands_lawful xs both.1 one.1)
+      and_from (is_lawful_value m f x.ty x.value) (list_all (λ a. is_lawful_value m f a.ty a.value) xs) one.0 (operands_lawful xs both.1 one.1)
 
   labels_lawful : (ls : List (List ℕ)) → AllByRecursion (FromLabel (IsNamed c.names) c) ls → list_all is_name ls ≡ true
   labels_lawful [] h = refl
   labels_lawful (l ∷ ls) h =
       let n = h.0 in
       let name : is_name l ≡ true = ap is_name (sym n.2 ∙ ap (λ o. unwrap_or o []) n.1.1) ∙ n.1.2 in
-      both_true (is_name l) (list_all is_name ls) name (labels_lawful ls h.1)
+      and_from (is_name l) (list_all is_name ls) name (labels_lawful ls h.1)
 
   abbrev pub IsRead : Op → Type 0
   IsRead o = Said m o × FromNames (IsNamed c.names) c o
@@ -137,7 +129,7 @@ module _ (m : Module) (f : Function) (c : Context) where
   instrs_lawful (i ∷ is) h plain lines =
       let p = both_low (registers_in (operands_where false i.op)) (numbers_read false is) plain in
       let l = both_low (registers_in (operands_where true i.op)) (numbers_read true is) lines in
-      both_true (is_lawful_op m f i.op) (list_all (λ j. is_lawful_op m f j.op) is) (op_lawful i.op h.0 (either_low i.op p.0 l.0)) (instrs_lawful is h.1 p.1 l.1)
+      and_from (is_lawful_op m f i.op) (list_all (λ j. is_lawful_op m f j.op) is) (op_lawful i.op h.0 (either_low i.op p.0 l.0)) (instrs_lawful is h.1 p.1 l.1)
 
   block_low : (lines : Bool) (b : Block) (bs : List Block) → below (all_read lines (b ∷ bs)) ≡ true → (below (numbers_read lines b.instrs) ≡ true) × (below (all_read lines bs) ≡ true)
   block_low lines b bs low =
@@ -150,7 +142,7 @@ module _ (m : Module) (f : Function) (c : Context) where
       let l = block_low true b bs lines in
       let two = and_parts (is_label b.name && ends_once b.instrs) (list_all (λ x. is_label x.name && ends_once x.instrs) bs) good in
       let one = and_parts (is_label b.name) (ends_once b.instrs) two.0 in
-      both_true (is_lawful_block m f b) (list_all (is_lawful_block m f) bs)
+      and_from (is_lawful_block m f b) (list_all (is_lawful_block m f) bs)
       (three_true (is_label b.name) (ends_once b.instrs) (list_all (λ i. is_lawful_op m f i.op) b.instrs) one.0 one.1 (instrs_lawful b.instrs h.0 p.0 l.0))
       (blocks_lawful bs h.1 p.1 l.1 two.1)
 
@@ -176,9 +168,6 @@ locals_named names [] h = tt
 locals_named names (t ∷ ts) h = ((λ e. h.0.local (local_kind t.kind e)), locals_named names ts h.1)
 
 -- Functions.
-
-less_test : (k n : ℕ) → k < n → nat_lt k n ≡ true
-less_test k n lt = grind (arith, nat_tests, lt)
 
 pub body_lawful : (m : Module) (c : Context) (form : TextForm) (places : List Token) (head : Head) (ds es : List Block) → Tells m c → Names form m c → AreOnce c.names → length c.names ≤ nothing → ReadBody c form places head ds es → LawfulBody m c head ds es
 body_lawful m c form places head ds es tells told once few read =
@@ -220,7 +209,7 @@ body_lawful m c form places head ds es tells told once few read =
           let counts : counts_from (length head.params) (all_given ds) ≡ true =
           ap (λ n. counts_from n (all_given ds)) (sym size) ∙ ap (counts_from (length W)) (sym (append-nil (all_given ds))) ∙ given.gives.counts reads.more.0 knows [] refl in
           let place : length given.gives.after ≡ length W + length (all_given ds) =
-          counts_last (length W) (length given.gives.after) (all_given ds) (given.gives.counts reads.more.0 knows (length given.gives.after ∷ []) (both_true (nat_eq (length given.gives.after) (length given.gives.after)) true (eq_self (length given.gives.after)) refl)) in
+          counts_last (length W) (length given.gives.after) (all_given ds) (given.gives.counts reads.more.0 knows (length given.gives.after ∷ []) (and_from (nat_eq (length given.gives.after) (length given.gives.after)) true (eq_self (length given.gives.after)) refl)) in
           let here : length head.params + length (all_given ds) ≡ length given.gives.after = omega (arith, place, size) in
           let last : nat_eq (length reads.after) (register_count f) ≡ true = ap (λ n. nat_eq n (register_count f)) total ∙ eq_self (register_count f) in
           let comes : first_come (length head.params + length (all_given ds)) (register_count f) (all_read false ds ++ all_read true ds) ≡ true =
@@ -228,7 +217,7 @@ body_lawful m c form places head ds es tells told once few read =
           ∙ ap (λ ks. first_come (length given.gives.after) (register_count f) (all_read false ds ++ ks)) (sym (append-nil (all_read true ds)))
           ∙ reads.comes [] knows_all (register_count f) [] last in
           let numbered : numbers_registers f ≡ true =
-          both_true (counts_from (length head.params) (all_given ds)) (first_come (length head.params + length (all_given ds)) (register_count f) (all_read false ds ++ all_read true ds)) counts comes in
+          and_from (counts_from (length head.params) (all_given ds)) (first_come (length head.params + length (all_given ds)) (register_count f) (all_read false ds ++ all_read true ds)) counts comes in
           let low =
           both_low m f c (all_read false ds) (all_read true ds) (below_last (length head.params + length (all_given ds)) (register_count f) (all_read false ds ++ all_read true ds) comes) in
           let ops =

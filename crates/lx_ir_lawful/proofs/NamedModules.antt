@@ -1,11 +1,11 @@
 -- What the names of a text stand for in its module, and what the module has.
-use Rattle.std.proofs.Common.{◌≡◌, ℕ, ◌+◌, ◌<◌, ◌≤◌, ◌^◌, Bool, true, not, ◌&&◌, List, [], ◌∷◌, ◌++◌, length, map, nat_lt, slice_get, Option, Some, refl, sym, ap, ◌∙◌, subst, arith}
+use Rattle.std.proofs.Common.{◌≡◌, ℕ, ◌+◌, ◌<◌, ◌≤◌, ◌^◌, Bool, true, not, List, [], ◌∷◌, ◌++◌, length, map, slice_get, Option, Some, refl, sym, ap, ◌∙◌, subst, arith}
 use Rattle.std.specs.Prelude.{unwrap_or}
 use Rattle.std.specs.List.{list_all, AllByRecursion}
-use Rattle.std.proofs.lemmas.Bool.{and_parts}
-use Rattle.std.proofs.lemmas.Bool.Decides.{nat_tests}
+use Rattle.std.proofs.lemmas.Bool.{and_parts, and_from}
 use Rattle.std.proofs.lemmas.List.{map-append, length-map, length-append}
 use Rattle.std.proofs.lemmas.List.Folds.{list_all-append}
+use Rattle.lx_words.proofs.Tests.{less_true}
 use Rattle.lx_ir.specs.declared.types.NamedType.{NamedType}
 use Rattle.lx_ir.specs.declared.module.Symbol.{Symbol}
 use Rattle.lx_ir.specs.declared.module.Symbol.TheVariants as symbol
@@ -49,12 +49,6 @@ named_globals : (names : List (List ℕ)) (ts : List Tok) → AllByRecursion (Is
 named_globals names [] h = tt
 named_globals names (t ∷ ts) h = ((λ e. h.0.global (global_is t.kind e)), named_globals names ts h.1)
 
-less : (k n : ℕ) → k < n → nat_lt k n ≡ true
-less k n h = grind (arith, nat_tests, h)
-
-both_true : (a b : Bool) → a ≡ true → b ≡ true → (a && b) ≡ true
-both_true a b p q = rw (p, q) refl
-
 abbrev global_names : List GlobalVar → List (List ℕ)
 global_names gs = map (λ g. g.name) gs
 
@@ -69,10 +63,10 @@ PlacedIn names m n s = IsPlaced names (global_names m.globals) (function_names m
 lawful_symbol : (names : List (List ℕ)) (m : Module) (n : ℕ) (s : Symbol) → PlacedIn names m n s → is_lawful_symbol m s ≡ true
 lawful_symbol names m n (symbol.Global k) h =
     let below : k < length m.globals = subst (λ l. k < l) (length-map m.globals (λ (g : GlobalVar). g.name)) h.0 in
-    less k (length m.globals) below
+    less_true k (length m.globals) below
 lawful_symbol names m n (symbol.Function k) h =
     let below : k < length m.functions = subst (λ l. k < l) (length-map m.functions (λ (f : Function). f.name)) h.0 in
-    less k (length m.functions) below
+    less_true k (length m.functions) below
 
 symbol_named : (names : List (List ℕ)) (m : Module) (n : ℕ) (s : Symbol) → PlacedIn names m n s → symbol_name m s ≡ unwrap_or (slice_get names n) []
 symbol_named names m n (symbol.Global k) h = sym (ap (λ o. unwrap_or o []) h.1)
@@ -163,7 +157,7 @@ module _ (form : TextForm) (text : List ℕ) (m : Module) (is : IsModule form te
       let each = own program in
       ap (list_all (λ n. not (is_own_name n))) (map-append (λ (f : Function). f.name) is.draft.imports is.draft.functions)
       ∙ list_all-append (λ n. not (is_own_name n)) (function_names is.draft.imports) (function_names is.draft.functions)
-      ∙ both_true (list_all (λ n. not (is_own_name n)) (function_names is.draft.imports)) (list_all (λ n. not (is_own_name n)) (function_names is.draft.functions)) each.imports each.functions
+      ∙ and_from (list_all (λ n. not (is_own_name n)) (function_names is.draft.imports)) (list_all (λ n. not (is_own_name n)) (function_names is.draft.functions)) each.imports each.functions
 
   drafted_name : (registers : List (Option ℕ)) → Names form drafted (last_context form text m is registers)
   drafted_name registers = record {
@@ -180,7 +174,7 @@ module _ (form : TextForm) (text : List ℕ) (m : Module) (is : IsModule form te
   drafted_own : form ≡ forms.Program → list_all (λ n. not (is_own_name n)) (symbol_names drafted) ≡ true
   drafted_own program =
       list_all-append (λ n. not (is_own_name n)) (global_names drafted.globals) (function_names drafted.functions)
-      ∙ both_true (list_all (λ n. not (is_own_name n)) (global_names drafted.globals)) (list_all (λ n. not (is_own_name n)) (function_names drafted.functions)) (own program).globals (own_functions program)
+      ∙ and_from (list_all (λ n. not (is_own_name n)) (global_names drafted.globals)) (list_all (λ n. not (is_own_name n)) (function_names drafted.functions)) (own program).globals (own_functions program)
 
   pub own_names : form ≡ forms.Program → list_all (λ n. not (is_own_name n)) (symbol_names m) ≡ true
   own_names program = subst (λ (x : Module). list_all (λ n. not (is_own_name n)) (symbol_names x) ≡ true) is.is (drafted_own program)

@@ -2,13 +2,15 @@
 use Rattle.std.proofs.Common.{◌≡◌, ◌∙◌, ℕ, suc, ◌+◌, ◌<◌, Bool, true, false, not, Option, Some, None, List, [], ◌∷◌, ◌++◌, length, map, slice_get, bytes_eq, nat_eq, refl, sym, ap, true≢false, arith}
 use Rattle.std.specs.Prelude.{if◌then◌else◌}
 use Rattle.std.specs.List.{list_any}
-use Rattle.std.proofs.lemmas.Bool.{and_parts, or_parts}
-use Rattle.std.proofs.lemmas.Bool.Decides.{nat_tests}
+use Rattle.std.proofs.lemmas.Bool.{and_parts, or_parts, not-true}
 use Rattle.std.proofs.lemmas.Slice.Eq.{bytes_eq-Decides}
+use Rattle.lx_words.proofs.Tests.{apart_turned, eq_self}
+use Rattle.lx_words.proofs.Options.{rest_of}
+use Rattle.lx_words.proofs.Lists.{eq_turned}
 use Rattle.lx_ir.specs.Lawful.{is_distinct}
 use Rattle.lx_ir_tokens.specs.Names.{number_of}
 use Rattle.lx_ir_tables.specs.Numbering.{has_name, number_from}
-use Rattle.lx_ir_heads.specs.Numbers.{has_number, has_some, with_some}
+use Rattle.lx_ir_statements.specs.Numbers.{has_number, has_some, with_some}
 use Rattle.lx_ir_lawful.specs.NamedThings.{somes, numbers_of, AreOnce}
 use Rattle.lx_ir_lawful.proofs.Placed.{number_at_place}
 
@@ -32,19 +34,12 @@ somes_more xs (Some n) numbers e h =
 
 -- What a name is the number of.
 
-turned : (n m : ℕ) → nat_eq n m ≡ false → nat_eq m n ≡ false
-turned n m h = grind (arith, nat_tests, h)
-
 pub fresh : (xs : List (Option ℕ)) (j n : ℕ) → has_number (somes xs) n ≡ false → number_from j xs n ≡ None
 fresh [] j n h = refl
 fresh (None ∷ xs) j n h = fresh xs (suc j) n h
 fresh (Some m ∷ xs) j n h =
     let both = or_parts (nat_eq n m) (list_any (nat_eq n) (somes xs)) h in
-    ap (λ b. if b then Some j else number_from (suc j) xs n) (turned n m both.0) ∙ fresh xs (suc j) n both.1
-
-rest_of : (b : Bool) (j : ℕ) (o : Option ℕ) → (if b then Some j else o) ≡ None → (b ≡ false) × (o ≡ None)
-rest_of true j o h = absurd (cc h)
-rest_of false j o h = (refl, h)
+    ap (λ b. if b then Some j else number_from (suc j) xs n) (apart_turned n m both.0) ∙ fresh xs (suc j) n both.1
 
 -- behind things without this name
 pub behind : (xs ys : List (Option ℕ)) (j n : ℕ) → number_from j xs n ≡ None → number_from j (xs ++ ys) n ≡ number_from (j + length xs) ys n
@@ -71,9 +66,6 @@ pub within : (xs : List (Option ℕ)) (j n k : ℕ) → number_from j xs n ≡ S
 within [] j n k h = absurd (cc h)
 within (x ∷ xs) j n k h = within_by (has_name n x) j k (length xs) (number_from (suc j) xs n) h (λ g. within xs (suc j) n k g)
 
-eq_self : (n : ℕ) → nat_eq n n ≡ true
-eq_self n = grind (arith, nat_tests)
-
 -- the number of a new thing, whatever follows
 pub new_number : (xs ys : List (Option ℕ)) (n : ℕ) → number_from 0 xs n ≡ None → number_from 0 ((xs ++ Some n ∷ []) ++ ys) n ≡ Some (length xs)
 new_number xs ys n h =
@@ -88,20 +80,12 @@ any_more p (y ∷ xs) x h g =
     let both = or_parts (p y) (list_any p xs) h in
     rw (both.0, any_more p xs x both.1 g) refl
 
-eq_turned : (x y : List ℕ) (v : Bool) → bytes_eq y x ≡ v → bytes_eq x y ≡ false → v ≡ false
-eq_turned x y false e h = refl
-eq_turned x y true e h = absurd (true≢false (sym ((bytes_eq-Decides x y).1 (sym ((bytes_eq-Decides y x).0 e))) ∙ h))
-
-not_true : (v : Bool) → not v ≡ true → v ≡ false
-not_true true e = absurd (cc e)
-not_true false e = refl
-
 pub distinct_more : (xs : List (List ℕ)) (x : List ℕ) → is_distinct xs ≡ true → list_any (bytes_eq x) xs ≡ false → is_distinct (xs ++ x ∷ []) ≡ true
 distinct_more [] x d h = refl
 distinct_more (y ∷ xs) x d h =
     let both = and_parts (not (list_any (bytes_eq y) xs)) (is_distinct xs) d in
     let two = or_parts (bytes_eq x y) (list_any (bytes_eq x) xs) h in
-    let none : list_any (bytes_eq y) (xs ++ x ∷ []) ≡ false = any_more (bytes_eq y) xs x (not_true (list_any (bytes_eq y) xs) both.0) (eq_turned x y (bytes_eq y x) refl two.0) in
+    let none : list_any (bytes_eq y) (xs ++ x ∷ []) ≡ false = any_more (bytes_eq y) xs x (not-true (list_any (bytes_eq y) xs) both.0) (eq_turned x y (bytes_eq y x) refl two.0) in
     rw (none, distinct_more xs x both.1 two.1) refl
 
 -- A name whose number is not among those of others is none of them.

@@ -5,6 +5,7 @@ use Rattle.std.specs.List.{AllZip, AllByRecursion, cons_option}
 use Rattle.std.proofs.lemmas.Grind.{flat_map-append}
 use Rattle.std.proofs.lemmas.List.Elements.{filter_map-append}
 use Rattle.lx_words.specs.declared.token.Token.{Token}
+use Rattle.lx_words.proofs.Lists.{option_joined}
 use Rattle.lx_ir_tokens.specs.declared.token.Tok.{Tok}
 use Rattle.lx_ir.specs.declared.module.Block.{Block}
 use Rattle.lx_ir.specs.declared.instr.Instr.{Instr}
@@ -15,19 +16,19 @@ use Rattle.lx_ir_terms.specs.Context.{Context, nothing}
 use Rattle.lx_ir_constants.specs.Constants.{is_register}
 use Rattle.lx_ir_calls.specs.declared.intrinsics.TextForm.{TextForm}
 use Rattle.lx_ir_instructions.specs.Grammar.{IsForm}
-use Rattle.lx_ir_blocks.specs.Blocks.{given, with_register, with_label}
-use Rattle.lx_ir_blocks.specs.Grammar.{AreInstrs, IsLabelled, IsFirst, AreFurtherBlocks, AreBlocks, IsBody}
+use Rattle.lx_ir_statements.specs.Blocks.{given, with_register, with_label}
+use Rattle.lx_ir_statements.specs.BlockGrammar.{AreInstrs, IsLabelled, IsFirst, AreFurtherBlocks, AreBlocks, IsBody}
 use Rattle.lx_ir_statements.proofs.TypeNames.{local_name_is}
 use Rattle.lx_ir_tables.specs.Numbering.{Numbering}
 use Rattle.lx_ir_tables.specs.Registers.{with_given_by, with_all_given, with_all_read}
-use Rattle.lx_ir_forgotten.specs.Alike.{AlikeInstrs, AlikeBlocks}
+use Rattle.lx_ir_lawful.specs.Alike.{AlikeInstrs, AlikeBlocks}
 use Rattle.lx_ir_lawful.specs.Named.{AllNamed, FromNames}
 use Rattle.lx_ir_lawful.proofs.NamedForms.{front, back}
 use Rattle.lx_ir_lawful.specs.NamedThings.{numbers_of, named_things, AreOnce}
 use Rattle.lx_ir_lawful.specs.TokenNames.{IsNamed}
 use Rattle.lx_ir_lawful.proofs.RegisterTables.{unknown}
 use Rattle.lx_ir_lawful.proofs.Given.{instr_given}
-use Rattle.lx_ir_lawful.proofs.Passes.{option_joined, more_none, more_more, Grown, knows_more, Gives, given_one, Reads, reads_none, reads_then, instrs_read}
+use Rattle.lx_ir_lawful.proofs.Passes.{more_none, more_more, Grown, knows_more, Gives, given_one, Reads, reads_none, reads_then, instrs_read}
 
 -- What an instruction's tokens say of it, those of blocks say of all their instructions.
 

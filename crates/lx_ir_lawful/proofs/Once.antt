@@ -2,7 +2,7 @@
 use Rattle.std.proofs.Common.{◌≡◌, ℕ, zero, suc, ◌-◌, Bool, true, false, ◌&&◌, Some, List, [], ◌∷◌, ◌++◌, length, drop, map, refl, sym, ap, ◌∙◌, subst}
 use Rattle.std.specs.Prelude.{if◌then◌else◌, unwrap_or}
 use Rattle.std.specs.List.{list_all, AllByRecursion}
-use Rattle.std.proofs.lemmas.Bool.{and_parts}
+use Rattle.std.proofs.lemmas.Bool.{and_parts, and_from}
 use Rattle.std.proofs.lemmas.List.{map-append}
 use Rattle.std.proofs.lemmas.List.Folds.{list_all-append}
 use Rattle.lx_words.specs.declared.token.Token.{Token}
@@ -15,7 +15,7 @@ use Rattle.lx_ir_tokens.specs.declared.token.Tok.{Tok}
 use Rattle.lx_ir_tokens.specs.Names.{number_of}
 use Rattle.lx_ir_terms.specs.Context.{Context, bytes_of}
 use Rattle.lx_ir_calls.specs.declared.intrinsics.TextForm.{TextForm}
-use Rattle.lx_ir_heads.specs.Numbers.{has_number, with_number}
+use Rattle.lx_ir_statements.specs.Numbers.{has_number, with_number}
 use Rattle.lx_ir_statements.specs.declared.form.Statement.{Statement}
 use Rattle.lx_ir_statements.specs.declared.form.Statement.TheVariants as statements
 use Rattle.lx_ir_statements.specs.declared.defined.Defined.{Defined}
@@ -27,7 +27,7 @@ use Rattle.lx_ir_read.specs.declared.first.Found.{Found}
 use Rattle.lx_ir_read.specs.declared.draft.Draft.{Draft}
 use Rattle.lx_ir_read.specs.Tables.{tokens_left}
 use Rattle.lx_ir_read.specs.Again.{no_draft, registers_in, with_registers, with_defined, with_declared, import_of, kept}
-use Rattle.lx_ir_faults.specs.Fault.{line_shown}
+use Rattle.lx_ir_read.specs.Fault.{line_shown}
 use Rattle.lx_ir_read.specs.Reading.{tables_of, full_context}
 use Rattle.lx_ir_read.specs.Grammar.{AddAll, IsModule}
 use Rattle.lx_ir_lawful.specs.NamedThings.{somes, numbers_of, AreOnce}
@@ -39,9 +39,6 @@ use Rattle.lx_ir_lawful.proofs.TokenNames.{tokens_are_named}
 use Rattle.lx_ir_lawful.specs.SizeLaws.{is_such_struct}
 use Rattle.lx_ir_lawful.proofs.SizedTypes.{modules_have_lawful_types}
 use Rattle.lx_ir_lawful.specs.OnceLaws.{HasLawfulNames}
-
-both_true : (a b : Bool) → a ≡ true → b ≡ true → (a && b) ≡ true
-both_true a b p q = rw (p, q) refl
 
 pub dropped : (P : Tok → Type 0) (n : ℕ) (ts : List Tok) → AllByRecursion P ts → AllByRecursion P (drop n ts)
 dropped P zero ts h = h
@@ -73,7 +70,7 @@ module _ (form : TextForm) (places : List Token) (full : Context) (toks : List T
       let said : said_types (types ++ x ∷ []) ≡ said_types types ++ w ∷ [] = map-append (λ (t : NamedType). t.name) types (x ∷ []) ∙ ap (λ v. said_types types ++ v ∷ []) here in
       record {
         distinct = ap is_distinct said ∙ names_grow names (said_types types) name w once at g.distinct (ap (λ ns. has_number ns name) g.same ∙ fresh);
-        each = ap (list_all is_name) said ∙ list_all-append is_name (said_types types) (w ∷ []) ∙ both_true (list_all is_name (said_types types)) (is_name w && true) g.each (both_true (is_name w) true is refl);
+        each = ap (list_all is_name) said ∙ list_all-append is_name (said_types types) (w ∷ []) ∙ and_from (list_all is_name (said_types types)) (is_name w && true) g.each (and_from (is_name w) true is refl);
         same =
             ap (numbers_of names) said ∙ ap somes (map-append (number_of names) (said_types types) (w ∷ []) ∙ ap (λ o. map (number_of names) (said_types types) ++ o ∷ []) it)
             ∙ somes_more (map (number_of names) (said_types types)) (Some name) numbers g.same fresh;
@@ -125,7 +122,7 @@ each_named m (t ∷ ts) h g =
     let one = and_parts (is_name t.name) (list_all is_name (said_types ts)) h in
     let two = and_parts (is_such_struct (is_lawful_type m.types) t) (list_all (is_such_struct (is_lawful_type m.types)) ts) g in
     let both = and_parts (is_struct t.ty) (is_lawful_type m.types t.ty) two.0 in
-    both_true (is_lawful_named m t) (list_all (is_lawful_named m) ts) (both_true (is_name t.name && is_struct t.ty) (is_lawful_type m.types t.ty) (both_true (is_name t.name) (is_struct t.ty) one.0 both.0) both.1) (each_named m ts one.1 two.1)
+    and_from (is_lawful_named m t) (list_all (is_lawful_named m) ts) (and_from (is_name t.name && is_struct t.ty) (is_lawful_type m.types t.ty) (and_from (is_name t.name) (is_struct t.ty) one.0 both.0) both.1) (each_named m ts one.1 two.1)
 
 pub types_are_once : (form : TextForm) (text : List ℕ) (m : Module) → IsModule form text m → HasLawfulNames m
 types_are_once form text m is =

@@ -1,12 +1,9 @@
 -- What tokens say as an instruction has what its form asks.
-use Rattle.std.proofs.Common.{◌≡◌, ℕ, suc, Bool, true, false, ◌&&◌, List, [], ◌∷◌, map, refl, sym, ap, subst, arith, nat_le, nat_lt, length}
+use Rattle.std.proofs.Common.{◌≡◌, Bool, true, false, ◌&&◌, List, [], ◌∷◌, map, refl, sym, ap, subst, nat_le, nat_lt, length}
 use Rattle.std.specs.Prelude.{if◌then◌else◌}
 use Rattle.std.specs.List.{list_all}
-use Rattle.std.proofs.lemmas.Bool.{le-leb}
-use Rattle.std.proofs.lemmas.Bool.Decides.{nat_tests}
-use Rattle.lx_words.specs.declared.word.Width.{Width}
-use Rattle.lx_words.specs.declared.word.Width.TheVariants.{W1, W8, W16, W32, W64}
-use Rattle.lx_words.specs.Width.{same_width}
+use Rattle.std.proofs.lemmas.Bool.{le-leb, and_from}
+use Rattle.lx_words.proofs.Tests.{some_below}
 use Rattle.lx_ir_tokens.specs.declared.token.Tok.{Tok}
 use Rattle.lx_ir.specs.declared.types.Scalar.{Scalar}
 use Rattle.lx_ir.specs.declared.types.Scalar.TheVariants.{Int, Ptr}
@@ -19,48 +16,16 @@ use Rattle.lx_ir.specs.declared.instr.Edge.{Edge}
 use Rattle.lx_ir.specs.declared.instr.SwitchCase.{SwitchCase}
 use Rattle.lx_ir.specs.Operands.{argument}
 use Rattle.lx_ir.specs.Lawful.{same_scalar, is_lawful_constant, nesting_of_constant, is_constant}
+use Rattle.lx_ir.proofs.Equality.{scalar_is}
 use Rattle.lx_ir_terms.specs.Context.{Context}
 use Rattle.lx_ir_constants.specs.Grammar.{AreFurther, AreItems, IsValue}
 use Rattle.lx_ir_operands.specs.Operands.{misfit, kept_value}
 use Rattle.lx_ir_operands.specs.Grammar.{IsTyped, IsSecond, IsAddress, IsAgain, IsEdge, IsCase, AreInRow}
 use Rattle.lx_ir_lawful.specs.Tells.{Tells}
-use Rattle.lx_ir_lawful.proofs.Constants.{both_true, constant_lawful}
+use Rattle.lx_ir_lawful.proofs.Constants.{constant_lawful}
 use Rattle.lx_ir_lawful.specs.Said.{is_said}
 
 -- Types that are the same.
-
-width_is : (v w : Width) → same_width v w ≡ true → v ≡ w
-width_is W1 W1 h = refl
-width_is W1 W8 h = absurd (cc h)
-width_is W1 W16 h = absurd (cc h)
-width_is W1 W32 h = absurd (cc h)
-width_is W1 W64 h = absurd (cc h)
-width_is W8 W1 h = absurd (cc h)
-width_is W8 W8 h = refl
-width_is W8 W16 h = absurd (cc h)
-width_is W8 W32 h = absurd (cc h)
-width_is W8 W64 h = absurd (cc h)
-width_is W16 W1 h = absurd (cc h)
-width_is W16 W8 h = absurd (cc h)
-width_is W16 W16 h = refl
-width_is W16 W32 h = absurd (cc h)
-width_is W16 W64 h = absurd (cc h)
-width_is W32 W1 h = absurd (cc h)
-width_is W32 W8 h = absurd (cc h)
-width_is W32 W16 h = absurd (cc h)
-width_is W32 W32 h = refl
-width_is W32 W64 h = absurd (cc h)
-width_is W64 W1 h = absurd (cc h)
-width_is W64 W8 h = absurd (cc h)
-width_is W64 W16 h = absurd (cc h)
-width_is W64 W32 h = absurd (cc h)
-width_is W64 W64 h = refl
-
-scalar_is : (s t : Scalar) → same_scalar s t ≡ true → s ≡ t
-scalar_is (Int v) (Int w) h = ap Int (width_is v w h)
-scalar_is Ptr Ptr h = refl
-scalar_is (Int v) Ptr h = absurd (cc h)
-scalar_is Ptr (Int w) h = absurd (cc h)
 
 misfit_said : (m : Module) (ty : Scalar) → is_said m ty (values.Constant (misfit ty)) ≡ true
 misfit_said m (Int w) = refl
@@ -80,23 +45,20 @@ kept_said m ty other v h = kept_by m ty other v (same_scalar other ty) refl h
 -- so many operands
 
 pub one : (a : Bool) → a ≡ true → (a && true) ≡ true
-one a h = both_true a true h refl
+one a h = and_from a true h refl
 
 pub two : (a b : Bool) → a ≡ true → b ≡ true → (a && (b && true)) ≡ true
-two a b h g = both_true a (b && true) h (one b g)
+two a b h g = and_from a (b && true) h (one b g)
 
 pub three : (a b c : Bool) → a ≡ true → b ≡ true → c ≡ true → (a && (b && (c && true))) ≡ true
-three a b c h g f = both_true a (b && (c && true)) h (two b c g f)
-
-some_length : (n : ℕ) → nat_lt 0 (suc n) ≡ true
-some_length n = grind (arith, nat_tests)
+three a b c h g f = and_from a (b && (c && true)) h (two b c g f)
 
 module _ (m : Module) (context : Context) (tells : Tells m context) where
   pub value_said : (ty : Scalar) (v : Value) (ts : List Tok) → IsValue context ty v ts → is_said m ty v ≡ true
   value_said ty (values.Register r) ts h = refl
   value_said ty (values.Constant c) ts h =
       let l = constant_lawful m context tells 64 ty c ts h in
-      both_true (is_lawful_constant m ty c) (nat_le (nesting_of_constant c) 64) l.lawful (le-leb (nesting_of_constant c) 64 l.nesting)
+      and_from (is_lawful_constant m ty c) (nat_le (nesting_of_constant c) 64) l.lawful (le-leb (nesting_of_constant c) 64 l.nesting)
 
   pub typed_said : (a : Argument) (ts : List Tok) → IsTyped context a ts → is_said m a.ty a.value ≡ true
   typed_said a ts h = value_said a.ty a.value _ h.3
@@ -114,19 +76,19 @@ module _ (m : Module) (context : Context) (tells : Tells m context) where
 
   edges_said : (ty : Scalar) (es : List Edge) (ts : List Tok) → AreFurther (IsEdge context ty) es ts → list_all (λ a. is_said m a.ty a.value) (map (λ (e : Edge). argument ty e.value) es) ≡ true
   edges_said ty [] ts h = refl
-  edges_said ty (e ∷ es) ts h = both_true (is_said m ty e.value) _ (value_said ty e.value _ h.3.2.3.2) (edges_said ty es _ h.3.3)
+  edges_said ty (e ∷ es) ts h = and_from (is_said m ty e.value) _ (value_said ty e.value _ h.3.2.3.2) (edges_said ty es _ h.3.3)
 
   pub all_edges_said : (ty : Scalar) (es : List Edge) (ts : List Tok) → AreItems (IsEdge context ty) es ts → (nat_lt 0 (length es) ≡ true) × (list_all (λ a. is_said m a.ty a.value) (map (λ (e : Edge). argument ty e.value) es) ≡ true)
   all_edges_said ty [] ts h = absurd h
-  all_edges_said ty (e ∷ es) ts h = (some_length (length es), both_true (is_said m ty e.value) _ (value_said ty e.value _ h.2.3.2) (edges_said ty es _ h.3))
+  all_edges_said ty (e ∷ es) ts h = (some_below (length es), and_from (is_said m ty e.value) _ (value_said ty e.value _ h.2.3.2) (edges_said ty es _ h.3))
 
   indices_said : (is : List Argument) (ts : List Tok) → AreFurther (IsTyped context) is ts → list_all (λ a. is_said m a.ty a.value) is ≡ true
   indices_said [] ts h = refl
-  indices_said (i ∷ is) ts h = both_true (is_said m i.ty i.value) _ (typed_said i _ h.3.2) (indices_said is _ h.3.3)
+  indices_said (i ∷ is) ts h = and_from (is_said m i.ty i.value) _ (typed_said i _ h.3.2) (indices_said is _ h.3.3)
 
   pub all_indices_said : (is : List Argument) (ts : List Tok) → AreItems (IsTyped context) is ts → (nat_lt 0 (length is) ≡ true) × (list_all (λ a. is_said m a.ty a.value) is ≡ true)
   all_indices_said [] ts h = absurd h
-  all_indices_said (i ∷ is) ts h = (some_length (length is), both_true (is_said m i.ty i.value) _ (typed_said i _ h.2) (indices_said is _ h.3))
+  all_indices_said (i ∷ is) ts h = (some_below (length is), and_from (is_said m i.ty i.value) _ (typed_said i _ h.2) (indices_said is _ h.3))
 
   case_said : (ty : Scalar) (k : SwitchCase) (ts : List Tok) → IsCase context ty k ts → (is_constant k.value ≡ true) × (is_said m ty k.value ≡ true)
   case_said ty k ts (other, c, h, e) =
@@ -139,4 +101,4 @@ module _ (m : Module) (context : Context) (tells : Tells m context) where
   cases_said ty (k ∷ ks) ts h =
       let a = case_said ty k _ h.2 in
       let b = cases_said ty ks _ h.3 in
-      (both_true (is_constant k.value) _ a.0 b.0, both_true (is_said m ty k.value) _ a.1 b.1)
+      (and_from (is_constant k.value) _ a.0 b.0, and_from (is_said m ty k.value) _ a.1 b.1)

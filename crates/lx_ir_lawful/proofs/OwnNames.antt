@@ -1,9 +1,10 @@
 -- No name of a program is an image's own.
-use Rattle.std.proofs.Common.{◌≡◌, ℕ, suc, ◌-◌, Bool, true, false, not, ◌||◌, List, [], ◌∷◌, length, take, bytes_eq, codes, Option, Some, None, refl, sym, ap, ◌∙◌, true≢false, arith}
+use Rattle.std.proofs.Common.{◌≡◌, ℕ, suc, ◌-◌, Bool, true, false, not, ◌||◌, List, [], ◌∷◌, length, take, bytes_eq, codes, Some, None, refl, sym, ap, ◌∙◌, true≢false, arith}
 use Rattle.std.specs.Prelude.{if◌then◌else◌}
 use Rattle.std.specs.List.{list_all, list_any, AllByRecursion}
-use Rattle.std.proofs.lemmas.Bool.{and_parts, or_parts}
+use Rattle.std.proofs.lemmas.Bool.{and_parts, or_parts, not-true}
 use Rattle.std.proofs.lemmas.Slice.Eq.{bytes_eq-Decides}
+use Rattle.lx_words.proofs.Options.{rest_of}
 use Rattle.lx_ir.specs.Lawful.{is_own_name, is_image_name}
 use Rattle.lx_ir_tokens.specs.declared.token.Tok.{Tok}
 use Rattle.lx_ir_tokens.specs.declared.token.Kind.{Kind}
@@ -12,17 +13,13 @@ use Rattle.lx_ir_terms.specs.Context.{Context, bytes_of}
 use Rattle.lx_ir_constants.specs.Misplaced.{is_misplaced}
 use Rattle.lx_ir_calls.specs.declared.intrinsics.TextForm.{TextForm}
 use Rattle.lx_ir_calls.specs.declared.intrinsics.TextForm.TheVariants as forms
-use Rattle.lx_ir_faults.specs.Fault.{name_at}
+use Rattle.lx_ir_read.specs.Fault.{name_at}
 use Rattle.lx_ir_read.specs.Reading.{is_own, is_early, first_early}
 use Rattle.lx_ir_lawful.proofs.SymbolThings.{global_is, AllGlobals}
 
 taken_whole : (ts : List Tok) → take (length ts) ts ≡ ts
 taken_whole [] = refl
 taken_whole (t ∷ ts) = ap (λ us. t ∷ us) (taken_whole ts)
-
-rest_of : (b : Bool) (n : ℕ) (o : Option ℕ) → (if b then Some n else o) ≡ None → (b ≡ false) × (o ≡ None)
-rest_of true n o h = absurd (cc h)
-rest_of false n o h = (refl, h)
 
 pub none_own : (form : TextForm) (context : Context) (ts : List Tok) → first_early form context 0 ts ≡ None → AllByRecursion (λ t. is_own form context.names t.kind t.name ≡ false) ts
 none_own form context [] e = tt
@@ -54,15 +51,11 @@ one_of name (x ∷ xs) h e =
     by true same own rest g = ap is_own_name ((bytes_eq-Decides name x).0 same) ∙ own
     by false same own rest g = rest g
 
-not_true : (b : Bool) → not b ≡ true → b ≡ false
-not_true true e = absurd (cc e)
-not_true false e = refl
-
 image_by : (b : Bool) (name : List ℕ) → is_image_name name ≡ b → not (is_own_name name) ≡ true → b ≡ false
 image_by false name e h = refl
 image_by true name e h =
     let own = one_of name (codes "lxfi.guard" ∷ codes "lxfi.guard32" ∷ codes "lxfi.check" ∷ codes "lxfi.enter" ∷ codes "lxfi.pre" ∷ codes "lxfi.post" ∷ codes "lxfi.leave" ∷ []) refl e in
-    absurd (true≢false (sym own ∙ not_true (is_own_name name) h))
+    absurd (true≢false (sym own ∙ not-true (is_own_name name) h))
 
 pub no_image_name : (name : List ℕ) → not (is_own_name name) ≡ true → is_image_name name ≡ false
 no_image_name name h = image_by (is_image_name name) name refl h

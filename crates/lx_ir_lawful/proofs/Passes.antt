@@ -3,10 +3,13 @@ use Rattle.std.proofs.Common.{◌≡◌, ℕ, suc, ◌+◌, ◌<◌, ◌≤◌, 
 use Rattle.std.specs.Prelude.{if◌then◌else◌, is_none}
 use Rattle.std.specs.List.{AllZip, AllByRecursion, list_all, list_any, cons_option}
 use Rattle.std.proofs.lemmas.Bool.Decides.{nat_tests}
-use Rattle.std.proofs.lemmas.Bool.{or_from}
+use Rattle.std.proofs.lemmas.Bool.{or_from, and_from}
 use Rattle.std.proofs.lemmas.List.{length-map, length-append, map-append, append-nil}
 use Rattle.std.proofs.lemmas.List.Folds.{list_all-append}
 use Rattle.std.proofs.lemmas.Option.{slice_get_within}
+use Rattle.lx_words.proofs.Tests.{eq_self, le_self, below_fails, is_below, less_true}
+use Rattle.lx_words.proofs.Options.{rest_of}
+use Rattle.lx_words.proofs.Lists.{option_joined}
 use Rattle.lx_ir_tokens.specs.Names.{number_of}
 use Rattle.lx_ir.specs.declared.module.Value.{Value}
 use Rattle.lx_ir.specs.declared.module.Value.TheVariants as values
@@ -16,11 +19,11 @@ use Rattle.lx_ir.specs.declared.instr.Op.{Op}
 use Rattle.lx_ir.specs.Operands.{operands_of, operands_where, is_image_line}
 use Rattle.lx_ir.specs.Lawful.{is_name, is_distinct, counts_from, register_in, registers_in, numbers_read, first_come}
 use Rattle.lx_ir_terms.specs.Context.{Context, nothing, register_or, register_number}
-use Rattle.lx_ir_heads.specs.Numbers.{has_number, has_some, with_some}
+use Rattle.lx_ir_statements.specs.Numbers.{has_number, has_some, with_some}
 use Rattle.lx_ir_tables.specs.Numbering.{Numbering, numbering, number_from, number_named, table_of, with_thing, is_new}
 use Rattle.lx_ir_tables.specs.Registers.{with_given, with_read, with_operands, with_read_by}
-use Rattle.lx_ir_forgotten.specs.Alike.{AlikeRegisters, AlikeValues, AlikeArguments, AlikeGiven, AlikeInstrs}
-use Rattle.lx_ir_forgotten.proofs.ReadWhere.{read_where}
+use Rattle.lx_ir_lawful.specs.Alike.{AlikeRegisters, AlikeValues, AlikeArguments, AlikeGiven, AlikeInstrs}
+use Rattle.lx_ir_lawful.proofs.ReadWhere.{read_where}
 use Rattle.lx_ir_lawful.specs.Named.{FromValue, FromArgument, FromNames}
 use Rattle.lx_ir_lawful.specs.NamedThings.{somes, numbers_of, has_numbers, named_things, AreOnce}
 use Rattle.lx_ir_lawful.specs.TokenNames.{IsNamed}
@@ -29,42 +32,16 @@ use Rattle.lx_ir_lawful.proofs.NamedThings.{somes_more, fresh, stays, within, ne
 use Rattle.lx_ir_lawful.proofs.RegisterTables.{unknown, register_is, own_is, alike_register}
 use Rattle.lx_ir_lawful.proofs.Given.{IsGiven}
 
-both_true : (a b : Bool) → a ≡ true → b ≡ true → (a && b) ≡ true
-both_true a b p q = rw (p, q) refl
-
-eq_self : (n : ℕ) → nat_eq n n ≡ true
-eq_self n = grind (arith, nat_tests)
-
-le_self : (n : ℕ) → nat_le n n ≡ true
-le_self n = grind (arith, nat_tests)
-
-below_not : (k n : ℕ) → k < n → nat_eq k n ≡ false
-below_not k n lt = grind (arith, nat_tests, lt)
-
-below_le : (k n : ℕ) → k < n → nat_le k n ≡ true
-below_le k n lt = grind (arith, nat_tests, lt)
-
-lt_test : (k n : ℕ) → k < n → nat_lt k n ≡ true
-lt_test k n lt = grind (arith, nat_tests, lt)
-
 turned : (n m : ℕ) → nat_eq m n ≡ false → nat_eq n m ≡ false
 turned n m h = grind (arith, nat_tests, h)
-
-none_by : (b : Bool) (j : ℕ) (o : Option ℕ) → (if b then Some j else o) ≡ None → (b ≡ false) × (o ≡ None)
-none_by true j o h = absurd (cc h)
-none_by false j o h = (refl, h)
 
 -- a name that has no number is not among the numbers
 lacking : (xs : List (Option ℕ)) (j n : ℕ) → number_from j xs n ≡ None → has_number (somes xs) n ≡ false
 lacking [] j n h = refl
 lacking (None ∷ xs) j n h = lacking xs (suc j) n h
 lacking (Some m ∷ xs) j n h =
-    let both = none_by (nat_eq m n) j (number_from (suc j) xs n) h in
+    let both = rest_of (nat_eq m n) j (number_from (suc j) xs n) h in
     or_from (nat_eq n m) (list_any (nat_eq n) (somes xs)) (turned n m both.0) (lacking xs (suc j) n both.1)
-
-pub option_joined : {A : Type 0} (o : Option A) (xs ys : List A) → cons_option o xs ++ ys ≡ cons_option o (xs ++ ys)
-option_joined None xs ys = refl
-option_joined (Some x) xs ys = refl
 
 module _ (names : List (List ℕ)) (once : AreOnce names) (few : length names ≤ nothing) (c : Context) where
   abbrev u : Context
@@ -79,7 +56,7 @@ module _ (names : List (List ℕ)) (once : AreOnce names) (few : length names �
 
   pub more_more : (W X Y : List (List ℕ)) → IsMore W X → IsMore X Y → IsMore W Y
   more_more W X Y (V, e, k) (V2, e2, k2) =
-      (V ++ V2, e2 ∙ ap (λ v. v ++ V2) e ∙ append_assoc W V V2, list_all-append (λ v. is_some (number_of names v)) V V2 ∙ both_true (has_numbers names V) (has_numbers names V2) k k2)
+      (V ++ V2, e2 ∙ ap (λ v. v ++ V2) e ∙ append_assoc W V V2, list_all-append (λ v. is_some (number_of names v)) V V2 ∙ and_from (has_numbers names V) (has_numbers names V2) k k2)
 
   pub record Grown (W : List (List ℕ)) : Type 0 where
     pub distinct : is_distinct W ≡ true
@@ -107,10 +84,10 @@ module _ (names : List (List ℕ)) (once : AreOnce names) (few : length names �
       let things : map (number_of names) (W ++ w ∷ []) ≡ map (number_of names) W ++ Some n ∷ [] =
       map-append (number_of names) W (w ∷ []) ∙ ap (λ o. map (number_of names) W ++ o ∷ []) it in
       record {
-        more = (w ∷ [], refl, both_true (is_some (number_of names w)) true (ap is_some it) refl);
+        more = (w ∷ [], refl, and_from (is_some (number_of names w)) true (ap is_some it) refl);
         grown = record {
           distinct = names_grow names W n w once at g.distinct (lacking (map (number_of names) W) 0 n none);
-          each = list_all-append is_name W (w ∷ []) ∙ both_true (list_all is_name W) (is_name w && true) g.each (both_true (is_name w) true name refl);
+          each = list_all-append is_name W (w ∷ []) ∙ and_from (list_all is_name W) (is_name w && true) g.each (and_from (is_name w) true name refl);
         };
         is = ap (numbering (length names)) things;
         size = let l : length (W ++ w ∷ []) ≡ length W + 1 = length-append W (w ∷ []) in omega (arith, l);
@@ -153,7 +130,7 @@ module _ (names : List (List ℕ)) (once : AreOnce names) (few : length names �
         counts = λ R knows ks h.
             let here : register_number c n ≡ r = ap (register_number c) (sym same) ∙ alike_register names c r s few alike (subst (λ k. k < length names) (sym same) lt) in
             let place : r ≡ length W = sym here ∙ one.number R knows in
-            both_true (nat_eq r (length W)) (counts_from (suc (length W)) ks) (ap (λ k. nat_eq k (length W)) place ∙ eq_self (length W)) (ap (λ k. counts_from k ks) (sym one.size) ∙ h);
+            and_from (nat_eq r (length W)) (counts_from (suc (length W)) ks) (ap (λ k. nat_eq k (length W)) place ∙ eq_self (length W)) (ap (λ k. counts_from k ks) (sym one.size) ∙ h);
       }
 
   pub given_one : (o p first : Option ℕ) (W : List (List ℕ)) (taken : List ℕ) → AlikeGiven c u o p → IsGiven u p first → ((n : ℕ) → first ≡ Some n → IsNamed names n) → Grown W → numbers_of names W ≡ taken → has_some taken first ≡ false
@@ -189,7 +166,7 @@ module _ (names : List (List ℕ)) (once : AreOnce names) (few : length names �
   read_new r s n w W alike same at name g none =
       let lt : n < length names = slice_get_within names n w at in
       let one = one_more W n w at name g none in
-      let new : is_new (named_things names W) n ≡ true = both_true (nat_lt n (length names)) (is_none (number_named (map (number_of names) W) n)) (lt_test n (length names) lt) (ap is_none none) in
+      let new : is_new (named_things names W) n ≡ true = and_from (nat_lt n (length names)) (is_none (number_named (map (number_of names) W) n)) (less_true n (length names) lt) (ap is_none none) in
       record {
         after = W ++ w ∷ [];
         more = one.more;
@@ -201,7 +178,7 @@ module _ (names : List (List ℕ)) (once : AreOnce names) (few : length names �
         comes = λ R knows last ks h.
             let here : register_number c n ≡ r = ap (register_number c) (sym same) ∙ alike_register names c r s few alike (subst (λ k. k < length names) (sym same) lt) in
             let place : r ≡ length W = sym here ∙ one.number R knows in
-            both_true (nat_le r (length W)) (first_come (if nat_eq r (length W) then suc (length W) else length W) last ks)
+            and_from (nat_le r (length W)) (first_come (if nat_eq r (length W) then suc (length W) else length W) last ks)
             (ap (λ k. nat_le k (length W)) place ∙ le_self (length W))
             (ap (λ b. first_come (if b then suc (length W) else length W) last ks) (ap (λ k. nat_eq k (length W)) place ∙ eq_self (length W)) ∙ ap (λ k. first_come k last ks) (sym one.size) ∙ h);
       }
@@ -209,7 +186,7 @@ module _ (names : List (List ℕ)) (once : AreOnce names) (few : length names �
   read_old : (r s n k : ℕ) (w : List ℕ) (W : List (List ℕ)) → AlikeRegisters c u r s → s ≡ n → slice_get names n ≡ Some w → Grown W → number_named (map (number_of names) W) n ≡ Some k → Reads (λ ks. r ∷ ks) W (with_read (named_things names W) (values.Register s))
   read_old r s n k w W alike same at g old =
       let lt : n < length names = slice_get_within names n w at in
-      let new : is_new (named_things names W) n ≡ false = ap (λ o. nat_lt n (length names) && is_none o) old ∙ ap (λ b. b && false) (lt_test n (length names) lt) in
+      let new : is_new (named_things names W) n ≡ false = ap (λ o. nat_lt n (length names) && is_none o) old ∙ ap (λ b. b && false) (less_true n (length names) lt) in
       let low : k < 0 + length (map (number_of names) W) = within (map (number_of names) W) 0 n k old in
       let less : k < length W = omega (arith, low, length-map W (number_of names)) in
       record {
@@ -226,9 +203,9 @@ module _ (names : List (List ℕ)) (once : AreOnce names) (few : length names �
             ∙ ap (λ xs. register_or (number_named xs n)) (map-append (number_of names) W R)
             ∙ ap register_or (stays (map (number_of names) W) (map (number_of names) R) 0 n k old) in
             let place : r ≡ k = sym here ∙ number in
-            both_true (nat_le r (length W)) (first_come (if nat_eq r (length W) then suc (length W) else length W) last ks)
-            (ap (λ m. nat_le m (length W)) place ∙ below_le k (length W) less)
-            (ap (λ b. first_come (if b then suc (length W) else length W) last ks) (ap (λ m. nat_eq m (length W)) place ∙ below_not k (length W) less) ∙ h);
+            and_from (nat_le r (length W)) (first_come (if nat_eq r (length W) then suc (length W) else length W) last ks)
+            (ap (λ m. nat_le m (length W)) place ∙ is_below k (length W) less)
+            (ap (λ b. first_come (if b then suc (length W) else length W) last ks) (ap (λ m. nat_eq m (length W)) place ∙ below_fails k (length W) less) ∙ h);
       }
 
   read_register : (r s n : ℕ) (w : List ℕ) (W : List (List ℕ)) (found : Option ℕ) → AlikeRegisters c u r s → s ≡ n → slice_get names n ≡ Some w → is_name w ≡ true → Grown W → number_named (map (number_of names) W) n ≡ found → Reads (λ ks. r ∷ ks) W (with_read (named_things names W) (values.Register s))

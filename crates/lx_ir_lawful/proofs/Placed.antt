@@ -1,11 +1,11 @@
 -- Names that stand once in a table, and their numbers.
-use Rattle.std.proofs.Common.{◌≡◌, ◌∙◌, ℕ, ◌≤◌, ◌<◌, true, false, Option, Some, None, List, [], length, get_or, slice_get, bytes_eq, nat_lt, cond, refl, sym, ap, true≢false, arith}
+use Rattle.std.proofs.Common.{◌≡◌, ◌∙◌, ℕ, ◌≤◌, ◌<◌, true, false, Option, Some, None, List, [], length, get_or, slice_get, bytes_eq, refl, sym, ap, true≢false, arith}
 use Rattle.std.specs.List.{position_or_len}
-use Rattle.std.proofs.lemmas.Bool.Decides.{nat_tests}
 use Rattle.std.proofs.lemmas.List.Quantifiers.{position-Some}
 use Rattle.std.proofs.lemmas.List.Sums.{fails_before_first}
 use Rattle.std.proofs.lemmas.Option.{slice_get_within, slice_get-get_or, get_or_from_slice_get}
 use Rattle.std.proofs.lemmas.Slice.Eq.{bytes_eq-Decides}
+use Rattle.lx_words.proofs.Options.{none_within}
 use Rattle.lx_ir_tokens.specs.Names.{number_of}
 use Rattle.lx_ir_lawful.specs.NamedThings.{AreOnce}
 
@@ -15,9 +15,6 @@ name_at_number names name n at =
     let there = position-Some (bytes_eq name) names n [] at in
     let same : name ≡ get_or names n [] = (bytes_eq-Decides name (get_or names n [])).0 there.1 in
     slice_get-get_or names n [] there.0 ∙ ap Some (sym same)
-
-none_within : (i n : ℕ) → cond (nat_lt i n) (Some i) None ≡ None → n ≤ i
-none_within i n h = grind (arith, nat_tests)
 
 -- a name that has no number stands nowhere
 pub nowhere : (names : List (List ℕ)) (name : List ℕ) (i : ℕ) → number_of names name ≡ None → slice_get names i ≡ Some name → ⊥

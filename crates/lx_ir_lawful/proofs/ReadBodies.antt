@@ -21,7 +21,7 @@ use Rattle.lx_ir_statements.specs.declared.defined.Defined.{Defined}
 use Rattle.lx_ir_statements.specs.Grammar.{IsFunction, IsStatement}
 use Rattle.lx_ir_tables.specs.Numbering.{numbering, table_of, own_numbers}
 use Rattle.lx_ir_tables.specs.Registers.{registers_of}
-use Rattle.lx_ir_forgotten.proofs.SeenBlocks.{head_seen, body_seen}
+use Rattle.lx_ir_lawful.proofs.SeenBlocks.{head_seen, body_seen}
 use Rattle.lx_ir_read.specs.First.{unknown_context}
 use Rattle.lx_ir_read.specs.Tables.{tokens_left}
 use Rattle.lx_ir_read.specs.Again.{registers_in, with_registers, register_name, local_names}

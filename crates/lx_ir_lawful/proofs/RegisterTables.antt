@@ -2,11 +2,11 @@
 use Rattle.std.proofs.Common.{◌≡◌, ℕ, zero, suc, ◌+◌, ◌<◌, ◌≤◌, Bool, true, false, Option, Some, List, length, slice_get, nat_lt, refl, sym, ap, ◌∙◌, subst, arith}
 use Rattle.std.specs.Option.{option_flatten}
 use Rattle.std.proofs.lemmas.Bool.{ltb-true}
-use Rattle.std.proofs.lemmas.Bool.Decides.{nat_tests}
 use Rattle.std.proofs.lemmas.Option.{slice_get_past}
+use Rattle.lx_words.proofs.Tests.{not_less}
 use Rattle.lx_ir_terms.specs.Context.{Context, entry, nothing, register_or, register_number}
 use Rattle.lx_ir_tables.specs.Numbering.{numbering, number_named, numbers_from, table_of, own_numbers}
-use Rattle.lx_ir_forgotten.specs.Alike.{knowing_registers, AlikeRegisters}
+use Rattle.lx_ir_lawful.specs.Alike.{knowing_registers, AlikeRegisters}
 
 -- a context that knows no names but those of registers, each of which stands for the number of its name
 abbrev pub unknown : List (List ℕ) → Context
@@ -40,9 +40,6 @@ pub own_is : (names : List (List ℕ)) (n : ℕ) → n < length names → regist
 own_is names n lt =
     let here : 0 + n ≡ n = omega arith in
     ap (λ o. register_or (option_flatten o)) (own_at 0 (length names) n lt) ∙ here
-
-not_less : (n c : ℕ) → nat_lt n c ≡ false → c ≤ n
-not_less n c h = grind (arith, nat_tests, h)
 
 own_name_by : (names : List (List ℕ)) (b : Bool) (n s : ℕ) → nat_lt n (length names) ≡ b → length names ≤ nothing → register_number (unknown names) n ≡ s → s < length names → n ≡ s
 own_name_by names true n s e few g lt = sym (own_is names n (ltb-true n (length names) e)) ∙ g

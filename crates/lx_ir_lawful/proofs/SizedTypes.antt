@@ -4,8 +4,9 @@ use Rattle.std.specs.Prelude.{if◌then◌else◌, fold, option_to_list}
 use Rattle.std.specs.List.{list_all}
 use Rattle.std.proofs.Math.Seq.{drop-append_seam}
 use Rattle.std.proofs.lemmas.List.{length-append, append-nil}
-use Rattle.std.proofs.lemmas.List.Folds.{list_all-append}
+use Rattle.std.proofs.lemmas.Bool.{and_from}
 use Rattle.lx_words.specs.declared.token.Token.{Token}
+use Rattle.lx_words.proofs.Lists.{all_joined as more_all}
 use Rattle.lx_ir.specs.declared.types.NamedType.{NamedType}
 use Rattle.lx_ir.specs.declared.module.GlobalVar.{GlobalVar}
 use Rattle.lx_ir.specs.declared.module.Function.{Function}
@@ -27,7 +28,7 @@ use Rattle.lx_ir_terms.specs.Reading.{Read, has}
 use Rattle.lx_ir_terms.specs.Grammar.{IsWritten}
 use Rattle.lx_ir_constants.specs.Constants.{is_register}
 use Rattle.lx_ir_calls.specs.declared.intrinsics.TextForm.{TextForm}
-use Rattle.lx_ir_heads.specs.Parameters.{local_name}
+use Rattle.lx_ir_statements.specs.Parameters.{local_name}
 use Rattle.lx_ir_instructions.specs.Grammar.{IsForm}
 use Rattle.lx_ir_statements.specs.declared.form.Statement.{Statement}
 use Rattle.lx_ir_statements.specs.declared.form.Statement.TheVariants as statements
@@ -41,11 +42,11 @@ use Rattle.lx_ir_read.specs.declared.draft.Draft.{Draft}
 use Rattle.lx_ir_read.specs.First.{unknown_context}
 use Rattle.lx_ir_read.specs.Tables.{tokens_left, naming_types, is_type, type_read, with_type_again, named_types}
 use Rattle.lx_ir_read.specs.Again.{no_draft, registers_in, with_registers, with_defined, with_declared, import_of, local_names, kept}
-use Rattle.lx_ir_faults.specs.Fault.{line_shown}
+use Rattle.lx_ir_read.specs.Fault.{line_shown}
 use Rattle.lx_ir_read.specs.Reading.{tables_of, full_context}
 use Rattle.lx_ir_read.specs.Grammar.{AreStatements, Adds, AddAll, IsModule}
 use Rattle.lx_ir_lawful.specs.SizeLaws.{asks_for, asks_all_for, is_such_struct, HasLawfulTypes}
-use Rattle.lx_ir_lawful.proofs.SizedBlocks.{both_true, body_all}
+use Rattle.lx_ir_lawful.proofs.SizedBlocks.{body_all}
 use Rattle.lx_ir_lawful.proofs.TypeNaming.{new_type_named, type_again}
 
 -- The first token of a statement.
@@ -144,11 +145,8 @@ module _ (form : TextForm) (places : List Token) (full : Context) (whole : full.
 
 -- What holds of each type that is written holds of those that are kept.
 
-pub more_all : {A : Type 0} (p : A → Bool) (xs ys : List A) → list_all p xs ≡ true → list_all p ys ≡ true → list_all p (xs ++ ys) ≡ true
-more_all p xs ys h g = list_all-append p xs ys ∙ both_true (list_all p xs) (list_all p ys) h g
-
 one_all : {A : Type 0} (p : A → Bool) (x : A) → p x ≡ true → list_all p (x ∷ []) ≡ true
-one_all p x h = both_true (p x) true h refl
+one_all p x h = and_from (p x) true h refl
 
 pub record Good (p : IrType → Bool) (d : Draft) : Type 0 where
   pub types : list_all (is_such_struct p) d.types ≡ true
@@ -200,7 +198,7 @@ module _ (form : TextForm) (places : List Token) (full : Context) (toks : List T
   kept_good registers line defined d e (statements.Type name ty) front back (fresh, (f, b, named, (f2, b2, equal, (f4, b4, word, (struct, body), w4), w2), w)) g k =
       subst (Good p) k
       (record {
-        types = more_all (is_such_struct p) d.types (record { name = bytes_of full name; ty = ty } ∷ []) g.types (one_all (is_such_struct p) (record { name = bytes_of full name; ty = ty }) (both_true (is_struct ty) (p ty) struct (written (table_of registers) ty b4 body)));
+        types = more_all (is_such_struct p) d.types (record { name = bytes_of full name; ty = ty } ∷ []) g.types (one_all (is_such_struct p) (record { name = bytes_of full name; ty = ty }) (and_from (is_struct ty) (p ty) struct (written (table_of registers) ty b4 body)));
         globals = g.globals;
         imports = g.imports;
         functions = g.functions;

@@ -17,9 +17,9 @@ use Rattle.lx_ir_terms.specs.Types.{result_in, count_in}
 use Rattle.lx_ir_terms.specs.Grammar.{Part, Picks, Is, IsMark, ◌then◌}
 use Rattle.lx_ir_calls.specs.declared.intrinsics.TextForm.{TextForm}
 use Rattle.lx_ir_operands.specs.Grammar.{Times, Repeated, IsCount, is_kind, IsPassed}
-use Rattle.lx_ir_heads.specs.Parameters.{local_name}
-use Rattle.lx_ir_heads.specs.Words.{is_linkage_word}
-use Rattle.lx_ir_heads.specs.Grammar.{IsResultWord, IsResult}
+use Rattle.lx_ir_statements.specs.Parameters.{local_name}
+use Rattle.lx_ir_statements.specs.Words.{is_linkage_word}
+use Rattle.lx_ir_statements.specs.HeadGrammar.{IsResultWord, IsResult}
 use Rattle.lx_ir_statements.specs.declared.form.Statement.{Statement}
 use Rattle.lx_ir_statements.specs.declared.form.Statement.TheVariants as statements
 use Rattle.lx_ir_statements.specs.declared.defined.Defined.{Defined}

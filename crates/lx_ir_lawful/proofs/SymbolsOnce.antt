@@ -1,12 +1,13 @@
 -- The globals and functions of a module that is read are each defined once.
-use Rattle.std.proofs.Common.{◌≡◌, ◌⊎◌, inl, inr, ℕ, ◌-◌, Bool, true, false, not, ◌&&◌, ◌||◌, Some, List, [], ◌∷◌, ◌++◌, length, map, bytes_eq, nat_eq, refl, sym, ap, ◌∙◌, subst, true≢false, arith, append_assoc}
+use Rattle.std.proofs.Common.{◌≡◌, ◌⊎◌, inl, inr, ℕ, ◌-◌, Bool, true, false, not, ◌||◌, Some, List, [], ◌∷◌, ◌++◌, length, map, bytes_eq, nat_eq, refl, sym, ap, ◌∙◌, subst, true≢false, append_assoc}
 use Rattle.std.specs.Prelude.{if◌then◌else◌, unwrap_or}
 use Rattle.std.specs.List.{list_all, list_any, AllByRecursion}
-use Rattle.std.proofs.lemmas.Bool.{and_parts, or_parts}
-use Rattle.std.proofs.lemmas.Bool.Decides.{nat_tests}
+use Rattle.std.proofs.lemmas.Bool.{and_parts, or_parts, and_from, or_cases, or_right, or_from, not-true}
 use Rattle.std.proofs.lemmas.List.{map-append, append-nil}
 use Rattle.std.proofs.lemmas.Slice.Eq.{bytes_eq-Decides}
 use Rattle.lx_words.specs.declared.token.Token.{Token}
+use Rattle.lx_words.proofs.Lists.{eq_turned}
+use Rattle.lx_words.proofs.Tests.{eq_self}
 use Rattle.lx_ir.specs.declared.module.GlobalVar.{GlobalVar}
 use Rattle.lx_ir.specs.declared.module.Function.{Function}
 use Rattle.lx_ir.specs.declared.module.Module.{Module}
@@ -17,7 +18,7 @@ use Rattle.lx_ir_tokens.specs.declared.token.Kind.TheVariants as kinds
 use Rattle.lx_ir_tokens.specs.Names.{number_of}
 use Rattle.lx_ir_terms.specs.Context.{Context, bytes_of}
 use Rattle.lx_ir_calls.specs.declared.intrinsics.TextForm.{TextForm}
-use Rattle.lx_ir_heads.specs.Numbers.{has_number, with_number}
+use Rattle.lx_ir_statements.specs.Numbers.{has_number, with_number}
 use Rattle.lx_ir_statements.specs.declared.form.Statement.{Statement}
 use Rattle.lx_ir_statements.specs.declared.form.Statement.TheVariants as statements
 use Rattle.lx_ir_statements.specs.Defined.{with_symbol, is_block_write}
@@ -28,7 +29,7 @@ use Rattle.lx_ir_read.specs.declared.first.Found.{Found}
 use Rattle.lx_ir_read.specs.declared.draft.Draft.{Draft}
 use Rattle.lx_ir_read.specs.Tables.{tokens_left}
 use Rattle.lx_ir_read.specs.Again.{no_draft, registers_in, with_registers, with_defined, with_declared, import_of, local_names, kept}
-use Rattle.lx_ir_faults.specs.Fault.{line_shown}
+use Rattle.lx_ir_read.specs.Fault.{line_shown}
 use Rattle.lx_ir_read.specs.Reading.{tables_of, full_context}
 use Rattle.lx_ir_read.specs.Grammar.{AddAll, IsModule}
 use Rattle.lx_ir_lawful.specs.NamedThings.{AreOnce}
@@ -39,36 +40,11 @@ use Rattle.lx_ir_lawful.proofs.TokenNames.{tokens_are_named}
 use Rattle.lx_ir_lawful.specs.OnceLaws.{HasLawfulSymbols}
 use Rattle.lx_ir_lawful.proofs.Once.{dropped}
 
-both_true : (a b : Bool) → a ≡ true → b ≡ true → (a && b) ≡ true
-both_true a b p q = rw (p, q) refl
-
-or_cases : (a b : Bool) → (a || b) ≡ true → (a ≡ true) ⊎ (b ≡ true)
-or_cases true b h = inl refl
-or_cases false b h = inr h
-
-or_right : (a b : Bool) → b ≡ true → (a || b) ≡ true
-or_right true b e = refl
-or_right false b e = e
-
-neither : (a b : Bool) → a ≡ false → b ≡ false → (a || b) ≡ false
-neither a b p q = rw (p, q) refl
-
-not_true : (v : Bool) → not v ≡ true → v ≡ false
-not_true true e = absurd (cc e)
-not_true false e = refl
-
-eq_turned : (x y : List ℕ) (v : Bool) → bytes_eq y x ≡ v → bytes_eq x y ≡ false → v ≡ false
-eq_turned x y false e h = refl
-eq_turned x y true e h = absurd (true≢false (sym ((bytes_eq-Decides x y).1 (sym ((bytes_eq-Decides y x).0 e))) ∙ h))
-
-eq_self : (n : ℕ) → nat_eq n n ≡ true
-eq_self n = grind (arith, nat_tests)
-
 -- One name among others.
 
 none_with : (p : List ℕ → Bool) (xs ys : List (List ℕ)) (w : List ℕ) → list_any p (xs ++ ys) ≡ false → p w ≡ false → list_any p (xs ++ w ∷ ys) ≡ false
-none_with p [] ys w h g = neither (p w) (list_any p ys) g h
-none_with p (x ∷ xs) ys w h g = let both = or_parts (p x) (list_any p (xs ++ ys)) h in neither (p x) (list_any p (xs ++ w ∷ ys)) both.0 (none_with p xs ys w both.1 g)
+none_with p [] ys w h g = or_from (p w) (list_any p ys) g h
+none_with p (x ∷ xs) ys w h g = let both = or_parts (p x) (list_any p (xs ++ ys)) h in or_from (p x) (list_any p (xs ++ w ∷ ys)) both.0 (none_with p xs ys w both.1 g)
 
 some_with : (p : List ℕ → Bool) (xs ys : List (List ℕ)) (w : List ℕ) → list_any p (xs ++ w ∷ ys) ≡ true → (list_any p (xs ++ ys) ≡ true) ⊎ (p w ≡ true)
 some_with p [] ys w h = by (or_cases (p w) (list_any p ys) h)
@@ -87,16 +63,16 @@ some_with p (x ∷ xs) ys w h = by (some_with p xs ys w) (or_cases (p x) (list_a
     by again (inr e) = more (again e)
 
 distinct_with : (xs ys : List (List ℕ)) (w : List ℕ) → is_distinct (xs ++ ys) ≡ true → list_any (bytes_eq w) (xs ++ ys) ≡ false → is_distinct (xs ++ w ∷ ys) ≡ true
-distinct_with [] ys w d h = both_true (not (list_any (bytes_eq w) ys)) (is_distinct ys) (ap not h) d
+distinct_with [] ys w d h = and_from (not (list_any (bytes_eq w) ys)) (is_distinct ys) (ap not h) d
 distinct_with (x ∷ xs) ys w d h =
     let both = and_parts (not (list_any (bytes_eq x) (xs ++ ys))) (is_distinct (xs ++ ys)) d in
     let two = or_parts (bytes_eq w x) (list_any (bytes_eq w) (xs ++ ys)) h in
-    let none = none_with (bytes_eq x) xs ys w (not_true (list_any (bytes_eq x) (xs ++ ys)) both.0) (eq_turned w x (bytes_eq x w) refl two.0) in
-    both_true (not (list_any (bytes_eq x) (xs ++ w ∷ ys))) (is_distinct (xs ++ w ∷ ys)) (ap not none) (distinct_with xs ys w both.1 two.1)
+    let none = none_with (bytes_eq x) xs ys w (not-true (list_any (bytes_eq x) (xs ++ ys)) both.0) (eq_turned w x (bytes_eq x w) refl two.0) in
+    and_from (not (list_any (bytes_eq x) (xs ++ w ∷ ys))) (is_distinct (xs ++ w ∷ ys)) (ap not none) (distinct_with xs ys w both.1 two.1)
 
 all_with : (p : List ℕ → Bool) (xs ys : List (List ℕ)) (w : List ℕ) → list_all p (xs ++ ys) ≡ true → p w ≡ true → list_all p (xs ++ w ∷ ys) ≡ true
-all_with p [] ys w h g = both_true (p w) (list_all p ys) g h
-all_with p (x ∷ xs) ys w h g = let both = and_parts (p x) (list_all p (xs ++ ys)) h in both_true (p x) (list_all p (xs ++ w ∷ ys)) both.0 (all_with p xs ys w both.1 g)
+all_with p [] ys w h g = and_from (p w) (list_all p ys) g h
+all_with p (x ∷ xs) ys w h g = let both = and_parts (p x) (list_all p (xs ++ ys)) h in and_from (p x) (list_all p (xs ++ w ∷ ys)) both.0 (all_with p xs ys w both.1 g)
 
 -- Numbers.
 

@@ -2,7 +2,7 @@
 use Rattle.std.proofs.Common.{◌≡◌, ◌∙◌, ◌⊎◌, inl, inr, ℕ, suc, ◌-◌, ◌<◌, ◌≤◌, Bool, true, false, ◌&&◌, ◌||◌, Option, Some, None, List, [], ◌∷◌, length, take, refl, sym, ap, subst, arith, All, true≢false, nat_eq, nat_lt, nat_le}
 use Rattle.std.specs.Prelude.{◌==◌, not, if◌then◌else◌, slice_index}
 use Rattle.std.specs.List.{AllZip, AllByRecursion, list_all}
-use Rattle.std.proofs.lemmas.Bool.{and_parts, le-leb, leb-true, eqb-true}
+use Rattle.std.proofs.lemmas.Bool.{and_parts, le-leb, leb-true, eqb-true, and_from, or_cases}
 use Rattle.std.proofs.lemmas.Bool.Decides.{nat_tests}
 use Rattle.std.proofs.lemmas.List.Elements.{recursion_from_All, All-filter}
 use Rattle.lx_words.specs.declared.token.TokenRule.TheVariants.{Ir}
@@ -15,6 +15,7 @@ use Rattle.lx_words.specs.declared.token.Stop.{Stop}
 use Rattle.lx_words.specs.Lexemes.{is_digit as digit_byte, is_within, is_word_start, is_word_byte as word_byte, is_name_byte, is_quoted_name_byte, is_nil, ends_quoted, some_all, ends_name, is_name as name_lexeme, is_escaped, is_text_byte, is_ir_mark, is_comment_mark, is_line_byte, is_space, when, lexeme_of, lexeme_behind, word_lexeme, other_lexeme}
 use Rattle.lx_words.specs.Cuts.{bytes_of, Reaches, Scans, IsTokenOf}
 use Rattle.lx_words.proofs.Standing.{tokens_stand}
+use Rattle.lx_words.proofs.Tests.{and_false}
 use Rattle.lx_ir.specs.Lawful.{stands_in_name, is_name, is_digit, is_word_byte, is_label}
 use Rattle.lx_ir_tokens.specs.declared.token.Tok.{Tok}
 use Rattle.lx_ir_tokens.specs.declared.token.Kind.TheVariants as kinds
@@ -25,9 +26,6 @@ use Rattle.lx_ir_tokens.specs.Lines.{is_silent, from_line, kept_tokens}
 use Rattle.lx_ir_tokens.specs.Reading.{StandsFor, IsTokOf, ReadsAs}
 use Rattle.lx_ir_lawful.specs.TokenNames.{IsTokenNamed}
 
-both_true : (a b : Bool) → a ≡ true → b ≡ true → (a && b) ≡ true
-both_true a b p q = rw (p, q) refl
-
 -- Bytes.
 
 quoted_stands : (b : ℕ) → is_quoted_name_byte b ≡ true → stands_in_name b ≡ true
@@ -37,15 +35,11 @@ quoted_stands b h =
     let three = and_parts (nat_le 32 b) (nat_le b 126) two.0 in
     let high : b ≤ 126 = leb-true b 126 three.1 in
     let below : nat_lt b 127 ≡ true = grind (arith, nat_tests, high) in
-    both_true (nat_le 32 b && nat_lt b 127 && not (nat_eq b 34)) (not (nat_eq b 92))
-    (both_true (nat_le 32 b && nat_lt b 127) (not (nat_eq b 34)) (both_true (nat_le 32 b) (nat_lt b 127) three.0 below) two.1) one.1
+    and_from (nat_le 32 b && nat_lt b 127 && not (nat_eq b 34)) (not (nat_eq b 92))
+    (and_from (nat_le 32 b && nat_lt b 127) (not (nat_eq b 34)) (and_from (nat_le 32 b) (nat_lt b 127) three.0 below) two.1) one.1
 
 within_parts : (low high b : ℕ) → is_within low high b ≡ true → (low ≤ b) × (b ≤ high)
 within_parts low high b h = let two = and_parts (nat_le low b) (nat_le b high) h in (leb-true low b two.0, leb-true b high two.1)
-
-or_cases : (a b : Bool) → (a || b) ≡ true → (a ≡ true) ⊎ (b ≡ true)
-or_cases true b h = inl refl
-or_cases false b h = inr h
 
 stands_by : (b : ℕ) → 32 ≤ b → b < 127 → nat_eq b 34 ≡ false → nat_eq b 92 ≡ false → stands_in_name b ≡ true
 stands_by b low high x y =
@@ -100,7 +94,7 @@ name_byte_stands b h = by (or_cases (word_byte b) (b == 45) h)
 
 all_from : (p q : ℕ → Bool) → ((b : ℕ) → p b ≡ true → q b ≡ true) → (bs : List ℕ) → list_all p bs ≡ true → list_all q bs ≡ true
 all_from p q f [] h = refl
-all_from p q f (b ∷ bs) h = let s = and_parts (p b) (list_all p bs) h in both_true (q b) (list_all q bs) (f b s.0) (all_from p q f bs s.1)
+all_from p q f (b ∷ bs) h = let s = and_parts (p b) (list_all p bs) h in and_from (q b) (list_all q bs) (f b s.0) (all_from p q f bs s.1)
 
 -- Names with quotes round them, and without.
 
@@ -115,7 +109,7 @@ quoted_by p b bs false none h rest =
     let r = rest both.1 in
     let some : 0 < length bs = r.some in
     let e : length (b ∷ bs) - 1 ≡ suc (length bs - 1) = omega (arith, some) in
-    record { some = omega arith; each = ap (λ n. list_all p (take n (b ∷ bs))) e ∙ both_true (p b) (list_all p (take (length bs - 1) bs)) both.0 r.each }
+    record { some = omega arith; each = ap (λ n. list_all p (take n (b ∷ bs))) e ∙ and_from (p b) (list_all p (take (length bs - 1) bs)) both.0 r.each }
 
 nil_is : (bs : List ℕ) → is_nil bs ≡ true → bs ≡ []
 nil_is [] h = refl
@@ -137,7 +131,7 @@ quoted_name (b ∷ bs) h =
     let e : length (b ∷ bs) - 1 ≡ suc (length bs - 1) = omega (arith, some) in
     ap (λ n. is_name (take n (b ∷ bs))) e
     ∙ name_of b (take (length bs - 1) bs)
-    (both_true (stands_in_name b) (list_all stands_in_name (take (length bs - 1) bs)) (quoted_stands b both.0) (all_from is_quoted_name_byte stands_in_name quoted_stands (take (length bs - 1) bs) r.each))
+    (and_from (stands_in_name b) (list_all stands_in_name (take (length bs - 1) bs)) (quoted_stands b both.0) (all_from is_quoted_name_byte stands_in_name quoted_stands (take (length bs - 1) bs) r.each))
 
 name_by : (q : Bool) (b : ℕ) (bs : List ℕ) → (if q then ends_name bs else some_all is_name_byte (b ∷ bs)) ≡ true → is_name (if q then all_but_last bs else b ∷ bs) ≡ true
 name_by true b bs h = quoted_name bs h
@@ -197,10 +191,6 @@ tells b bs k e =
 
 -- Labels.
 
-and_false : (a : Bool) → (a && false) ≡ false
-and_false true = refl
-and_false false = refl
-
 above : (b : ℕ) → 57 < b → is_digit b ≡ false
 above b lt = let e : nat_le b 57 ≡ false = grind (arith, nat_tests, lt) in ap (λ v. nat_le 48 b && v) e ∙ and_false (nat_le 48 b)
 
@@ -238,10 +228,10 @@ label_by false b c p q = rw (p, q) refl
 word_label : (b : ℕ) (bs : List ℕ) → is_word_start b ≡ true → list_all word_byte bs ≡ true → is_label (b ∷ bs) ≡ true
 word_label b bs start h =
     let first : word_byte b ≡ true = ap (λ v. v || digit_byte b) start in
-    label_by (list_all is_digit (b ∷ bs)) (is_digit b) (list_all is_word_byte (b ∷ bs)) (start_no_digit b start) (all_from word_byte is_word_byte word_byte_is (b ∷ bs) (both_true (word_byte b) (list_all word_byte bs) first h))
+    label_by (list_all is_digit (b ∷ bs)) (is_digit b) (list_all is_word_byte (b ∷ bs)) (start_no_digit b start) (all_from word_byte is_word_byte word_byte_is (b ∷ bs) (and_from (word_byte b) (list_all word_byte bs) first h))
 
 digits_label : (b : ℕ) (bs : List ℕ) → digit_byte b ≡ true → list_all digit_byte bs ≡ true → is_label (b ∷ bs) ≡ true
-digits_label b bs first h = ap (λ v. v || not (is_digit b) && list_all is_word_byte (b ∷ bs)) (both_true (is_digit b) (list_all is_digit bs) first h)
+digits_label b bs first h = ap (λ v. v || not (is_digit b) && list_all is_word_byte (b ∷ bs)) (and_from (is_digit b) (list_all is_digit bs) first h)
 
 -- Tokens.
 

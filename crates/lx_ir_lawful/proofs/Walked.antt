@@ -20,7 +20,7 @@ use Rattle.lx_ir_read.specs.declared.draft.Draft.{Draft}
 use Rattle.lx_ir_read.specs.First.{unknown_context}
 use Rattle.lx_ir_read.specs.Tables.{tokens_left}
 use Rattle.lx_ir_read.specs.Again.{registers_in, with_registers, with_defined, with_declared, import_of, local_names, kept}
-use Rattle.lx_ir_faults.specs.Fault.{line_shown}
+use Rattle.lx_ir_read.specs.Fault.{line_shown}
 use Rattle.lx_ir_read.specs.Grammar.{AreStatements, AddAll}
 use Rattle.lx_ir_lawful.proofs.Sizes.{left_there}
 use Rattle.lx_ir_lawful.proofs.SymbolThings.{Thing, Other, Global, Import, Function as AFunction, thing_of, thing_at, is_global, told_by_tokens, OfThing, AllGlobals, holds_at}

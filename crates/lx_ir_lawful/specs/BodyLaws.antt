@@ -10,12 +10,12 @@ use Rattle.lx_ir.specs.Lawful.{is_lawful_body}
 use Rattle.lx_ir_tokens.specs.declared.token.Tok.{Tok}
 use Rattle.lx_ir_terms.specs.Context.{Context, nothing}
 use Rattle.lx_ir_calls.specs.declared.intrinsics.TextForm.{TextForm}
-use Rattle.lx_ir_heads.specs.declared.head.Head.{Head}
-use Rattle.lx_ir_heads.specs.Grammar.{IsHead}
-use Rattle.lx_ir_blocks.specs.Grammar.{IsBody}
+use Rattle.lx_ir_statements.specs.declared.head.Head.{Head}
+use Rattle.lx_ir_statements.specs.HeadGrammar.{IsHead}
+use Rattle.lx_ir_statements.specs.BlockGrammar.{IsBody}
 use Rattle.lx_ir_tables.specs.Numbering.{numbering, table_of, own_numbers}
 use Rattle.lx_ir_tables.specs.Registers.{registers_of}
-use Rattle.lx_ir_forgotten.specs.Alike.{knowing_registers, AlikeBlocks}
+use Rattle.lx_ir_lawful.specs.Alike.{knowing_registers, AlikeBlocks}
 use Rattle.lx_ir_lawful.specs.Tells.{Tells}
 use Rattle.lx_ir_lawful.specs.Said.{Names}
 use Rattle.lx_ir_lawful.specs.NamedThings.{named_things, has_numbers, AreOnce}

@@ -3,7 +3,7 @@ use Rattle.std.specs.Prelude.{◌≡◌, ℕ, false, IsTrue, Some, List, [], ◌
 use Rattle.lx_words.specs.declared.token.Token.{Token}
 use Rattle.lx_ir.specs.Lawful.{is_distinct}
 use Rattle.lx_ir_tokens.specs.Reading.{names_of}
-use Rattle.lx_ir_heads.specs.Numbers.{has_number}
+use Rattle.lx_ir_statements.specs.Numbers.{has_number}
 use Rattle.lx_ir_lawful.specs.NamedThings.{numbers_of, AreOnce}
 
 -- Distinct names, and behind them a name whose number none of them has, are distinct.

@@ -1,6 +1,13 @@
-//! Laws: a module that is read is lawful, and plain as a program: its types, constants, names, symbols and the bodies of its functions.
+//! Laws: a module that is read is lawful, and plain as a program, in its types, constants, names, symbols and the bodies of its functions;
+//! and each statement is one also by a context that knows no names.
+//!
+//! ```text
+//! whole_laws();
+//! // `SaysModule form text m` gives `IsLawful m` where the text has fewer than 2 ^ 32 - 1 bytes, and `IsPlain m` for a program.
+//! ```
 #![tactic(auto)]
 
+ghost use Rattle.lx_ir_lawful.specs.ForgottenLaws.{StatementsAreForgotten};
 ghost use Rattle.lx_ir_lawful.specs.LimitLaws.{InsideTypesAreLawful};
 ghost use Rattle.lx_ir_lawful.specs.TermLaws.{WrittenAreLawful, ConstantsAreLawful, InitsAreLawful};
 ghost use Rattle.lx_ir_lawful.specs.Said.{OpsAreSaid};
@@ -15,6 +22,12 @@ ghost use Rattle.lx_ir_lawful.specs.FunctionLaws.{FunctionsAreLawful, ProgramsHa
 ghost use Rattle.lx_ir_lawful.specs.Laws.{ProgramsArePlain, ReadIsLawful};
 
 use lx_ir_read::module_laws;
+
+/// The tokens of a statement are one also by a context that knows no names but those of registers: its registers have the
+/// same names, and its other numbers are forgotten.
+pub fn forgotten_laws()
+    ensures { StatementsAreForgotten }
+{}
 
 /// A type that is within the limits as it is written, over named types that are, is one that a lawful module may have.
 pub fn limit_laws()
@@ -40,7 +53,7 @@ pub fn form_laws()
 /// A list of distinct names stays one where a name with a number comes to its end that none of them has. A table of the names
 /// that tokens say has no name twice. The names that tokens say may stand in a module,
 /// and are no more than the tokens that are no marks.
-pub fn name_laws()
+pub fn lawful_name_laws()
     ensures grow { NamesGrow }
     ensures once { NamesStandOnce }
     ensures named { TokensAreNamed }
@@ -55,7 +68,7 @@ pub fn body_laws()
 
 /// The types of a module that a text is are within the limits: those with names, those of its globals, and those whose
 /// layout an instruction asks for.
-pub fn type_laws()
+pub fn lawful_type_laws()
     ensures { ModulesHaveLawfulTypes }
 {}
 

@@ -1,11 +1,14 @@
 -- A type within the limits has a layout, and indices that name parts of it can be followed.
 use Rattle.std.proofs.Common.{◌≡◌, ℕ, zero, suc, ◌+◌, ◌%◌, ◌^◌, ◌≤◌, Bool, true, false, Option, Some, None, List, [], ◌∷◌, refl, sym, ap, ◌∙◌, arith, slice_get}
 use Rattle.std.specs.List.{list_all}
+use Rattle.std.proofs.lemmas.Bool.{and_parts}
+use Rattle.std.proofs.lemmas.Option.{same_Some}
 use Rattle.lx_words.specs.Word.{Word}
+use Rattle.lx_words.proofs.Tests.{next_above}
 use Rattle.lx_ir.specs.declared.types.NamedType.{NamedType}
 use Rattle.lx_ir.specs.IrType.{IrType, One, Array, Struct, Packed, Named, IrTypes, none, also}
 use Rattle.lx_ir.specs.Layout.{Layout, layout, beside, padded, field_start, fields_in, layout_of, named_layouts, unnamed, is_struct, fields_of, list_of_types, is_type_within}
-use Rattle.lx_ir.proofs.Layouts.{and_true, next_le, fields_grow, within, name_layout}
+use Rattle.lx_ir.proofs.Layouts.{fields_grow, within, name_layout}
 use Rattle.lx_ir.proofs.Fits.{limited_is, within_fits, lawful_fits}
 use Rattle.lx_ir.specs.Fitting.{◌>>?◌, laid_beside, fit_type, fitting_layouts}
 use Rattle.lx_ir_offsets.specs.Offsets.{scaled, field_number, part_type, part_at, field_after, part_of, moved, distance, Part, part}
@@ -15,9 +18,6 @@ use Rattle.lx_ir_offsets.specs.Offsets.{scaled, field_number, part_type, part_at
 some_bind : {A B : Type 0} (o : Option A) (f : A → Option B) (y : B) → (o >>? f) ≡ Some y → (x : A) × (o ≡ Some x) × (f x ≡ Some y)
 some_bind (Some x) f y e = (x, refl, e)
 some_bind None f y e = cc
-
-some_is : {A : Type 0} (x y : A) → Some x ≡ Some y → x ≡ y
-some_is x y e = cc
 
 -- a part of this type, which nests at most so deep
 record Found (types : List NamedType) (n : ℕ) (o : Option Part) (u : IrType) : Type 0 where
@@ -34,15 +34,15 @@ module _ (types : List NamedType) (n : ℕ) (few : n ≤ 64) where
   field_found packed none laid zero u h le e = absurd (cc e)
   field_found packed none laid (suc k) u h le e = absurd (cc e)
   field_found packed (also t ts) laid zero u h le e =
-      let both = and_true (is_type_within types n t) (list_all (is_type_within types n) (list_of_types ts)) h in
-      let same : t ≡ u = some_is t u e in
+      let both = and_parts (is_type_within types n t) (list_all (is_type_within types n) (list_of_types ts)) h in
+      let same : t ≡ u = same_Some t u e in
       record {
         start = field_start packed laid (layout_of types t);
         is = ap (λ o. o >>? λ l. Some (part (field_start packed laid l) t)) (fit t both.0) ∙ ap (λ x. Some (part (field_start packed laid (layout_of types t)) x)) same;
         deep = ap (is_type_within types n) (sym same) ∙ both.0;
       }
   field_found packed (also t ts) laid (suc k) u h le e =
-      let both = and_true (is_type_within types n t) (list_all (is_type_within types n) (list_of_types ts)) h in
+      let both = and_parts (is_type_within types n t) (list_all (is_type_within types n) (list_of_types ts)) h in
       let next : Layout = beside packed laid (layout_of types t) in
       let grows : next.size ≤ (fields_in (named_layouts types 64) packed ts next).size = fields_grow (named_layouts types 64) packed ts next in
       let f = field_found packed ts next k u both.1 le e in
@@ -65,7 +65,7 @@ module _ (types : List NamedType) (n : ℕ) (few : n ≤ 64) where
   struct_found (Array c t) i u h p le e = absurd (cc h)
   struct_found (Struct ts) i u h p le e =
       let whole : Layout = fields_in (named_layouts types 64) false ts (layout 0 1) in
-      let grown : whole.size ≤ (padded whole).size = next_le whole.size whole.align in
+      let grown : whole.size ≤ (padded whole).size = next_above whole.size whole.align in
       numbered_found false ts (field_number i) u p (omega (arith, grown, le)) e
   struct_found (Packed ts) i u h p le e = numbered_found true ts (field_number i) u p le e
   struct_found (Named k) i u h p le e = absurd (cc h)
@@ -73,8 +73,8 @@ module _ (types : List NamedType) (n : ℕ) (few : n ≤ 64) where
   part_found : (t : IrType) (i : Word) (u : IrType) → is_type_within types (suc n) t ≡ true → n ≤ 63 → part_type (unnamed types t) i ≡ Some u → Found types n (part_of (fitting_layouts types) (unnamed types t) i) u
   part_found (One s) i u h few' e = absurd (cc e)
   part_found (Array c t) i u h few' e =
-      let p = and_true (is_type_within types n t) true (within types n (Array c t) h).parts in
-      let same : t ≡ u = some_is t u e in
+      let p = and_parts (is_type_within types n t) true (within types n (Array c t) h).parts in
+      let same : t ≡ u = same_Some t u e in
       record {
         start = scaled i (layout_of types t).size;
         is = ap (λ o. o >>? λ l. Some (part (scaled i l.size) t)) (fit t p.0) ∙ ap (λ x. Some (part (scaled i (layout_of types t).size) x)) same;

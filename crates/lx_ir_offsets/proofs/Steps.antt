@@ -3,6 +3,7 @@ use Rattle.std.proofs.Common.{◌≡◌, ℕ, zero, suc, ◌+◌, ◌*◌, ◌%�
 use Rattle.std.specs.Prelude.{◌*ℤ◌, option_map, if◌then◌else◌}
 use Rattle.std.proofs.lemmas.Nat.{mul-mod_second}
 use Rattle.std.proofs.lemmas.Bool.Decides.{nat_tests}
+use Rattle.std.proofs.lemmas.Option.{same_Some}
 use Rattle.lx_words.specs.declared.word.Width.TheVariants.{W1, W8, W16, W32, W64}
 use Rattle.lx_words.specs.declared.word.Width.{Width}
 use Rattle.lx_words.specs.Width.{modulus}
@@ -25,9 +26,6 @@ within : (b : Bool) (l m : Layout) → (if b then Some l else None) ≡ Some m �
 within true l m e = let s : l ≡ m = cc in sym s
 within false l m e = cc
 
-some_is : {A : Type 0} (x y : A) → Some x ≡ Some y → x ≡ y
-some_is x y e = cc
-
 abbrev begins : ℕ → IrType → Part
 begins n t = record { offset = pos n; ty = t }
 
@@ -36,7 +34,7 @@ number_is : (w : Width) (n k : ℕ) → numbered w n ≡ Some k → (n ≡ k) ×
 number_is W1 n k e = cc
 number_is W8 n k e = cc
 number_is W16 n k e = cc
-number_is W32 n k e = (some_is n k e, refl)
+number_is W32 n k e = (same_Some n k e, refl)
 number_is W64 n k e = cc
 
 positive : (b : Bool) (z y : ℤ) → b ≡ false → (if b then z else y) ≡ y
@@ -66,11 +64,11 @@ module _ (laws : FitsAreLayouts) (types : List NamedType) (layouts : Layouts) (t
   field_is packed none laid k p e = cc
   field_is true (also t ts) laid zero p e =
       let a = some_bind (fit_type layouts t) (λ l. Some (offsets.part (field_start true laid l) t)) p e in
-      ap (λ (q : offsets.Part). Some (begins q.offset q.ty)) (some_is (offsets.part laid.size t) p a.2)
+      ap (λ (q : offsets.Part). Some (begins q.offset q.ty)) (same_Some (offsets.part laid.size t) p a.2)
   field_is false (also t ts) laid zero p e =
       let a = some_bind (fit_type layouts t) (λ l. Some (offsets.part (field_start false laid l) t)) p e in
       ap (λ (l : Layout). Some (begins (field_start false laid l) t)) (sym (layout_is t a.0 a.1))
-      ∙ ap (λ (q : offsets.Part). Some (begins q.offset q.ty)) (some_is (offsets.part (field_start false laid a.0) t) p a.2)
+      ∙ ap (λ (q : offsets.Part). Some (begins q.offset q.ty)) (same_Some (offsets.part (field_start false laid a.0) t) p a.2)
   field_is packed (also t ts) laid (suc k) p e =
       let a = some_bind (fit_type layouts t) (λ l. laid_beside packed laid l >>? λ more. offsets.field_after layouts packed ts more k) p e in
       let b = some_bind (laid_beside packed laid a.0) (λ more. offsets.field_after layouts packed ts more k) p a.2 in
@@ -118,7 +116,7 @@ module _ (laws : FitsAreLayouts) (types : List NamedType) (layouts : Layouts) (t
   part_begins (One s) i p small e = absurd (cc e)
   part_begins (Array c t) i p small e =
       let a = some_bind (fit_type layouts t) (λ l. Some (offsets.part (scaled i l.size) t)) p e in
-      let q : offsets.part (scaled i a.0.size) t ≡ p = some_is (offsets.part (scaled i a.0.size) t) p a.2 in
+      let q : offsets.part (scaled i a.0.size) t ≡ p = same_Some (offsets.part (scaled i a.0.size) t) p a.2 in
       record {
         offset = ap (λ (x : offsets.Part). x.offset % 2 ^ 64) (sym q) ∙ again (scaled i a.0.size) (signed i *ℤ pos (size_of types t)) (scaled_is t i a.0 a.1);
         ty = ap (λ (x : offsets.Part). x.ty) (sym q);
@@ -131,7 +129,7 @@ module _ (laws : FitsAreLayouts) (types : List NamedType) (layouts : Layouts) (t
   sum_on a b z = omega arith
 
   pub moved_is : (before n : ℕ) (t : IrType) (is : List Word) → CountFields types t is → before < 2 ^ 64 → moved types layouts before t is ≡ Some n → n ≡ (before + modulo (part_at types t (map signed is)).offset (2 ^ 64)) % 2 ^ 64
-  moved_is before n t [] counts h e = let s : before ≡ n = some_is before n e in omega (arith, s, h)
+  moved_is before n t [] counts h e = let s : before ≡ n = same_Some before n e in omega (arith, s, h)
   moved_is before n t (i ∷ is) counts h e =
       let a = some_bind (offsets.part_of layouts (unnamed types t) i) (λ p. moved types layouts ((before + p.offset) % 2 ^ 64) p.ty is) n e in
       let b = part_begins (unnamed types t) i a.0 counts.0 a.1 in
@@ -144,7 +142,7 @@ module _ (laws : FitsAreLayouts) (types : List NamedType) (layouts : Layouts) (t
       ∙ ap (λ x. (before + x) % 2 ^ 64) (modulo_sum outer.offset (part_at types outer.ty (map signed is)).offset)
 
   pub distance_is : (t : IrType) (is : List Word) (n : ℕ) → CountParts types t is → distance types layouts t is ≡ Some n → n ≡ modulo (element_offset types t (map signed is)) (2 ^ 64)
-  distance_is t [] n counts e = sym (some_is 0 n e)
+  distance_is t [] n counts e = sym (same_Some 0 n e)
   distance_is t (i ∷ is) n counts e =
       let a = some_bind (fit_type layouts t) (λ l. moved types layouts (scaled i l.size) t is) n e in
       let s = scaled_is t i a.0 a.1 in
@@ -155,5 +153,5 @@ module _ (laws : FitsAreLayouts) (types : List NamedType) (layouts : Layouts) (t
   pub offset_is : (t : IrType) (i : Word) (k : ℕ) (p : offsets.Part) → is_struct (unnamed types t) ≡ true → field_number i ≡ Some k → offsets.part_of layouts (unnamed types t) i ≡ Some p → offset_of types t k ≡ Some (pos p.offset)
   offset_is t i k p h e g =
       let f = struct_field (unnamed types t) i p h g in
-      let same : f.0 ≡ k = some_is f.0 k (sym f.1 ∙ e) in
+      let same : f.0 ≡ k = same_Some f.0 k (sym f.1 ∙ e) in
       ap (λ j. option_map (λ (x : Part). x.offset) (field_of types (unnamed types t) j)) (sym same) ∙ ap (option_map (λ (x : Part). x.offset)) f.2

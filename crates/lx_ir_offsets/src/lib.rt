@@ -1,4 +1,9 @@
 //! How far constant indices go, over types that may lie outside the limits, and which types do.
+//!
+//! ```text
+//! // The indices `i64 1, i32 1` over `{ i32, ptr }`: one whole struct, and then to its second field. Some(24).
+//! distance(named, layouts, &ty, &indices);
+//! ```
 #![tactic(auto)]
 
 ghost use Rattle.lx_ir_offsets.specs.Laws.{FitsAreLayouts};

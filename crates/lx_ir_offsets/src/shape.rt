@@ -18,7 +18,7 @@ const PAST_SIZE: u64 = (1 << 32) + 1;
 const PAST_NESTING: u32 = 65;
 
 /// How a type lies in memory and how deep it nests. What is past a limit counts as just past it.
-#[derive(Clone, Copy, Debug, PartialEq, Eq)]
+#[derive(Clone, Copy)]
 pub struct Shape {
     size: u64,
     align: u64,

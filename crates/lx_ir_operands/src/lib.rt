@@ -1,4 +1,13 @@
 //! Operands of instructions in IR text, and what is passed over around them: which tokens they are, and how they are read.
+//!
+//! ```text
+//! // At `i32 7`: the type and the value.
+//! let argument = typed(alloc, &mut reader, &context)?;
+//! // At `, label %done`: the name `done`.
+//! let label = next_label(alloc, &mut reader, &context)?;
+//! // At `, !dbg !5` the reader goes over all metadata.
+//! metadata(&mut reader)?;
+//! ```
 #![tactic(auto)]
 
 ghost use Rattle.lx_ir_operands.specs.Laws.{OperandsAgree, LabelsAgree, ListsAgree, PassedOverAgrees, OperandsAreRefused, ListsAreRefused, AttributesAreRefused};

@@ -26,9 +26,9 @@ use Rattle.lx_ir_tables.specs.Numbering.{Numbering, numbering, with_thing, is_ne
 use Rattle.lx_ir_tables.specs.Registers.{with_given, with_given_by, with_all_given, with_read, with_operands, with_read_by, with_all_read, with_parameters, registers_of}
 use Rattle.lx_ir_read.specs.declared.first.Found.{Found}
 use Rattle.lx_ir_read.specs.declared.first.FirstReading.{FirstReading}
-use Rattle.lx_ir_faults.specs.declared.fault.TextFault.{TextFault}
-use Rattle.lx_ir_read.specs.declared.fault.ModuleError.{ModuleError}
-use Rattle.lx_ir_read.specs.declared.fault.ModuleError.TheVariants as errors
+use Rattle.lx_ir_read.specs.declared.fault.TextFault.{TextFault}
+use Rattle.lx_ir_read.specs.declared.module_error.ModuleError.{ModuleError}
+use Rattle.lx_ir_read.specs.declared.module_error.ModuleError.TheVariants as errors
 use Rattle.lx_ir_read.specs.declared.draft.Draft.{Draft}
 use Rattle.lx_ir_read.specs.declared.reading.Tables.{Tables}
 use Rattle.lx_ir_read.specs.declared.reading.Types.{Types}

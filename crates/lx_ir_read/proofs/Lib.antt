@@ -1,3 +1,4 @@
 pub mod Drafts
-pub mod Readings
 pub mod ModuleLaws
+pub mod Names
+pub mod Readings

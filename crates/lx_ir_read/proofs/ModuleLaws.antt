@@ -23,12 +23,12 @@ use Rattle.lx_ir_read.specs.declared.first.Found.{Found}
 use Rattle.lx_ir_read.specs.declared.first.Progress.{Progress}
 use Rattle.lx_ir_read.specs.declared.first.FirstReading.{FirstReading}
 use Rattle.lx_ir_read.specs.declared.draft.Draft.{Draft}
-use Rattle.lx_ir_faults.specs.declared.fault.ReadFault.{ReadFault}
-use Rattle.lx_ir_faults.specs.declared.fault.TextFault.{TextFault}
+use Rattle.lx_ir_read.specs.declared.fault.ReadFault.{ReadFault}
+use Rattle.lx_ir_read.specs.declared.fault.TextFault.{TextFault}
 use Rattle.lx_ir_read.specs.First.{unknown_context, found, with_found, found_at, stopped, leftover, first_by, first_at, first_reading, no_progress}
 use Rattle.lx_ir_read.specs.Tables.{tokens_left}
 use Rattle.lx_ir_read.specs.Again.{no_draft, registers_in, with_registers, with_defined, kept, again_at, all_again, module_of}
-use Rattle.lx_ir_faults.specs.Fault.{line_shown, shown}
+use Rattle.lx_ir_read.specs.Fault.{line_shown, shown}
 use Rattle.lx_ir_read.specs.Reading.{first_early, left_at, first_of, early_context, front_fault, tables_of, full_context, told, ◌and_then◌, module_by_tables, module_found, unless_faulty, module_by, module_at, SaysModule, FirstFault}
 use Rattle.lx_ir_read.specs.Grammar.{AreStatements, Adds, AddAll, IsModule}
 

@@ -20,7 +20,7 @@ use Rattle.lx_ir_tables.specs.Numbering.{Numbering, numbering, table_of}
 use Rattle.lx_ir_tables.specs.Registers.{registers_of}
 use Rattle.lx_ir_read.specs.declared.first.Found.{Found}
 use Rattle.lx_ir_read.specs.declared.draft.Draft.{Draft}
-use Rattle.lx_ir_faults.specs.Fault.{line_shown}
+use Rattle.lx_ir_read.specs.Fault.{line_shown}
 use Rattle.lx_ir_read.specs.Tables.{tokens_left}
 
 -- Registers.

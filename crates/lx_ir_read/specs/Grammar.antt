@@ -17,7 +17,7 @@ use Rattle.lx_ir_read.specs.declared.draft.Draft.{Draft}
 use Rattle.lx_ir_read.specs.First.{unknown_context}
 use Rattle.lx_ir_read.specs.Tables.{tokens_left}
 use Rattle.lx_ir_read.specs.Again.{no_draft, registers_in, with_registers, with_defined, kept, module_of}
-use Rattle.lx_ir_faults.specs.Fault.{line_shown}
+use Rattle.lx_ir_read.specs.Fault.{line_shown}
 use Rattle.lx_ir_read.specs.Reading.{first_early, early_context, tables_of, full_context}
 
 -- Tokens fall into these statements, each of which stands behind those before it and defines no name that they define.

@@ -2,7 +2,7 @@
 use Rattle.std.specs.Prelude.{◌≡◌, ℕ, List}
 use Rattle.lx_ir.specs.declared.module.Module.{Module}
 use Rattle.lx_ir_calls.specs.declared.intrinsics.TextForm.{TextForm}
-use Rattle.lx_ir_faults.specs.declared.fault.ReadFault.{ReadFault}
+use Rattle.lx_ir_read.specs.declared.fault.ReadFault.{ReadFault}
 use Rattle.lx_ir_read.specs.Reading.{SaysModule, FirstFault}
 use Rattle.lx_ir_read.specs.Grammar.{IsModule}
 

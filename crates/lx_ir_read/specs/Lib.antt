@@ -1,7 +1,8 @@
-pub mod First
-pub mod Tables
 pub mod Again
-pub mod Says
-pub mod Reading
+pub mod Fault
+pub mod First
 pub mod Grammar
 pub mod Laws
+pub mod Reading
+pub mod Says
+pub mod Tables

@@ -27,14 +27,14 @@ use Rattle.lx_ir_read.specs.declared.draft.Draft.{Draft}
 use Rattle.lx_ir_read.specs.declared.reading.Tables.{Tables}
 use Rattle.lx_ir_read.specs.declared.reading.Types.{Types}
 use Rattle.lx_ir_read.specs.declared.reading.Reckoned.{Reckoned}
-use Rattle.lx_ir_faults.specs.declared.fault.TextFault.{TextFault}
-use Rattle.lx_ir_faults.specs.declared.fault.TextFault.TheVariants as texts
-use Rattle.lx_ir_faults.specs.declared.fault.ReadFault.{ReadFault}
-use Rattle.lx_ir_faults.specs.declared.fault.ReadFault.TheVariants as reads
+use Rattle.lx_ir_read.specs.declared.fault.TextFault.{TextFault}
+use Rattle.lx_ir_read.specs.declared.fault.TextFault.TheVariants as texts
+use Rattle.lx_ir_read.specs.declared.fault.ReadFault.{ReadFault}
+use Rattle.lx_ir_read.specs.declared.fault.ReadFault.TheVariants as reads
 use Rattle.lx_ir_read.specs.First.{unknown_context, first_reading}
 use Rattle.lx_ir_read.specs.Tables.{types_of, symbols_of, naming_types, named_types}
 use Rattle.lx_ir_read.specs.Again.{no_draft, all_again, module_of}
-use Rattle.lx_ir_faults.specs.Fault.{name_at, shown}
+use Rattle.lx_ir_read.specs.Fault.{name_at, shown}
 
 -- Faults before the one at which the first reading stops.
 

@@ -3,9 +3,9 @@ use Rattle.std.specs.Prelude.{◌≡◌, Result, Ok, Err}
 use Rattle.lx_ir_terms.specs.declared.fault.Fault.{Fault}
 use Rattle.lx_ir_terms.specs.declared.fault.ReadError.{ReadError}
 use Rattle.lx_ir_terms.specs.Reading.{Fails}
-use Rattle.lx_ir_faults.specs.declared.fault.TextFault.{TextFault}
-use Rattle.lx_ir_read.specs.declared.fault.ModuleError.{ModuleError}
-use Rattle.lx_ir_read.specs.declared.fault.ModuleError.TheVariants as errors
+use Rattle.lx_ir_read.specs.declared.fault.TextFault.{TextFault}
+use Rattle.lx_ir_read.specs.declared.module_error.ModuleError.{ModuleError}
+use Rattle.lx_ir_read.specs.declared.module_error.ModuleError.TheVariants as errors
 
 -- what was there before becomes what reading gives, unless memory ran out
 abbrev pub Becomes : {X S : Type 0} → Result X ReadError → S → Result S Fault → Type 0

@@ -3,14 +3,14 @@
 ghost use Rattle.std.specs.Prelude.{◌≡◌, [], length, OnOk};
 ghost use Rattle.lx_ir_tables.specs.Numbering.{numbering, table_of};
 ghost use Rattle.lx_ir_read.specs.Again.{registers_in, with_registers, no_draft, again_at, all_again};
-ghost use Rattle.lx_ir_faults.specs.Fault.{line_shown};
+ghost use Rattle.lx_ir_read.specs.Fault.{line_shown};
 ghost use Rattle.lx_ir_read.specs.Says.{Becomes, Answers};
 
 use crate::draft::Draft;
 use crate::first::Found;
+use crate::line_shown;
 use crate::tables::tokens_left;
 use lx_ir_calls::TextForm;
-use lx_ir_faults::line_shown;
 use lx_ir_statements::{Statement, statement};
 use lx_ir_tables::{Numbering, number_registers};
 use lx_ir_terms::{Context, ReadError, Reader};

@@ -3,10 +3,10 @@
 ghost use Rattle.std.specs.Prelude.{◌≡◌, ◌++◌, ◌∷◌, [], None, length, drop, map, IfOk, OnOk};
 ghost use Rattle.lx_ir_read.specs.Again.{register_name, local_names, no_draft, nameless, import_of, with_named, with_variable, with_declared, with_body, kept, with_defined, module_of};
 
+use crate::name_at;
 use lx_ir::NamedTypes;
 use lx_ir::module::{Block, Function, GlobalVar, Init, Module, Parameter};
 use lx_ir::types::{IrType, NamedType, Scalar};
-use lx_ir_faults::name_at;
 use lx_ir_statements::{Defined, Statement, is_block_write};
 use lx_ir_tables::Numbering;
 use lx_ir_terms::Context;

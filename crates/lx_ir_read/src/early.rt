@@ -2,14 +2,14 @@
 
 ghost use Rattle.std.specs.Prelude.{◌≡◌, ◌-◌, length, take, IfOk};
 ghost use Rattle.lx_ir.specs.Lawful.{is_own_name};
-ghost use Rattle.lx_ir_faults.specs.Fault.{name_at};
+ghost use Rattle.lx_ir_read.specs.Fault.{name_at};
 ghost use Rattle.lx_ir_read.specs.Reading.{is_own, is_early, first_early, left_at, or_byte, first_of, early_context, front_fault};
 
 use crate::first::{FirstReading, Found};
 use crate::tables::{named_types, naming_types, types_of};
+use crate::{TextFault, name_at};
 use lx_ir_calls::TextForm;
 use lx_ir_constants::is_misplaced;
-use lx_ir_faults::{TextFault, name_at};
 use lx_ir_terms::{Context, Fault, FaultKind};
 use lx_ir_tokens::{IrTokens, Kind, NameTable, Tok};
 use lx_words::{Memory, Stop};

@@ -11,14 +11,14 @@ ghost use Rattle.lx_ir_read.specs.Laws.{OneModule, OneFault, NotBoth, ModulesAre
 use crate::again::all_again;
 use crate::draft::Draft;
 use crate::early::front_fault;
-use crate::fault::ModuleError;
 use crate::first::{FirstReading, Found, first_reading, knowing_registers};
+use crate::module_error::ModuleError;
 use crate::tables::{named_types, symbols_of, types_of};
+use crate::{ReadFault, TextFault, shown};
 use lx_ir::module::{Module, Symbol};
 use lx_ir::types::NamedType;
 use lx_ir::{Layout, fitting_layouts};
 use lx_ir_calls::TextForm;
-use lx_ir_faults::{ReadFault, TextFault, shown};
 use lx_ir_offsets::{Shape, named_shapes};
 use lx_ir_statements::statement_laws;
 use lx_ir_tables::own_numbers;

@@ -26,11 +26,11 @@ use Rattle.lx_ir_constants.proofs.InitLaws.{init_again}
 use Rattle.lx_ir_constants.proofs.InitsFound.{init_found}
 use Rattle.lx_ir_operands.specs.Steps.{is_align, one_align_at}
 use Rattle.lx_ir_operands.specs.Grammar.{IsCount, IsAlign}
-use Rattle.lx_ir_heads.specs.Numbers.{has_number, has_some}
+use Rattle.lx_ir_statements.specs.Numbers.{has_number, has_some}
 use Rattle.lx_ir_statements.specs.declared.form.Statement.{Statement}
 use Rattle.lx_ir_statements.specs.declared.form.Statement.TheVariants as statements
 use Rattle.lx_ir_statements.specs.declared.defined.Defined.{Defined}
-use Rattle.lx_ir_heads.specs.Words.{is_linkage_word}
+use Rattle.lx_ir_statements.specs.Words.{is_linkage_word}
 use Rattle.lx_ir_statements.specs.Statements.{global_align_at, symbol_name, next_symbol, symbol_at, new_symbol_at, storage_in, storage_at, global_at}
 use Rattle.lx_ir_statements.specs.Grammar.{IsSymbol, AreLinkage, IsGlobal}
 use Rattle.lx_ir_statements.proofs.HeadWords.{linkage_over, linkage_found}

@@ -1,7 +1,8 @@
 -- Words around statements: what is in the grammar is passed over, and what is passed over is in the grammar.
 use Rattle.std.proofs.Common.{◌≡◌, ℕ, zero, suc, ◌<◌, Bool, true, false, List, [], ◌∷◌, ◌++◌, length, Ok, ◌⊎◌, inl, inr, refl, sym, ap, ◌∙◌, subst, arith}
-use Rattle.std.specs.Prelude.{◌&&◌, ◌||◌, if◌then◌else◌}
+use Rattle.std.specs.Prelude.{◌||◌, if◌then◌else◌}
 use Rattle.std.specs.List.{list_all}
+use Rattle.std.proofs.lemmas.Bool.{and_parts}
 use Rattle.lx_ir_tokens.specs.declared.token.Tok.{Tok}
 use Rattle.lx_ir_tokens.specs.declared.token.Kind.{Kind}
 use Rattle.lx_ir_tokens.specs.declared.token.Kind.TheVariants as kinds
@@ -9,12 +10,8 @@ use Rattle.lx_ir_tokens.specs.declared.keyword.Keyword.TheVariants as keywords
 use Rattle.lx_ir_terms.specs.Reading.{Read, ◌>>=◌, has, behind}
 use Rattle.lx_ir_terms.specs.Laws.{Reads, Finds}
 use Rattle.lx_ir_constants.specs.Constants.{skipped}
-use Rattle.lx_ir_heads.specs.Words.{is_linkage_word}
+use Rattle.lx_ir_statements.specs.Words.{is_linkage_word}
 use Rattle.lx_ir_statements.specs.Grammar.{AreLinkage}
-
-split_and : (a b : Bool) → (a && b) ≡ true → (a ≡ true) × (b ≡ true)
-split_and true b e = (refl, e)
-split_and false b e = cc
 
 -- words before a global
 
@@ -22,7 +19,7 @@ pub linkage_over : (ws vs : List Tok) → AreLinkage ws → has is_linkage_word 
 linkage_over [] [] e n = refl
 linkage_over [] (t ∷ vs) e n = rw n refl
 linkage_over (w ∷ ws) vs e n =
-    let s = split_and (is_linkage_word w.kind) (list_all (λ u. is_linkage_word u.kind) ws) e in
+    let s = and_parts (is_linkage_word w.kind) (list_all (λ u. is_linkage_word u.kind) ws) e in
     rw s.0 (linkage_over ws vs s.1 n)
 
 linkage_step : (b : Bool) (t : Tok) (ts : List Tok) → is_linkage_word t.kind ≡ b → ((front : List Tok) × AreLinkage front × (ts ≡ front ++ skipped is_linkage_word ts)) → (front : List Tok) × AreLinkage front × (t ∷ ts ≡ front ++ skipped is_linkage_word (t ∷ ts))

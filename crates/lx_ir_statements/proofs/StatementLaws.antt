@@ -1,7 +1,8 @@
 -- Statements: what is in the grammar is read.
 use Rattle.std.proofs.Common.{◌≡◌, ℕ, Bool, true, false, Option, Some, None, List, [], ◌∷◌, ◌++◌, Ok, Err, ◌⊎◌, inl, inr, refl, sym, ap, ◌∙◌, subst, append_assoc}
-use Rattle.std.specs.Prelude.{not, ◌&&◌, ◌||◌, if◌then◌else◌}
+use Rattle.std.specs.Prelude.{not, ◌||◌, if◌then◌else◌}
 use Rattle.lx_words.specs.declared.token.Token.{Token}
+use Rattle.lx_words.proofs.Tests.{twice_by}
 use Rattle.lx_ir_tokens.specs.declared.token.Tok.{Tok}
 use Rattle.lx_ir_tokens.specs.declared.token.Kind.{Kind}
 use Rattle.lx_ir_tokens.specs.declared.token.Kind.TheVariants as kinds
@@ -20,18 +21,18 @@ use Rattle.lx_ir_terms.specs.Laws.{Reads}
 use Rattle.lx_ir_terms.proofs.Marks.{mark_is}
 use Rattle.lx_ir_constants.specs.Constants.{first_name}
 use Rattle.lx_ir_calls.specs.declared.intrinsics.TextForm.{TextForm}
-use Rattle.lx_ir_heads.specs.declared.head.Head.{Head}
-use Rattle.lx_ir_heads.specs.Numbers.{has_number}
-use Rattle.lx_ir_heads.specs.Words.{is_any_word, is_import_word, has_import_attribute, has_function_attribute}
-use Rattle.lx_ir_heads.specs.Parameters.{local_name}
-use Rattle.lx_ir_heads.specs.Grammar.{IsResult, IsHead, AreImportParameters}
-use Rattle.lx_ir_heads.proofs.WordLaws.{result_reads, import_attributes_again, function_attributes_again}
-use Rattle.lx_ir_heads.proofs.ParameterLaws.{heads_again}
-use Rattle.lx_ir_heads.proofs.ImportLaws.{import_parameters_read}
+use Rattle.lx_ir_statements.specs.declared.head.Head.{Head}
+use Rattle.lx_ir_statements.specs.Numbers.{has_number}
+use Rattle.lx_ir_statements.specs.Words.{is_any_word, is_import_word, has_import_attribute, has_function_attribute}
+use Rattle.lx_ir_statements.specs.Parameters.{local_name}
+use Rattle.lx_ir_statements.specs.HeadGrammar.{IsResult, IsHead, AreImportParameters}
+use Rattle.lx_ir_statements.proofs.WordLaws.{result_reads, import_attributes_again, function_attributes_again}
+use Rattle.lx_ir_statements.proofs.ParameterLaws.{heads_again}
+use Rattle.lx_ir_statements.proofs.ImportLaws.{import_parameters_read}
 use Rattle.lx_ir_operands.specs.Grammar.{Repeated, IsAttribute}
-use Rattle.lx_ir_blocks.specs.Grammar.{IsBody}
-use Rattle.lx_ir_blocks.proofs.RunLaws.{InstrLaws}
-use Rattle.lx_ir_blocks.proofs.BlockLaws.{body_again}
+use Rattle.lx_ir_statements.specs.BlockGrammar.{IsBody}
+use Rattle.lx_ir_statements.proofs.RunLaws.{InstrLaws}
+use Rattle.lx_ir_statements.proofs.BlockLaws.{body_again}
 use Rattle.lx_ir_statements.specs.declared.form.Statement.{Statement}
 use Rattle.lx_ir_statements.specs.declared.form.Statement.TheVariants as statements
 use Rattle.lx_ir_statements.specs.declared.defined.Defined.{Defined}
@@ -84,10 +85,6 @@ function_goes k = is_mark Hash k || is_any_word k
 
 brace_no_word : (k : Kind) → is_mark OpenBrace k ≡ true → function_goes k ≡ false
 brace_no_word k e = ap function_goes (mark_is OpenBrace k e)
-
-twice_by : (a b : Bool) → b ≡ true → (a && not b) ≡ false
-twice_by true b e = rw e refl
-twice_by false b e = refl
 
 -- A statement by its first token.
 

@@ -25,19 +25,19 @@ use Rattle.lx_ir_terms.proofs.Written.{written_found}
 use Rattle.lx_ir_constants.specs.Constants.{first_name}
 use Rattle.lx_ir_calls.specs.declared.intrinsics.TextForm.{TextForm}
 use Rattle.lx_ir_operands.specs.Grammar.{Repeated, IsAttribute}
-use Rattle.lx_ir_heads.specs.declared.head.Head.{Head}
-use Rattle.lx_ir_heads.specs.Numbers.{has_number}
-use Rattle.lx_ir_heads.specs.Words.{import_attributes_at, function_attributes_at}
-use Rattle.lx_ir_heads.specs.Parameters.{local_name, parameters_at}
-use Rattle.lx_ir_heads.specs.Imports.{import_parameters_at}
-use Rattle.lx_ir_heads.specs.Grammar.{IsResult, IsHead, AreImportParameters}
-use Rattle.lx_ir_heads.proofs.WordLaws.{result_finds, import_attributes_found, function_attributes_found}
-use Rattle.lx_ir_heads.proofs.ParametersFound.{heads_found}
-use Rattle.lx_ir_heads.proofs.ImportLaws.{import_parameters_found}
-use Rattle.lx_ir_blocks.specs.Blocks.{blocks_at}
-use Rattle.lx_ir_blocks.specs.Grammar.{IsBody}
-use Rattle.lx_ir_blocks.proofs.RunLaws.{InstrLaws}
-use Rattle.lx_ir_blocks.proofs.BlockLaws.{body_found}
+use Rattle.lx_ir_statements.specs.declared.head.Head.{Head}
+use Rattle.lx_ir_statements.specs.Numbers.{has_number}
+use Rattle.lx_ir_statements.specs.Words.{import_attributes_at, function_attributes_at}
+use Rattle.lx_ir_statements.specs.Parameters.{local_name, parameters_at}
+use Rattle.lx_ir_statements.specs.Imports.{import_parameters_at}
+use Rattle.lx_ir_statements.specs.HeadGrammar.{IsResult, IsHead, AreImportParameters}
+use Rattle.lx_ir_statements.proofs.WordLaws.{result_finds, import_attributes_found, function_attributes_found}
+use Rattle.lx_ir_statements.proofs.ParametersFound.{heads_found}
+use Rattle.lx_ir_statements.proofs.ImportLaws.{import_parameters_found}
+use Rattle.lx_ir_statements.specs.Blocks.{blocks_at}
+use Rattle.lx_ir_statements.specs.BlockGrammar.{IsBody}
+use Rattle.lx_ir_statements.proofs.RunLaws.{InstrLaws}
+use Rattle.lx_ir_statements.proofs.BlockLaws.{body_found}
 use Rattle.lx_ir_statements.specs.declared.form.Statement.{Statement}
 use Rattle.lx_ir_statements.specs.declared.form.Statement.TheVariants as statements
 use Rattle.lx_ir_statements.specs.declared.defined.Defined.{Defined}

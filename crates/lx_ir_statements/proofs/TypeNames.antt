@@ -19,8 +19,8 @@ use Rattle.lx_ir_constants.specs.Constants.{skipped, first_name, word_refusal}
 use Rattle.lx_ir_constants.specs.Inits.{init_at}
 use Rattle.lx_ir_constants.specs.InitGrammar.{IsInit}
 use Rattle.lx_ir_constants.proofs.InitLaws.{init_again}
-use Rattle.lx_ir_heads.specs.Numbers.{has_number, has_some}
-use Rattle.lx_ir_heads.specs.Parameters.{local_name}
+use Rattle.lx_ir_statements.specs.Numbers.{has_number, has_some}
+use Rattle.lx_ir_statements.specs.Parameters.{local_name}
 use Rattle.lx_ir_statements.specs.declared.form.Statement.{Statement}
 use Rattle.lx_ir_statements.specs.declared.form.Statement.TheVariants as statements
 use Rattle.lx_ir_statements.specs.declared.defined.Defined.{Defined}

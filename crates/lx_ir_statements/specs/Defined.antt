@@ -2,7 +2,7 @@
 use Rattle.std.specs.Prelude.{ℕ, Bool, false, not, ◌&&◌, Option, Some, None, [], if◌then◌else◌, is_some}
 use Rattle.lx_ir_terms.specs.Context.{Context, bytes_of}
 use Rattle.lx_ir_calls.specs.Writes.{block_write_named}
-use Rattle.lx_ir_heads.specs.Numbers.{has_number, with_number}
+use Rattle.lx_ir_statements.specs.Numbers.{has_number, with_number}
 use Rattle.lx_ir_statements.specs.declared.form.Statement.{Statement}
 use Rattle.lx_ir_statements.specs.declared.form.Statement.TheVariants as statements
 use Rattle.lx_ir_statements.specs.declared.defined.Defined.{Defined}

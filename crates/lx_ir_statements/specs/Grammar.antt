@@ -20,12 +20,12 @@ use Rattle.lx_ir_terms.specs.Grammar.{Part, Picks, Is, IsMark, ◌then◌, IsWri
 use Rattle.lx_ir_constants.specs.InitGrammar.{IsInit}
 use Rattle.lx_ir_operands.specs.Grammar.{Repeated, IsAttribute, IsAlign}
 use Rattle.lx_ir_calls.specs.declared.intrinsics.TextForm.{TextForm}
-use Rattle.lx_ir_heads.specs.declared.head.Head.{Head}
-use Rattle.lx_ir_heads.specs.Numbers.{has_number}
-use Rattle.lx_ir_heads.specs.Words.{is_linkage_word}
-use Rattle.lx_ir_heads.specs.Parameters.{local_name}
-use Rattle.lx_ir_heads.specs.Grammar.{IsResult, IsHead, AreImportParameters}
-use Rattle.lx_ir_blocks.specs.Grammar.{Before, IsBody}
+use Rattle.lx_ir_statements.specs.declared.head.Head.{Head}
+use Rattle.lx_ir_statements.specs.Numbers.{has_number}
+use Rattle.lx_ir_statements.specs.Words.{is_linkage_word}
+use Rattle.lx_ir_statements.specs.Parameters.{local_name}
+use Rattle.lx_ir_statements.specs.HeadGrammar.{IsResult, IsHead, AreImportParameters}
+use Rattle.lx_ir_statements.specs.BlockGrammar.{Before, IsBody}
 use Rattle.lx_ir_statements.specs.declared.form.Statement.{Statement}
 use Rattle.lx_ir_statements.specs.declared.form.Statement.TheVariants as statements
 use Rattle.lx_ir_statements.specs.declared.defined.Defined.{Defined}

@@ -8,7 +8,7 @@ use Rattle.lx_ir_tokens.specs.declared.keyword.StatementWord.TheVariants as word
 use Rattle.lx_ir_tokens.specs.declared.keyword.Keyword.TheVariants as keywords
 use Rattle.lx_ir_terms.specs.Context.{Context}
 use Rattle.lx_ir_calls.specs.declared.intrinsics.TextForm.{TextForm}
-use Rattle.lx_ir_blocks.specs.Laws.{FindsBefore}
+use Rattle.lx_ir_statements.specs.BlockLaws.{FindsBefore}
 use Rattle.lx_ir_statements.specs.declared.form.Statement.{Statement}
 use Rattle.lx_ir_statements.specs.declared.defined.Defined.{Defined}
 use Rattle.lx_ir_statements.specs.Statements.{statement_at}

@@ -1,4 +1,14 @@
+pub mod BlockGrammar
+pub mod BlockLaws
+pub mod Blocks
 pub mod Defined
-pub mod Statements
+pub mod Going
 pub mod Grammar
+pub mod HeadGrammar
+pub mod HeadLaws
+pub mod Imports
 pub mod Laws
+pub mod Numbers
+pub mod Parameters
+pub mod Statements
+pub mod Words

@@ -1,12 +1,12 @@
 //! The names that statements define.
 
 ghost use Rattle.std.specs.Prelude.{◌≡◌, OnOk};
-ghost use Rattle.lx_ir_heads.specs.Numbers.{has_number};
+ghost use Rattle.lx_ir_statements.specs.Numbers.{has_number};
 ghost use Rattle.lx_ir_statements.specs.Defined.{nothing_defined, is_block_write, with_statement, is_imported_twice};
 
+use crate::Numbers;
 use crate::form::Statement;
 use lx_ir_calls::block_write_named;
-use lx_ir_heads::Numbers;
 use lx_ir_terms::Context;
 use lx_words::Memory;
 use std::alloc::Global;

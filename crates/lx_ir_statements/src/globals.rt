@@ -6,9 +6,9 @@ ghost use Rattle.lx_ir_statements.specs.Statements.{storage_in, storage_at, glob
 
 use crate::defined::Defined;
 use crate::form::Statement;
+use crate::skip_linkage;
 use crate::symbols::new_symbol;
 use lx_ir_constants::init;
-use lx_ir_heads::skip_linkage;
 use lx_ir_operands::{one_align, word_refusal};
 use lx_ir_terms::{Context, FaultKind, ReadError, Reader};
 use lx_ir_tokens::{Keyword, Kind, Mark, StatementWord};

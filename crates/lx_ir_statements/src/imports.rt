@@ -7,7 +7,7 @@ ghost use Rattle.lx_ir_statements.specs.Statements.{import_behind};
 use crate::defined::Defined;
 use crate::form::Statement;
 use crate::symbols::import_name;
-use lx_ir_heads::{import_attributes, import_parameters};
+use crate::{import_attributes, import_parameters};
 use lx_ir_terms::{Context, ReadError, Reader};
 use std::alloc::Global;
 

@@ -3,13 +3,11 @@ use Rattle.std.proofs.Common.{◌≡◌, ℕ, zero, suc, ◌+◌, ◌<◌, ◌�
 use Rattle.std.specs.Prelude.{if◌then◌else◌, nat_eq, nat_lt, is_none, slice_get, slice_set, replicate}
 use Rattle.std.proofs.lemmas.Bool.Decides.{nat_tests}
 use Rattle.std.proofs.lemmas.List.{append-nil, length-append}
+use Rattle.lx_words.proofs.Tests.{eq_self, none_below, some_below}
 use Rattle.lx_ir.specs.declared.module.Symbol.{Symbol}
 use Rattle.lx_ir_tables.specs.Numbering.{Numbering, numbering, has_name, number_from, number_named, numbers_from, is_free, is_new, set_none, noted, clear_same, forgotten, symbols_by, own_numbers}
 
 -- Whether numbers are equal.
-
-eq_self : (n : ℕ) → nat_eq n n ≡ true
-eq_self n = grind (arith, nat_tests)
 
 differ_by : (m n : ℕ) (b : Bool) → nat_eq m n ≡ b → (m ≡ n → ⊥) → nat_eq m n ≡ false
 differ_by m n true e h = let k : m ≡ n = grind (arith, nat_tests, e) in absurd (h k)
@@ -122,12 +120,6 @@ forgotten_is c xs (Some n) = forgot_from 0 c n n xs (omega arith)
 free_first : (o : Option ℕ) → is_free (Some o) ≡ is_none o
 free_first None = refl
 free_first (Some j) = refl
-
-none_below : (i : ℕ) → nat_lt i 0 ≡ false
-none_below i = grind (arith, nat_tests)
-
-some_below : (c : ℕ) → nat_lt 0 (suc c) ≡ true
-some_below c = grind (arith, nat_tests)
 
 below_by_one : (i c : ℕ) (b : Bool) → nat_lt i c ≡ b → nat_lt (suc i) (suc c) ≡ b
 below_by_one i c true e = grind (arith, nat_tests, e)

@@ -21,7 +21,7 @@ pub enum FaultKind {
 }
 
 /// A fault, and how many tokens are left with the one that it is at; none are left where it is at the text's end.
-#[derive(Clone, Copy, Debug, PartialEq, Eq)]
+#[derive(Clone, Copy, Debug)]
 pub struct Fault {
     pub kind: FaultKind,
     pub left: usize,

@@ -1,4 +1,10 @@
-//! Types of IR text: which tokens they are, and how they are read.
+//! Types of IR text, and the reader and the names' context over which all parts of IR text are read: which tokens they are, and how they are read.
+//!
+//! ```text
+//! let mut reader = Reader::new(toks);
+//! // At `{ i32, ptr } zeroinitializer` the struct, and the reader stands behind it; at `,` the fault `Statement`.
+//! let ty = reader.ty(alloc, &context)?;
+//! ```
 #![tactic(auto)]
 
 ghost use Rattle.lx_ir_terms.specs.Laws.{TypesAreRead, TypesAreFound, TypesAreRefused, WrittenAreRead, WrittenAreFound, WrittenAreRefused};

@@ -4,7 +4,7 @@ use crate::checksum::checksum_printed;
 use crate::driver::driver_printed;
 use crate::modules::is_printed;
 use crate::ring::ring_printed;
-use lx_c_texts::{checksum_text, driver_text, ring_text};
+use lx_example_texts::{checksum_text, driver_text, ring_text};
 
 #[test]
 fn what_clang_prints_is_read(rt: HostRuntime) {

@@ -1,7 +1,7 @@
 //! Texts are read, and what verifying the modules that they say finds is compared.
 
 use crate::verified_rows::{ROWS, Row, SAYINGS, Wanted};
-use lx_c_texts::{checksum_text, driver_text, kernel_text, ring_text};
+use lx_example_texts::{checksum_text, driver_text, kernel_text, ring_text};
 use lx_ir::module::Module;
 use lx_ir_lawful::whole_laws;
 use lx_ir_read::{ReadFault, TextForm, read_module};

@@ -1,9 +1,10 @@
 -- The lines that are passed over, found from token to token.
-use Rattle.std.proofs.Common.{◌≡◌, ◌∙◌, ℕ, suc, ◌≤◌, ◌<◌, Bool, true, false, not, cond, List, [], ◌∷◌, ◌++◌, filter, refl, sym, ap, subst, append_assoc, append-nil, length, All, arith}
+use Rattle.std.proofs.Common.{◌≡◌, ◌∙◌, ℕ, ◌≤◌, ◌<◌, Bool, true, false, not, cond, List, [], ◌∷◌, ◌++◌, filter, refl, sym, ap, append_assoc, append-nil, length, All, arith}
 use Rattle.std.specs.Prelude.{◌==◌, if◌then◌else◌}
 use Rattle.std.proofs.lemmas.Bool.Decides.{nat_tests}
 use Rattle.std.proofs.lemmas.List.Elements.{All-filter}
 use Rattle.lx_words.specs.declared.token.Token.{Token}
+use Rattle.lx_words.proofs.Tests.{below_other, same_test}
 use Rattle.lx_ir_tokens.specs.Lines.{is_silent, from_line, kept_tokens, Ascends}
 
 -- whether the line of the first of these tokens is passed over, where `silent` says so of the line of the token before
@@ -29,17 +30,11 @@ AtMost-more : (k line : ℕ) (ts : List Token) (u : Token) → k ≤ line → u.
 AtMost-more k line [] u le last h = (last, tt)
 AtMost-more k line (t ∷ ts) u le last h = (omega (arith, h.0), AtMost-more k line ts u le last h.1)
 
-other : (m n : ℕ) → m < n → (m == n) ≡ false
-other m n lt = grind (arith, nat_tests)
-
-same : (m n : ℕ) → m ≡ n → (m == n) ≡ true
-same m n e = grind (arith, nat_tests)
-
 -- the tokens of earlier lines are passed
 from_later : (k line : ℕ) (before ts : List Token) → AtMost k before → k < line → from_line line (before ++ ts) ≡ from_line line ts
 from_later k line [] ts h lt = refl
 from_later k line (t ∷ before) ts h lt =
-    ap (λ b. if b then t ∷ before ++ ts else from_line line (before ++ ts)) (other t.line line (omega (arith, h.0))) ∙ from_later k line before ts h.1 lt
+    ap (λ b. if b then t ∷ before ++ ts else from_line line (before ++ ts)) (below_other t.line line (omega (arith, h.0))) ∙ from_later k line before ts h.1 lt
 
 -- no token stands before the first line
 from_none : (line k : ℕ) (ts : List Token) → line < k → Ascends k ts → from_line line ts ≡ []
@@ -70,7 +65,7 @@ module _ (text : List ℕ) (all before ts : List Token) (t : Token) (line : ℕ)
       by true e =
           ap (λ b. if b then silent else is_silent text (t ∷ ts)) e ∙ known ∙ ap (λ n. is_silent text (from_line n all)) (met t.line line e)
       by false e =
-          let first : from_line t.line (t ∷ ts) ≡ t ∷ ts = ap (λ b. if b then t ∷ ts else from_line t.line ts) (same t.line t.line refl) in
+          let first : from_line t.line (t ∷ ts) ≡ t ∷ ts = ap (λ b. if b then t ∷ ts else from_line t.line ts) (same_test t.line t.line refl) in
           let there : from_line t.line all ≡ t ∷ ts = ap (from_line t.line) is ∙ from_later line t.line before (t ∷ ts) below (apart t.line line up e) ∙ first in
           ap (λ b. if b then silent else is_silent text (t ∷ ts)) e ∙ ap (is_silent text) (sym there)
 
@@ -106,10 +101,6 @@ advance text silent now line t rest behind done more whole is right added so_far
 pub finish : (text : List ℕ) (silent : Bool) (line : ℕ) (rest done whole : List Token) → length rest ≡ 0 → done ++ kept_from text silent line rest ≡ whole → done ≡ whole
 finish text silent line [] done whole empty so_far = sym (append-nil done) ∙ so_far
 finish text silent line (t ∷ ts) done whole empty so_far = absurd (omega arith)
-
--- what holds of each token holds of those behind the first
-pub behind_first : {X : Type 0} (P : X → Type 0) (x : X) (xs ys : List X) → ys ≡ x ∷ xs → All P ys → All P xs
-behind_first P x xs ys is all = λ k d lt. (subst (λ (zs : List _). All P zs) is all) (suc k) d (omega arith)
 
 -- What holds of all tokens holds of those that are kept.
 pub all_kept : (P : Token → Type 0) (text : List ℕ) (tokens : List Token) → All P tokens → All P (kept_tokens text tokens)

@@ -6,4 +6,3 @@ mod Numbered
 mod OneReading
 mod Ranges
 mod Scanned
-mod Tables

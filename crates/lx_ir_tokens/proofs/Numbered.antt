@@ -1,13 +1,12 @@
 -- Names and their numbers.
-use Rattle.std.proofs.Common.{◌≡◌, ◌∙◌, ℕ, suc, ◌+◌, ◌≤◌, Bool, false, not, cond, nat_lt, Option, Some, None, List, [], ◌∷◌, ◌++◌, map, length, get_or, slice_get, position, bytes_eq, if◌then◌else◌, refl, sym, ap, arith}
-use Rattle.std.specs.List.{position_or_len, prefix_len, list_any}
+use Rattle.std.proofs.Common.{◌≡◌, ◌∙◌, ℕ, suc, ◌+◌, ◌≤◌, Bool, not, cond, nat_lt, Option, Some, None, List, [], ◌∷◌, ◌++◌, map, length, get_or, slice_get, position, bytes_eq, if◌then◌else◌, refl, sym, ap, arith}
+use Rattle.std.specs.List.{position_or_len, prefix_len}
 use Rattle.std.proofs.lemmas.Bool.Decides.{nat_tests}
-use Rattle.std.proofs.lemmas.List.Folds.{list_any_none}
 use Rattle.std.proofs.lemmas.List.Quantifiers.{position-Some}
-use Rattle.std.proofs.lemmas.List.Sums.{fails_before_first}
 use Rattle.std.proofs.lemmas.Option.{slice_get-get_or}
 use Rattle.std.proofs.lemmas.Slice.Eq.{bytes_eq-Decides}
 use Rattle.std.proofs.lemmas.List.{map-append}
+use Rattle.lx_words.proofs.Lists.{absent}
 use Rattle.indexmap.specs.IndexSet.{insert_key}
 use Rattle.lx_ir_tokens.specs.Names.{number_of}
 
@@ -31,22 +30,12 @@ position_mapped p f xs =
 pub past : (i n : ℕ) → within i n ≡ None → n ≤ i
 past i n h = grind (arith, nat_tests)
 
--- what passes at no place is in no list
-pub absent : {A : Type 0} (p : A → Bool) (xs : List A) → position p xs ≡ None → list_any p xs ≡ false
-absent p xs none =
-    list_any_none p xs (λ k d lt. fails_before_first p xs k d (omega (arith, past (position_or_len p xs) (length xs) none)))
-
 -- the name of a number
 pub named : (names : List (List ℕ)) (name : List ℕ) (n : ℕ) → number_of names name ≡ Some n → slice_get names n ≡ Some name
 named names name n at =
     let there = position-Some (bytes_eq name) names n [] at in
     let same : name ≡ get_or names n [] = (bytes_eq-Decides name (get_or names n [])).0 there.1 in
     slice_get-get_or names n [] there.0 ∙ ap Some (sym same)
-
--- the name at the end
-pub last : (names : List (List ℕ)) (name : List ℕ) → slice_get (names ++ name ∷ []) (length names) ≡ Some name
-last [] name = refl
-last (x ∷ xs) name = last xs name
 
 abbrev inserted_if : {V : Type 0} → (V → List ℕ) → List V → V → Bool → List (List ℕ)
 inserted_if bytes keys key found = map bytes (if found then keys else keys ++ key ∷ [])

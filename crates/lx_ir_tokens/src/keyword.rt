@@ -6,14 +6,14 @@ ghost use Rattle.lx_ir_tokens.specs.Keywords.{is_at_parameter, is_before_call, i
 use lx_words::{BinOp, Pred, Width};
 
 /// A word that is the type of a register.
-#[derive(Clone, Copy, Debug, PartialEq, Eq)]
+#[derive(Clone, Copy, PartialEq, Eq)]
 pub enum ScalarWord {
     Int(Width),
     Ptr,
 }
 
 /// A word that says what a statement defines or declares.
-#[derive(Clone, Copy, Debug, PartialEq, Eq)]
+#[derive(Clone, Copy, PartialEq, Eq)]
 pub enum StatementWord {
     /// `type`
     NamedType,
@@ -24,7 +24,7 @@ pub enum StatementWord {
 }
 
 /// A word that says what a conversion does.
-#[derive(Clone, Copy, Debug, PartialEq, Eq)]
+#[derive(Clone, Copy, PartialEq, Eq)]
 pub enum ConversionWord {
     Trunc,
     ZExt,
@@ -34,7 +34,7 @@ pub enum ConversionWord {
 }
 
 /// The first word of an instruction, if `tail` or `notail` is passed over. Some of these begin a constant too.
-#[derive(Clone, Copy, Debug, PartialEq, Eq)]
+#[derive(Clone, Copy, PartialEq, Eq)]
 pub enum InstructionWord {
     Operator(BinOp),
     /// `icmp`
@@ -55,7 +55,7 @@ pub enum InstructionWord {
 }
 
 /// A constant of one word.
-#[derive(Clone, Copy, Debug, PartialEq, Eq)]
+#[derive(Clone, Copy, PartialEq, Eq)]
 pub enum ConstantWord {
     True,
     False,
@@ -67,7 +67,7 @@ pub enum ConstantWord {
 }
 
 /// What a word of IR text may be. A word has one keyword, also where it may stand at places of several kinds.
-#[derive(Clone, Copy, Debug, PartialEq, Eq)]
+#[derive(Clone, Copy, PartialEq, Eq)]
 pub enum Keyword {
     Scalar(ScalarWord),
     /// `void`, a result.

@@ -1,9 +1,15 @@
 //! The tokens of IR text: words with what they may be, names by number, and no line that says nothing.
 //!
-//! `read_tokens` gives them, up to the first byte that begins none: for `%"x" = add i32 %x, 7` the kinds `Local`,
-//! `Mark(Equal)`, the words of an operator and of a scalar type, `Local`, `Mark(Comma)` and a number of value 7, where the
-//! two `Local` have the same name number. `NameTable` has the name of each number, and `Token::bytes` at `places` the
-//! token as it stands.
+//! ```text
+//! // `%"x" = add i32 %x, 7`
+//! let ir = read_tokens(alloc, text)?;
+//! // Local, Mark(Equal), the words of an operator and of a scalar type, Local, Mark(Comma), and a Number of value 7.
+//! ir.toks.as_slice();
+//! // The two Local have one name number, whose name is `x`.
+//! ir.names.name(number);
+//! ```
+//!
+//! They go up to the first byte that begins no token. [`NameTable`] has the name of each number, and `places` tells where each token stands.
 #![tactic(auto)]
 
 mod keyword;

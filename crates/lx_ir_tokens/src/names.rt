@@ -9,9 +9,14 @@ use std::alloc::Global;
 use std::marker::Model;
 
 /// Names, each once, fewer than 2^32. The number of a name is its place.
-#[derive(Drop)]
 pub struct NameTable {
     names: IndexSet<Vec<u8>>,
+}
+
+impl Drop for NameTable {
+    fn drop(self) {
+        let NameTable { names: _ } = self;
+    }
 }
 
 impl Model for NameTable {
@@ -76,7 +81,7 @@ impl NameTable {
     }
 
     /// The number of a name, which is added to the table where it lacks it. Without memory for it the table stays.
-    #[tactic(auto, using(crate::proofs::Numbered::named, crate::proofs::Numbered::last))]
+    #[tactic(auto, using(crate::proofs::Numbered::named, lx_words::proofs::Lists::at_end))]
     pub fn intern(&mut self, alloc: Global, name: &[u8]) -> Result<u32, Memory>
         requires { length self.old + 1 < 2 ^ 32 }
         ensures number { IfOk result (λ n. slice_get self.new n ≡ Some name.now) }

@@ -15,7 +15,6 @@ use std::alloc::Global;
 
 /// The tokens of a text that its grammar speaks of: those before the first byte that begins none, without the lines
 /// that are passed over.
-#[derive(Drop)]
 pub struct IrTokens {
     pub toks: Toks,
     /// Where the tokens stand, one for one.
@@ -26,6 +25,18 @@ pub struct IrTokens {
     pub stop: Option<Stop>,
     /// The line of the last token, also where that is passed over; 1 where there is none.
     pub last_line: u32,
+}
+
+impl Drop for IrTokens {
+    fn drop(self) {
+        let IrTokens {
+            toks: _,
+            places: _,
+            names: _,
+            stop: _,
+            last_line: _,
+        } = self;
+    }
 }
 
 /// The number of the name that a token of these bytes says, which the table has from then on, or 0 where it says none.

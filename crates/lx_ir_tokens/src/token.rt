@@ -4,7 +4,7 @@ use crate::keyword::Keyword;
 use lx_words::Items;
 
 /// A mark of punctuation.
-#[derive(Clone, Copy, Debug, PartialEq, Eq)]
+#[derive(Clone, Copy, PartialEq, Eq)]
 pub enum Mark {
     Equal,
     Comma,
@@ -22,7 +22,7 @@ pub enum Mark {
 }
 
 /// What a token is.
-#[derive(Clone, Copy, Debug, PartialEq, Eq)]
+#[derive(Clone, Copy, PartialEq, Eq)]
 pub enum Kind {
     /// A word, with what it may be; its name is its bytes.
     Word(Keyword),
@@ -42,7 +42,7 @@ pub enum Kind {
 }
 
 /// A token: what it is, and the number of its name in the table of names, which is 0 where it has none.
-#[derive(Clone, Copy, Debug, PartialEq, Eq)]
+#[derive(Clone, Copy)]
 pub struct Tok {
     pub kind: Kind,
     pub name: u32,

@@ -4,37 +4,33 @@ use Rattle.std.specs.Prelude.{bytes_eq, find, is_some, option_map}
 use Rattle.std.specs.List.{list_all, list_any}
 use Rattle.std.proofs.lemmas.List.Folds.{list_any_at}
 use Rattle.std.proofs.lemmas.Slice.Eq.{bytes_eq-Decides}
+use Rattle.std.proofs.lemmas.Bool.{and_from, or_right}
+use Rattle.lx_words.proofs.Tests.{eq_self, true_eq as numbers, false_true, first_of, second_of, same_tests, implied as unless}
+use Rattle.lx_words.proofs.Lists.{bytes_itself}
 use Rattle.lx_ir.specs.declared.instr.Edge.{Edge}
 use Rattle.lx_ir.specs.declared.module.Block.{Block}
 use Rattle.lx_ir.specs.declared.module.Function.{Function}
 use Rattle.lx_ir.specs.declared.module.Value.{Value}
 use Rattle.lx_ir.specs.Lookup.{blocks_of}
 use Rattle.lx_ir.specs.Faults.{block_number, goes_to, has_block, is_predecessor, same_value, edges_fit}
-use Rattle.lx_ir_predecessors.specs.Numbers.{is_number}
-use Rattle.lx_ir_predecessors.specs.Sources.{ArePredecessors}
-use Rattle.lx_ir_predecessors.proofs.Members.{In, false_true, first_of, second_of, both_of, same_tests, any_in, in_any, all_in, in_all}
-use Rattle.lx_ir_predecessors.proofs.FirstBlocks.{present, itself, numbers, number_is, one_name}
+use Rattle.lx_ir.proofs.Equality.{value_is}
+use Rattle.lx_ir_walks.specs.Numbers.{is_number}
+use Rattle.lx_ir_walks.specs.Sources.{ArePredecessors}
+use Rattle.lx_ir_walks.proofs.Members.{In, any_in, in_any, all_in, in_all}
+use Rattle.lx_ir_walks.proofs.FirstBlocks.{present, number_is, one_name}
 use Rattle.lx_ir_verify.specs.Edges.{at_number, is_from, HasFirsts, is_first, edge_at, edge_by, AreBlocksOf}
-use Rattle.lx_ir_verify.proofs.Values.{values, value_itself}
-
-same_name : (x : List ℕ) → bytes_eq x x ≡ true
-same_name x = (bytes_eq-Decides x x).1 refl
 
 -- Blocks of a function.
 
 pub all_blocks : (f : Function) (bs : List Block) → bs ≡ blocks_of f → AreBlocksOf f bs
 all_blocks f bs e label h = ap (list_any (λ (b : Block). bytes_eq b.name label)) (sym e) ∙ h
 
-or_true : (a b : Bool) → b ≡ true → (a || b) ≡ true
-or_true true b e = refl
-or_true false b e = e
-
 pub later_blocks : (f : Function) (b : Block) (bs : List Block) → AreBlocksOf f (b ∷ bs) → AreBlocksOf f bs
-later_blocks f b bs h label e = h label (or_true (bytes_eq b.name label) (list_any (λ (c : Block). bytes_eq c.name label) bs) e)
+later_blocks f b bs h label e = h label (or_right (bytes_eq b.name label) (list_any (λ (c : Block). bytes_eq c.name label) bs) e)
 
 pub block_at : (f : Function) (bs : List Block) (i : ℕ) (b : Block) → AreBlocksOf f bs → i < length bs → b ≡ get_or bs i b → has_block f b.name ≡ true
 block_at f bs i b h lt e =
-    h b.name (list_any_at (λ (c : Block). bytes_eq c.name b.name) bs i b lt (ap (λ (c : Block). bytes_eq c.name b.name) (sym e) ∙ same_name b.name))
+    h b.name (list_any_at (λ (c : Block). bytes_eq c.name b.name) bs i b lt (ap (λ (c : Block). bytes_eq c.name b.name) (sym e) ∙ bytes_itself b.name))
 
 -- The first that passes.
 
@@ -81,10 +77,6 @@ named_block f b label i e = any_in (λ (c : Block). bytes_eq c.name label) (bloc
 
 -- By tables, from the definition.
 
-unless : (a b : Bool) → (not a || b) ≡ true → a ≡ true → b ≡ true
-unless true b e h = e
-unless false b e h = false_true h
-
 when : (a b : Bool) → (a ≡ true → b ≡ true) → (not a || b) ≡ true
 when true b h = h refl
 when false b h = refl
@@ -106,7 +98,7 @@ module _ (f : Function) (name : List ℕ) (edges : List Edge) (before : List ℕ
   by_numbers = list_all (λ (q : ℕ). is_some (at_number firsts q)) before
 
   from_here : (e : Edge) (n : ℕ) → block_number f e.label ≡ Some n → is_from f n e ≡ true
-  from_here e n g = ap (λ o. is_number o n) g ∙ itself n
+  from_here e n g = ap (λ o. is_number o n) g ∙ eq_self n
 
   -- what a first operand is
   first_edge : (e : Edge) (n : ℕ) → In e edges → block_number f e.label ≡ Some n → (d : Edge) × (at_number firsts n ≡ Some d.value) × In d edges × (d.label ≡ e.label)
@@ -131,11 +123,11 @@ module _ (f : Function) (name : List ℕ) (edges : List Edge) (before : List ℕ
       (all_in (λ (y : Edge). list_all (λ (x : Edge). not (bytes_eq x.label y.label) || same_value x.value y.value) edges) edges e c i) d.2)
       ((bytes_eq-Decides d.0.label e.label).1 d.3) in
       ap (edge_at before firsts e.value) n.1
-      ∙ both_of (list_any (nat_eq n.0) before) (is_first (at_number firsts n.0) e.value) (p.told e.label n.0 n.1 ∙ is_there) (ap (λ o. is_first o e.value) d.1 ∙ same)
+      ∙ and_from (list_any (nat_eq n.0) before) (is_first (at_number firsts n.0) e.value) (p.told e.label n.0 n.1 ∙ is_there) (ap (λ o. is_first o e.value) d.1 ∙ same)
 
   number_there : (q : ℕ) → In q before → names_all ≡ true → is_some (at_number firsts q) ≡ true
   number_there q i c =
-      let member : list_any (nat_eq q) before ≡ true = any_in (nat_eq q) before q i (itself q) in
+      let member : list_any (nat_eq q) before ≡ true = any_in (nat_eq q) before q i (eq_self q) in
       let label = p.named q member in
       let b = predecessor_there label.0 (sym (p.told label.0 q label.1) ∙ member) in
       let e = in_any (λ (x : Edge). bytes_eq x.label b.0.name) edges
@@ -161,8 +153,8 @@ module _ (f : Function) (name : List ℕ) (edges : List Edge) (before : List ℕ
 
   named_here : (b : Block) → In b (blocks_of f) → by_numbers ≡ true → goes_to b name ≡ true → list_any (λ (e : Edge). bytes_eq e.label b.name) edges ≡ true
   named_here b i c g =
-      let n = number_of f b.name (named_block f b b.name i (same_name b.name)) in
-      let is_there : is_predecessor f name b.name ≡ true = any_in (λ (x : Block). bytes_eq x.name b.name && goes_to x name) (blocks_of f) b i (both_of (bytes_eq b.name b.name) (goes_to b name) (same_name b.name) g) in
+      let n = number_of f b.name (named_block f b b.name i (bytes_itself b.name)) in
+      let is_there : is_predecessor f name b.name ≡ true = any_in (λ (x : Block). bytes_eq x.name b.name && goes_to x name) (blocks_of f) b i (and_from (bytes_eq b.name b.name) (goes_to b name) (bytes_itself b.name) g) in
       let q = in_any (nat_eq n.0) before (p.told b.name n.0 n.1 ∙ is_there) in
       let some : is_some (at_number firsts n.0) ≡ true = ap (λ k. is_some (at_number firsts k)) (numbers n.0 q.0 q.2) ∙ all_in (λ (k : ℕ). is_some (at_number firsts k)) before q.0 c q.1 in
       let e = in_any (is_from f n.0) edges (passes (is_from f n.0) (λ (x : Edge). x.value) edges (ap is_some (sym (h n.0)) ∙ some)) in
@@ -171,7 +163,7 @@ module _ (f : Function) (name : List ℕ) (edges : List Edge) (before : List ℕ
 
   first_same : (o : Option Value) (u v : Value) → is_first o u ≡ true → is_first o v ≡ true → same_value u v ≡ true
   first_same None u v s t = false_true s
-  first_same (Some w) u v s t = subst (λ x. same_value x v ≡ true) (values w u s) t
+  first_same (Some w) u v s t = subst (λ x. same_value x v ≡ true) (value_is w u s) t
 
   agrees_here : (e d : Edge) → In e edges → In d edges → by_edges ≡ true → bytes_eq d.label e.label ≡ true → same_value d.value e.value ≡ true
   agrees_here e d i j a s =
@@ -187,8 +179,8 @@ module _ (f : Function) (name : List ℕ) (edges : List Edge) (before : List ℕ
       (λ t.
       let a : by_edges ≡ true = first_of by_edges by_numbers t in
       let c : by_numbers ≡ true = second_of by_edges by_numbers t in
-      both_of (from_predecessors && names_all) agree
-      (both_of from_predecessors names_all (in_all (λ (e : Edge). is_predecessor f name e.label) edges (λ e i. comes_here e i a))
+      and_from (from_predecessors && names_all) agree
+      (and_from from_predecessors names_all (in_all (λ (e : Edge). is_predecessor f name e.label) edges (λ e i. comes_here e i a))
       (in_all (λ (b : Block). not (goes_to b name) || list_any (λ (e : Edge). bytes_eq e.label b.name) edges) (blocks_of f) (λ b i. when (goes_to b name) (list_any (λ (e : Edge). bytes_eq e.label b.name) edges) (named_here b i c))))
       (in_all (λ (e : Edge). list_all (λ (d : Edge). not (bytes_eq d.label e.label) || same_value d.value e.value) edges) edges
       (λ e i. in_all (λ (d : Edge). not (bytes_eq d.label e.label) || same_value d.value e.value) edges (λ d j. when (bytes_eq d.label e.label) (same_value d.value e.value) (agrees_here e d i j a)))))
@@ -197,4 +189,4 @@ module _ (f : Function) (name : List ℕ) (edges : List Edge) (before : List ℕ
       let c : agree ≡ true = second_of (from_predecessors && names_all) agree t in
       let a : from_predecessors ≡ true = first_of from_predecessors names_all front in
       let b : names_all ≡ true = second_of from_predecessors names_all front in
-      both_of by_edges by_numbers (in_all (edge_by f before firsts) edges (λ e i. edge_there e i a c)) (in_all (λ (q : ℕ). is_some (at_number firsts q)) before (λ q i. number_there q i b)))
+      and_from by_edges by_numbers (in_all (edge_by f before firsts) edges (λ e i. edge_there e i a c)) (in_all (λ (q : ℕ). is_some (at_number firsts q)) before (λ q i. number_there q i b)))

@@ -7,5 +7,4 @@ pub mod BlockPasses
 pub mod Orders
 pub mod OneFault
 pub mod RowProofs
-pub mod Values
 pub mod FittingEdges

@@ -1,10 +1,10 @@
 -- Lemmas on indices and arguments.
-use Rattle.std.proofs.Common.{◌≡◌, ◌≢◌, ℕ, ◌+◌, ◌*◌, ◌-◌, ◌<◌, ◌≤◌, Bool, true, false, ◌&&◌, Some, None, List, [], ◌∷◌, length, get_or, drop, refl, ap, ◌∙◌, zero, suc, arith, pos, negsuc, nat_le, nat_lt, cond}
+use Rattle.std.proofs.Common.{◌≡◌, ◌≢◌, ℕ, ◌+◌, ◌*◌, ◌-◌, ◌<◌, ◌≤◌, true, false, ◌&&◌, Some, None, List, [], ◌∷◌, length, get_or, drop, refl, ap, ◌∙◌, zero, suc, arith, pos, negsuc, cond}
 use Rattle.std.specs.Prelude.{◌-ℤ◌}
 use Rattle.std.proofs.lemmas.List.{drop_all}
-use Rattle.std.proofs.lemmas.Bool.Decides.{nat_tests}
 use Rattle.lx_words.specs.Word.{Word, signed}
 use Rattle.lx_words.specs.Width.{modulus}
+use Rattle.lx_words.proofs.Tests.{less_true, le_true, and_false}
 use Rattle.lx_ir.specs.declared.types.NamedType.{NamedType}
 use Rattle.lx_ir.specs.declared.instr.Argument.{Argument}
 use Rattle.lx_ir.specs.declared.module.Parameter.{Parameter}
@@ -15,16 +15,10 @@ use Rattle.lx_ir.specs.Lawful.{same_scalar}
 use Rattle.lx_ir.specs.Faults.{number_or_none, inner_type, has_path, goes_on, are_arguments}
 use Rattle.lx_ir_verify.proofs.SameTypes.{rest_at}
 
-below : (a b : ℕ) → a < b → nat_lt a b ≡ true
-below a b h = grind (arith, nat_tests)
-
-not_above : (a b : ℕ) → a ≤ b → nat_le a b ≡ true
-not_above a b h = grind (arith, nat_tests)
-
 -- a number less a greater one is negative
 less_none : (b m : ℕ) → b < m → number_or_none (pos b -ℤ pos m) ≡ None
 less_none b zero h = absurd (omega arith)
-less_none b (suc n) h = ap (λ t. number_or_none (cond t (negsuc (suc n - suc b)) (pos (b - suc n)))) (below b (suc n) h)
+less_none b (suc n) h = ap (λ t. number_or_none (cond t (negsuc (suc n - suc b)) (pos (b - suc n)))) (less_true b (suc n) h)
 
 pub list_back : (ts : List IrType) → list_of_types (types_of_list ts) ≡ ts
 list_back [] = refl
@@ -51,10 +45,6 @@ arguments_end xs ps i h g =
     let b = drop_all i ps g in
     λ k. are_arguments (a k) (b k)
 
-and_false : (b : Bool) → (b && false) ≡ false
-and_false true = refl
-and_false false = refl
-
 pub arguments_length : (xs : List Argument) (ps : List Parameter) → length xs ≢ length ps → are_arguments xs ps ≡ false
 arguments_length [] [] h = absurd (h refl)
 arguments_length [] (p ∷ ps) h = refl
@@ -63,4 +53,4 @@ arguments_length (x ∷ xs) (p ∷ ps) h = ap (λ b. same_scalar x.ty p.ty && b)
 
 pub negative_none : (w : Word) → w.bits < modulus w.width → modulus w.width ≤ 2 * w.bits → number_or_none (signed w) ≡ None
 negative_none w h g =
-    ap (λ t. number_or_none (cond t (pos w.bits -ℤ pos (modulus w.width)) (pos w.bits))) (not_above _ _ g) ∙ less_none w.bits (modulus w.width) h
+    ap (λ t. number_or_none (cond t (pos w.bits -ℤ pos (modulus w.width)) (pos w.bits))) (le_true _ _ g) ∙ less_none w.bits (modulus w.width) h

@@ -1,11 +1,13 @@
 -- Lemmas on passes: a first answer in a list, and what a pass answers.
-use Rattle.std.proofs.Common.{◌≡◌, ℕ, ◌+◌, ◌<◌, ◌≤◌, Bool, ◌||◌, Option, Some, None, List, [], ◌∷◌, ◌++◌, length, get_or, drop, map, refl, ap, ◌∙◌}
+use Rattle.std.proofs.Common.{◌≡◌, ℕ, ◌+◌, ◌<◌, ◌≤◌, Bool, ◌||◌, Option, None, List, [], ◌∷◌, ◌++◌, length, get_or, drop, map, refl, ap, ◌∙◌}
 use Rattle.std.specs.Prelude.{flat_map}
 use Rattle.std.specs.Option.{option_or}
 use Rattle.std.specs.Prelude.{filter_map, option_to_list}
-use Rattle.std.specs.List.{cons_option, list_any}
+use Rattle.std.specs.List.{list_any}
 use Rattle.std.proofs.lemmas.List.{drop_all}
 use Rattle.std.proofs.lemmas.List.Elements.{filter_map-append}
+use Rattle.lx_words.proofs.Options.{or_some, option_or_assoc}
+use Rattle.lx_words.proofs.Lists.{cons_list}
 use Rattle.lx_ir.specs.Faults.{Fault, first_some}
 use Rattle.lx_ir_verify.specs.declared.fault.VerifyFault.{VerifyFault}
 use Rattle.lx_ir_verify.specs.declared.fault.VerifyFault.TheVariants.{TypeDiffers, NoSuchLabel, NotAssigned, PhiEdges, NoTerminator, Memory}
@@ -18,9 +20,6 @@ first_step f xs i x h e = ap (first_some f) (rest_at xs i x h e)
 pub first_end : {A B : Type 0} (f : A → Option B) (xs : List A) (i : ℕ) → length xs ≤ i → first_some f (drop i xs) ≡ None
 first_end f xs i h = ap (first_some f) (drop_all i xs h)
 
-or_some : {B : Type 0} (x rest y : Option B) (b : B) → y ≡ option_or x rest → x ≡ Some b → y ≡ Some b
-or_some x rest y b e h = e ∙ ap (λ z. option_or z rest) h
-
 -- a fault that comes first is the answer
 pub first_answer : (x rest y : Option Fault) (e : VerifyFault) → y ≡ option_or x rest → IsAnswer x e → IsAnswer y e
 first_answer x rest y (TypeDiffers line what) p h = or_some x rest y _ p h
@@ -29,10 +28,6 @@ first_answer x rest y (NotAssigned line what) p h = or_some x rest y _ p h
 first_answer x rest y (PhiEdges line what) p h = or_some x rest y _ p h
 first_answer x rest y (NoTerminator line what) p h = or_some x rest y _ p h
 first_answer x rest y Memory p h = tt
-
-cons_list : {X : Type 0} (o : Option X) (xs : List X) → cons_option o xs ≡ option_to_list o ++ xs
-cons_list None xs = refl
-cons_list (Some x) xs = refl
 
 -- a list that is filtered as a loop goes over it
 pub filter_step : {A B : Type 0} (f : A → Option B) (xs : List A) (i : ℕ) (x : A) → i < length xs → x ≡ get_or xs i x → filter_map f (drop i xs) ≡ option_to_list (f x) ++ filter_map f (drop (i + 1) xs)
@@ -47,13 +42,9 @@ filter_flat_step f g xs i x h e = ap (λ ys. filter_map f (flat_map g ys)) (rest
 pub filter_flat_end : {A B C : Type 0} (f : B → Option C) (g : A → List B) (xs : List A) (i : ℕ) → length xs ≤ i → filter_map f (flat_map g (drop i xs)) ≡ []
 filter_flat_end f g xs i h = ap (λ ys. filter_map f (flat_map g ys)) (drop_all i xs h)
 
-or_assoc : {B : Type 0} (x y z : Option B) → option_or x (option_or y z) ≡ option_or (option_or x y) z
-or_assoc None y z = refl
-or_assoc (Some b) y z = refl
-
 first_append : {A B : Type 0} (f : A → Option B) (xs ys : List A) → first_some f (xs ++ ys) ≡ option_or (first_some f xs) (first_some f ys)
 first_append f [] ys = refl
-first_append f (x ∷ xs) ys = ap (option_or (f x)) (first_append f xs ys) ∙ or_assoc (f x) (first_some f xs) (first_some f ys)
+first_append f (x ∷ xs) ys = ap (option_or (f x)) (first_append f xs ys) ∙ option_or_assoc (f x) (first_some f xs) (first_some f ys)
 
 pub first_flat_step : {A B C : Type 0} (f : B → Option C) (g : A → List B) (xs : List A) (i : ℕ) (x : A) → i < length xs → x ≡ get_or xs i x → first_some f (flat_map g (drop i xs)) ≡ option_or (first_some f (g x)) (first_some f (flat_map g (drop (i + 1) xs)))
 first_flat_step f g xs i x h e = ap (λ ys. first_some f (flat_map g ys)) (rest_at xs i x h e) ∙ first_append f (g x) (flat_map g (drop (i + 1) xs))

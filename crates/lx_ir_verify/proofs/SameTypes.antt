@@ -1,7 +1,8 @@
 -- Lemmas on types and initialisers in lists.
-use Rattle.std.proofs.Common.{◌≡◌, ◌≢◌, ℕ, ◌+◌, ◌<◌, ◌≤◌, min, Bool, true, false, ◌&&◌, List, [], ◌∷◌, length, get_or, drop, refl, ap, sym, ◌∙◌, zero, suc, nat_eq, arith}
+use Rattle.std.proofs.Common.{◌≡◌, ◌≢◌, ℕ, ◌+◌, ◌<◌, ◌≤◌, min, true, false, ◌&&◌, List, [], ◌∷◌, length, get_or, drop, refl, ap, sym, ◌∙◌, zero, suc, nat_eq, arith}
 use Rattle.std.proofs.lemmas.List.{drop_more, drop_all, length-drop}
 use Rattle.lx_words.specs.declared.word.Width.TheVariants.{W1, W8, W16, W32, W64}
+use Rattle.lx_words.proofs.Tests.{and_false}
 use Rattle.lx_ir.specs.declared.types.Scalar.TheVariants.{Int, Ptr}
 use Rattle.lx_ir.specs.declared.types.NamedType.{NamedType}
 use Rattle.lx_ir.specs.IrType.{IrType, One, Array, Struct, Packed, Named, depth, depths}
@@ -25,10 +26,6 @@ same_end xs ys i h g =
     let a = drop_all i xs h in
     let b = drop_all i ys g in
     λ k. same_types (types_of_list (a k)) (types_of_list (b k))
-
-and_false : (b : Bool) → (b && false) ≡ false
-and_false true = refl
-and_false false = refl
 
 pub other_length : (xs ys : List IrType) → length xs ≢ length ys → same_types (types_of_list xs) (types_of_list ys) ≡ false
 other_length [] [] h = absurd (h refl)

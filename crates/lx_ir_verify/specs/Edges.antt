@@ -7,7 +7,7 @@ use Rattle.lx_ir.specs.declared.module.Block.{Block}
 use Rattle.lx_ir.specs.declared.module.Function.{Function}
 use Rattle.lx_ir.specs.declared.module.Value.{Value}
 use Rattle.lx_ir.specs.Faults.{block_number, has_block, same_value}
-use Rattle.lx_ir_predecessors.specs.Numbers.{is_number}
+use Rattle.lx_ir_walks.specs.Numbers.{is_number}
 
 -- what a map has at a number
 abbrev pub at_number : List (ℕ × Value) → ℕ → Option Value

@@ -8,8 +8,7 @@ use crate::fault::VerifyFault;
 use crate::operands::is_terminator;
 use lx_ir::instr::{Edge, Instr, Op, SwitchCase};
 use lx_ir::module::{Block, Function};
-use lx_ir_predecessors::Blocks;
-use lx_ir_walks::last_of;
+use lx_ir_walks::{Blocks, last_of};
 use lx_words::Name;
 use std::alloc::Global;
 

@@ -1,4 +1,10 @@
-//! The verifier: finds the first fault of a module, and keeps in a type that a module has none.
+//! The verifier of modules: finds the first fault of a module, of five kinds, and keeps in a type that a module has none.
+//!
+//! ```text
+//! // A function that returns `%x`, which nothing assigns, fails with `VerifyFault::NotAssigned`, its line and `%x`.
+//! let verified = verify(alloc, module)?;
+//! verified.module();
+//! ```
 #![tactic(auto)]
 
 mod fault;

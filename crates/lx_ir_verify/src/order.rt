@@ -9,8 +9,8 @@ use crate::registers::check_registers;
 use crate::types::check_globals;
 use crate::typing::check_types;
 use lx_ir::module::{Function, Module};
-use lx_ir_predecessors::Blocks;
 use lx_ir_uses::blocks_of;
+use lx_ir_walks::Blocks;
 use std::alloc::Global;
 
 /// The first four passes over a function.

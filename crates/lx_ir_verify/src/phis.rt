@@ -3,7 +3,7 @@ ghost use Rattle.std.specs.Prelude.{◌≡◌, ℕ, ◌&&◌, true, Some, cond, 
 ghost use Rattle.std.specs.List.{list_all, list_any};
 ghost use Rattle.lx_ir.specs.Lookup.{blocks_of};
 ghost use Rattle.lx_ir.specs.Faults.{has_block, same_symbol, same_blank, same_pointer, same_constant, same_value, edges_fit, phi_fault, phi_faults, block_phi_faults, first_some};
-ghost use Rattle.lx_ir_predecessors.specs.Sources.{ArePredecessors};
+ghost use Rattle.lx_ir_walks.specs.Sources.{ArePredecessors};
 ghost use Rattle.lx_ir_verify.specs.Shown.{Gives};
 ghost use Rattle.lx_ir_verify.specs.Edges.{at_number, is_from, HasFirsts, is_first, edge_by, AreBlocksOf};
 
@@ -12,8 +12,8 @@ use crate::operands::{is_phi, register_name};
 use indexmap::{IndexMap, IndexSet};
 use lx_ir::instr::{Edge, Instr, Op};
 use lx_ir::module::{Blank, Block, Constant, Pointer, Symbol, Value};
-use lx_ir_predecessors::Blocks;
 use lx_ir_uses::blocks_of;
+use lx_ir_walks::Blocks;
 use lx_words::{Memory, Width, Word};
 use std::alloc::Global;
 

@@ -11,9 +11,14 @@ use std::alloc::Global;
 use std::marker::Model;
 
 /// A lawful module without a fault. Contracts see the module.
-#[derive(Drop)]
 pub struct Verified {
     module: Module,
+}
+
+impl Drop for Verified {
+    fn drop(self) {
+        let Verified { module: _ } = self;
+    }
 }
 
 impl Model for Verified {
@@ -55,7 +60,8 @@ impl Verified {
         ensures whole { result ≡ self }
         ensures verified { IsVerified result }
     {
-        self.module
+        let Verified { module } = self;
+        module
     }
 }
 

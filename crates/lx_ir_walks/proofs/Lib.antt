@@ -1,6 +1,12 @@
+pub mod Additions
+pub mod FirstBlocks
 pub mod FirstRead
 pub mod GivenBefore
+pub mod LoopRests
 pub mod Marking
 pub mod Marks
+pub mod Members
+pub mod Passing
+pub mod Predecessors
 pub mod ReadLists
-pub mod Rests
+pub mod Ways

@@ -2,11 +2,11 @@
 use Rattle.std.proofs.Common.{◌≡◌, ℕ, ◌+◌, ◌<◌, ◌≤◌, List, [], ◌++◌, length, get_or, drop, ap, sym, ◌∙◌, add-one}
 use Rattle.std.specs.Prelude.{flat_map}
 use Rattle.std.proofs.lemmas.List.{append_assoc, drop_all, append-nil}
+use Rattle.lx_words.proofs.Lists.{rest_at}
 use Rattle.lx_ir.specs.declared.module.Function.{Function}
 use Rattle.lx_ir.specs.declared.module.Block.{Block}
 use Rattle.lx_ir.specs.declared.instr.Instr.{Instr}
 use Rattle.lx_ir.specs.Faults.{reads_of_op, reads_from, reads_of_blocks}
-use Rattle.lx_ir_walks.proofs.Rests.{rest_at}
 
 -- a piece more is appended
 pub appended : {X : Type 0} (all old new piece rest left : List X) → all ≡ old ++ left → left ≡ piece ++ rest → new ≡ old ++ piece → all ≡ new ++ rest

@@ -2,8 +2,8 @@
 ghost use Rattle.std.specs.Prelude.{◌≡◌, None, Some, IfOk, replicate, slice_index_or, slice_set};
 ghost use Rattle.lx_ir_walks.specs.Givers.{AreGivers, noted};
 
+use crate::instrs_at;
 use lx_ir::module::Function;
-use lx_ir_dominators::instrs_at;
 use lx_ir_uses::{blocks_of, given_by};
 use lx_words::Memory;
 use std::alloc::Global;

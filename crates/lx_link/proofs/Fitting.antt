@@ -1,10 +1,10 @@
 -- What is linked without a fault.
-use Rattle.std.proofs.Common.{◌≡◌, ℕ, zero, suc, Bool, true, false, ◌&&◌, Option, Some, None, List, [], ◌∷◌, length, get_or, map, nat_eq, refl, ap, sym, subst, ◌∙◌, arith, ℤ}
+use Rattle.std.proofs.Common.{◌≡◌, ℕ, zero, suc, Bool, true, false, Option, Some, None, List, [], ◌∷◌, length, get_or, map, nat_eq, refl, ap, sym, subst, ◌∙◌, arith, ℤ, eqb-true}
 use Rattle.std.specs.Prelude.{All, slice_get, position, option_and_then, unwrap_or, if◌then◌else◌}
 use Rattle.std.specs.Option.{option_or}
-use Rattle.std.proofs.lemmas.Bool.Decides.{nat_tests}
 use Rattle.std.proofs.lemmas.Option.{slice_get-get_or}
 use Rattle.std.proofs.lemmas.List.Quantifiers.{position-Some}
+use Rattle.std.proofs.lemmas.Bool.{and_from}
 use Rattle.lx_words.specs.declared.word.Width.{Width}
 use Rattle.lx_words.specs.declared.word.Width.TheVariants.{W1, W8, W16, W32, W64}
 use Rattle.lx_words.specs.Width.{bit_count}
@@ -20,34 +20,18 @@ use Rattle.lx_model.specs.Program.{Home, same_home, module_of, is_entry, number_
 use Rattle.lx_model.specs.Fits.{FitsFunction, widths}
 use Rattle.lx_script.specs.declared.case.CaseArg.{CaseArg}
 use Rattle.lx_script.specs.declared.case.CaseCall.{CaseCall}
-use Rattle.lx_link_texts.specs.Faults.{Fault, fault_unless, defines, text_fault, limit_fault}
+use Rattle.lx_link_texts.specs.Faults.{Fault, defines, text_fault, limit_fault}
 use Rattle.lx_link_texts.specs.Placing.{program_of}
 use Rattle.lx_link_texts.specs.WellFormed.{FitsCall, FitsCalls}
 use Rattle.lx_link_texts.specs.Laws.{AreWellFormed}
 use Rattle.lx_link.specs.Calls.{is_in_range, value_or_zero, argument_value, argument_word, argument_words, all_fit, are_in_range, params_of, parameters, function_named, target, argument_fault, call_fault, call_fault_by, thread_fault, script_fault, call_to, resolved, calls_of}
 use Rattle.lx_link.specs.Laws.{AreWellLinked, CallsFit}
+use Rattle.lx_model.proofs.Tests.{first_true, second_true}
+use Rattle.lx_model.proofs.Items.{first_none, rest_none}
+use Rattle.lx_model.proofs.Homes.{same_home_is}
+use Rattle.lx_link_texts.proofs.Sound.{passes}
 
 -- Rows of passes.
-
-first_none : {B : Type 0} (x y : Option B) → option_or x y ≡ None → x ≡ None
-first_none None y h = refl
-first_none (Some b) y h = absurd (cc)
-
-rest_none : {B : Type 0} (x y : Option B) → option_or x y ≡ None → y ≡ None
-rest_none None y h = h
-rest_none (Some b) y h = absurd (cc)
-
-passes : (b : Bool) (x : Fault) → fault_unless b x ≡ None → b ≡ true
-passes true x h = refl
-passes false x h = absurd (cc)
-
-front : (a b : Bool) → (a && b) ≡ true → a ≡ true
-front true b h = refl
-front false b h = absurd (cc)
-
-back : (a b : Bool) → (a && b) ≡ true → b ≡ true
-back true b h = h
-back false b h = absurd (cc)
 
 all_mapped : {A B : Type 0} (f : A → Option Fault) (P : B → Type 0) (r : A → B) (xs : List A) → ((x : A) → f x ≡ None → P (r x)) → first_some f xs ≡ None → All P (map r xs)
 all_mapped f P r [] g h k d less = absurd (omega (arith, less))
@@ -55,15 +39,6 @@ all_mapped f P r (x ∷ xs) g h zero d less = g x (first_none (f x) (first_some 
 all_mapped f P r (x ∷ xs) g h (suc k) d less = all_mapped f P r xs g (rest_none (f x) (first_some f xs) h) k d (omega (arith, less))
 
 -- What a name names.
-
-same_number : (a b : ℕ) → nat_eq a b ≡ true → a ≡ b
-same_number a b e = grind (arith, nat_tests, e)
-
-same_text : (a b : Home) → same_home a b ≡ true → a ≡ b
-same_text None None e = refl
-same_text None (Some n) e = absurd (cc)
-same_text (Some m) None e = absurd (cc)
-same_text (Some m) (Some n) e = ap Some (same_number m n e)
 
 found_at : {X : Type 0} (p : X → Bool) (xs : List X) (n : ℕ) → position p xs ≡ Some n → (x : X) × (slice_get xs n ≡ Some x) × (p x ≡ true)
 found_at p [] n h = absurd (cc)
@@ -74,8 +49,8 @@ found_at p (x ∷ xs) n h =
 entry_function : (p : Program) (home : Home) (f : ℕ) (e : ProgramFunction) (g : Function) → is_entry home f e ≡ true → slice_get (module_of p home).functions f ≡ Some g → function_of_entry p (Some e) ≡ Some g
 entry_function p home f (Native k) g is h = absurd (cc)
 entry_function p home f (Of other k) g is h =
-    let a = same_text home other (front (same_home home other) (nat_eq f k) is) in
-    let b = same_number f k (back (same_home home other) (nat_eq f k) is) in
+    let a = same_home_is home other (first_true (same_home home other) (nat_eq f k) is) in
+    let b = eqb-true f k (second_true (same_home home other) (nat_eq f k) is) in
     subst (λ x. slice_get (module_of p x).functions k ≡ Some g) a (subst (λ y. slice_get (module_of p home).functions y ≡ Some g) b h)
 
 named_by : (p : Program) (home : Home) (name : List ℕ) (o : Option ℕ) (n : ℕ) → position (defines name) (module_of p home).functions ≡ o → option_and_then (number_of p home) o ≡ Some n → (g : Function) × (function_of p n ≡ Some g)
@@ -104,16 +79,12 @@ width_by false w z = refl
 word_width : (p : Program) (x : Parameter) (a : CaseArg) → (argument_word p x a).width ≡ width_of x.ty
 word_width p x a = width_by (is_in_range (width_of x.ty) (value_or_zero (argument_value p a))) (width_of x.ty) (value_or_zero (argument_value p a))
 
-both : (a b : Bool) → a ≡ true → b ≡ true → (a && b) ≡ true
-both true b p q = q
-both false b p q = absurd (cc)
-
 words_fit : (p : Program) (xs : List Parameter) (args : List CaseArg) → length xs ≡ length args → same_widths (widths (argument_words p xs args)) (map (λ x. width_of x.ty) xs) ≡ true
 words_fit p [] [] e = refl
 words_fit p [] (a ∷ args) e = absurd (omega (arith, e))
 words_fit p (x ∷ xs) [] e = absurd (omega (arith, e))
 words_fit p (x ∷ xs) (a ∷ args) e =
-    both _ _
+    and_from _ _
     (subst (λ w. nat_eq (bit_count w) (bit_count (width_of x.ty)) ≡ true) (sym (word_width p x a)) (same_bits (width_of x.ty)))
     (words_fit p xs args (omega (arith, e)))
 
@@ -122,7 +93,7 @@ words_fit p (x ∷ xs) (a ∷ args) e =
 fits_by : (p : Program) (c : CaseCall) (n : ℕ) (g : Function) → function_of p n ≡ Some g → all_fit p (parameters p n) c.args ≡ true → FitsFunction p n (argument_words p (parameters p n) c.args)
 fits_by p c n g h all =
     let params : parameters p n ≡ g.params = ap params_of h in
-    let many : length (parameters p n) ≡ length c.args = same_number _ _ (front (nat_eq (length (parameters p n)) (length c.args)) (are_in_range p (parameters p n) c.args) all) in
+    let many : length (parameters p n) ≡ length c.args = eqb-true _ _ (first_true (nat_eq (length (parameters p n)) (length c.args)) (are_in_range p (parameters p n) c.args) all) in
     (g, h, subst (λ xs. same_widths (widths (argument_words p (parameters p n) c.args)) (map (λ x. width_of x.ty) xs) ≡ true) params (words_fit p (parameters p n) c.args many))
 
 call_by : (p : Program) (c : CaseCall) (t : Option ℕ) → target p c ≡ t → call_fault_by p c t ≡ None → FitsCall p (call_to p c (unwrap_or t 0))

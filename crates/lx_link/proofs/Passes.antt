@@ -1,8 +1,8 @@
 -- Lemmas on passes: a first fault in a list, and what a pass answers.
-use Rattle.std.proofs.Common.{◌≡◌, ◌⊎◌, ℕ, ◌+◌, ◌<◌, ◌≤◌, Bool, Option, Some, None, List, ◌∷◌, length, get_or, drop, nat_le, true, false, refl, ap, sym, inl, inr, ◌∙◌, arith}
+use Rattle.std.proofs.Common.{◌≡◌, ◌⊎◌, ℕ, ◌+◌, ◌<◌, ◌≤◌, Option, Some, None, List, length, get_or, drop, nat_le, true, refl, ap, sym, inl, inr, ◌∙◌, arith}
 use Rattle.std.proofs.lemmas.Bool.Decides.{nat_tests}
 use Rattle.std.specs.Option.{option_or}
-use Rattle.std.proofs.lemmas.List.{drop_more, drop_all}
+use Rattle.std.proofs.lemmas.List.{drop_all}
 use Rattle.lx_ir.specs.Faults.{first_some}
 use Rattle.lx_script.specs.Case.{Case}
 use Rattle.lx_model.specs.declared.program.Program.{Program}
@@ -13,24 +13,14 @@ use Rattle.lx_link.specs.declared.fault.LinkFault.{LinkFault}
 use Rattle.lx_link.specs.declared.fault.LinkFault.TheVariants.{Memory}
 use Rattle.lx_link.specs.Answers.{IsFault, IsFaultOr, IsWanted, answered, link_fault, source_fault}
 use Rattle.lx_link.specs.Calls.{script_fault}
-
--- what is left of a list begins with the element at the place
-pub rest_at : {X : Type 0} (xs : List X) (i : ℕ) (x : X) → i < length xs → x ≡ get_or xs i x → drop i xs ≡ x ∷ drop (i + 1) xs
-rest_at xs i x h e = drop_more xs i x h ∙ ap (λ y. y ∷ drop (i + 1) xs) (sym e)
+use Rattle.lx_model.proofs.Items.{rest_at}
+use Rattle.lx_link_texts.proofs.Sound.{passes}
 
 pub first_step : {A B : Type 0} (f : A → Option B) (xs : List A) (i : ℕ) (x : A) → i < length xs → x ≡ get_or xs i x → first_some f (drop i xs) ≡ option_or (f x) (first_some f (drop (i + 1) xs))
 first_step f xs i x h e = ap (first_some f) (rest_at xs i x h e)
 
 pub first_end : {A B : Type 0} (f : A → Option B) (xs : List A) (i : ℕ) → length xs ≤ i → first_some f (drop i xs) ≡ None
 first_end f xs i h = ap (first_some f) (drop_all i xs h)
-
--- a fault that comes first is the answer
-pub first_answer : (x rest y : Option Fault) (e : Fault) → y ≡ option_or x rest → x ≡ Some e → y ≡ Some e
-first_answer x rest y e p h = p ∙ ap (λ z. option_or z rest) h
-
--- without a fault a pass goes on
-pub passed : (x rest y : Option Fault) → y ≡ option_or x rest → x ≡ None → y ≡ rest
-passed x rest y e h = e ∙ ap (λ z. option_or z rest) h
 
 -- What is answered.
 
@@ -69,12 +59,8 @@ row_front : (a b : Option Fault) → option_or a b ≡ None → a ≡ None
 row_front None b h = refl
 row_front (Some x) b h = absurd (cc)
 
-test : (b : Bool) (x : Fault) → fault_unless b x ≡ None → b ≡ true
-test true x h = refl
-test false x h = absurd (cc)
-
 within : (n m : ℕ) (x : Fault) → fault_unless (nat_le n m) x ≡ None → n ≤ m
-within n m x h = let t : nat_le n m ≡ true = test (nat_le n m) x h in grind (arith, nat_tests, t)
+within n m x h = let t : nat_le n m ≡ true = passes (nat_le n m) x h in grind (arith, nat_tests, t)
 
 -- texts and limits without a fault
 

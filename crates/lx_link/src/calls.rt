@@ -61,7 +61,7 @@ fn check_argument<'a>(
 }
 
 /// Finds the first argument whose name names nothing.
-#[tactic(auto, using(crate::proofs::Passes::first_step, crate::proofs::Passes::first_end, crate::proofs::Passes::first_answer))]
+#[tactic(auto, using(crate::proofs::Passes::first_step, crate::proofs::Passes::first_end, lx_link_texts::proofs::Passes::first_answer))]
 fn check_arguments<'a>(
     names: &ProgramNames<'_>,
     line: u32,
@@ -88,7 +88,7 @@ fn of_target(kind: FaultKind, call: &CaseCall) -> Found<'_>
 }
 
 /// Looks at the arguments of a call of the function with this number.
-#[tactic(auto, using(crate::proofs::Passes::first_answer, crate::proofs::Passes::passed))]
+#[tactic(auto, using(lx_link_texts::proofs::Passes::first_answer, lx_link_texts::proofs::Passes::passed))]
 fn check_known<'a>(
     names: &ProgramNames<'_>,
     call: &'a CaseCall,
@@ -113,7 +113,7 @@ fn check_call<'a>(names: &ProgramNames<'_>, call: &'a CaseCall) -> Result<(), Fo
     }
 }
 
-#[tactic(auto, using(crate::proofs::Passes::first_step, crate::proofs::Passes::first_end, crate::proofs::Passes::first_answer))]
+#[tactic(auto, using(crate::proofs::Passes::first_step, crate::proofs::Passes::first_end, lx_link_texts::proofs::Passes::first_answer))]
 fn check_thread<'a>(names: &ProgramNames<'_>, calls: &'a CaseThread) -> Result<(), Found<'a>>
     ensures { Gives (thread_fault names.now calls.now) result }
 {
@@ -124,7 +124,7 @@ fn check_thread<'a>(names: &ProgramNames<'_>, calls: &'a CaseThread) -> Result<(
 }
 
 /// Finds the first call of a script whose target or an argument's name is missing, or whose arguments do not fit.
-#[tactic(auto, using(crate::proofs::Passes::first_step, crate::proofs::Passes::first_end, crate::proofs::Passes::first_answer))]
+#[tactic(auto, using(crate::proofs::Passes::first_step, crate::proofs::Passes::first_end, lx_link_texts::proofs::Passes::first_answer))]
 pub fn check_script<'a>(
     names: &ProgramNames<'_>,
     threads: &'a [CaseThread],

@@ -1,4 +1,10 @@
-//! Linking: the program of a kernel, an interface and modules, and the calls of a script by numbers and words.
+//! Linking: the program of a kernel, an interface and modules, and the calls of a script by numbers and words; or the first fault between them.
+//!
+//! ```text
+//! // Where a module imports what the interface does not export, the fault has the module's file, the line and the import's name.
+//! let linked = link(alloc, texts, &annotated, &case)?;
+//! let (program, calls) = linked.into_parts();
+//! ```
 #![tactic(auto)]
 
 ghost use Rattle.lx_link.specs.Laws.{AreWellLinked, CallsFit};

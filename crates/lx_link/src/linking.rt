@@ -35,7 +35,7 @@ fn stopped<M: Means>(means: &M, case: &Case, found: &Found<'_>) -> LinkFault
 }
 
 /// Finds the first fault of the texts and of the limits, without memory.
-#[tactic(auto, using(crate::proofs::Passes::first_answer, crate::proofs::Passes::passed))]
+#[tactic(auto, using(lx_link_texts::proofs::Passes::first_answer, lx_link_texts::proofs::Passes::passed))]
 fn check<'a>(sources: &'a Sources, annotated: &[Annotated]) -> Result<(), Found<'a>>
     requires limits { HasLimits sources.now }
     requires annotated { annotated.now ≡ all_annotated sources.now }

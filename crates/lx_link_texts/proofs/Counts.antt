@@ -10,7 +10,7 @@ use Rattle.lx_model.specs.declared.program.ProgramFunction.TheVariants.{Of}
 use Rattle.lx_model.specs.Program.{Home}
 use Rattle.lx_link_texts.specs.declared.sources.Sources.{Sources}
 use Rattle.lx_link_texts.specs.Placing.{entries_from, entry_if, functions_of, module_entries, natives}
-use Rattle.lx_link_texts.proofs.Pairs.{rest_at}
+use Rattle.lx_caps.proofs.Items.{rest_at}
 
 abbrev count_if : Bool → ℕ
 count_if b = if b then 1 else 0

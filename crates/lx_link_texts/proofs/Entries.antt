@@ -8,7 +8,7 @@ use Rattle.lx_model.specs.declared.program.ProgramFunction.{ProgramFunction}
 use Rattle.lx_model.specs.declared.program.ProgramFunction.TheVariants.{Of}
 use Rattle.lx_model.specs.Program.{Home}
 use Rattle.lx_link_texts.specs.Placing.{entries_from, entry_if, module_entries}
-use Rattle.lx_link_texts.proofs.Pairs.{rest_at}
+use Rattle.lx_caps.proofs.Items.{rest_at}
 
 -- a list that a piece is put behind, which the rest goes on with
 pub goes_on : {X : Type 0} (old new piece rest next all : List X) → old ++ rest ≡ all → rest ≡ piece ++ next → new ≡ old ++ piece → new ++ next ≡ all

@@ -1,4 +1,3 @@
-pub mod Pairs
 pub mod Natives
 pub mod Passes
 pub mod Entries

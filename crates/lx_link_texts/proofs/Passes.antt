@@ -1,15 +1,15 @@
 -- Lemmas on passes: a first fault in a list, and what a pass answers.
-use Rattle.std.proofs.Common.{◌≡◌, ℕ, zero, suc, ◌+◌, ◌<◌, ◌≤◌, Bool, ◌||◌, Option, Some, None, List, [], ◌∷◌, ◌++◌, length, get_or, drop, map, refl, sym, ap, ◌∙◌, arith, nat_le, true, false}
+use Rattle.std.proofs.Common.{◌≡◌, ℕ, zero, suc, ◌+◌, ◌<◌, ◌≤◌, Bool, ◌||◌, Option, Some, None, List, [], ◌∷◌, length, get_or, drop, map, refl, sym, ap, ◌∙◌, arith, nat_le, le-leb}
 use Rattle.std.specs.Prelude.{flat_map}
 use Rattle.std.specs.List.{list_any}
 use Rattle.std.specs.Option.{option_or}
-use Rattle.std.proofs.lemmas.Bool.Decides.{nat_tests}
 use Rattle.std.proofs.lemmas.List.{drop_all, length-map}
+use Rattle.std.proofs.lemmas.Bool.{lt-leb}
 use Rattle.lx_ir.specs.declared.module.Module.{Module}
 use Rattle.lx_ir.specs.Faults.{first_some}
 use Rattle.lx_model.specs.declared.program.ProgramModule.{ProgramModule}
 use Rattle.lx_link_texts.specs.Faults.{Fault, fault_unless, first_module}
-use Rattle.lx_link_texts.proofs.Pairs.{rest_at}
+use Rattle.lx_caps.proofs.Items.{rest_at, any_append}
 
 pub first_step : {A B : Type 0} (f : A → Option B) (xs : List A) (i : ℕ) (x : A) → i < length xs → x ≡ get_or xs i x → first_some f (drop i xs) ≡ option_or (f x) (first_some f (drop (i + 1) xs))
 first_step f xs i x h e = ap (first_some f) (rest_at xs i x h e)
@@ -36,14 +36,6 @@ mapped f [] i x y h p = absurd (omega arith)
 mapped f (z ∷ zs) zero x y h p = ap f (sym p)
 mapped f (z ∷ zs) (suc i) x y h p = mapped f zs i x y (omega arith) p
 
-or_assoc : (a b c : Bool) → (a || (b || c)) ≡ ((a || b) || c)
-or_assoc true b c = refl
-or_assoc false b c = refl
-
-any_append : {A : Type 0} (p : A → Bool) (xs ys : List A) → list_any p (xs ++ ys) ≡ (list_any p xs || list_any p ys)
-any_append p [] ys = refl
-any_append p (x ∷ xs) ys = ap (λ b. p x || b) (any_append p xs ys) ∙ or_assoc (p x) (list_any p xs) (list_any p ys)
-
 -- one of the elements of some list
 pub any_flat : {A B : Type 0} (p : B → Bool) (f : A → List B) (xs : List A) → list_any p (flat_map f xs) ≡ list_any (λ x. list_any p (f x)) xs
 any_flat p f [] = refl
@@ -60,14 +52,8 @@ map_long f xs ys i e h = let n : length ys ≡ length xs = ap length e ∙ lengt
 
 -- limits
 
-pub at_most : (n m : ℕ) → n ≤ m → nat_le n m ≡ true
-at_most n m h = grind (arith, nat_tests)
-
-pub not_at_most : (n m : ℕ) → m < n → nat_le n m ≡ false
-not_at_most n m h = grind (arith, nat_tests)
-
 pub is_within : (n m : ℕ) (x : Fault) → n ≤ m → fault_unless (nat_le n m) x ≡ None
-is_within n m x h = ap (λ b. fault_unless b x) (at_most n m h)
+is_within n m x h = ap (λ b. fault_unless b x) (le-leb n m h)
 
 pub is_past : (n m : ℕ) (x : Fault) → m < n → fault_unless (nat_le n m) x ≡ Some x
-is_past n m x h = ap (λ b. fault_unless b x) (not_at_most n m h)
+is_past n m x h = ap (λ b. fault_unless b x) (lt-leb n m h)

@@ -13,8 +13,8 @@ use Rattle.lx_model.specs.declared.program.ProgramModule.{ProgramModule}
 use Rattle.lx_model.specs.declared.program.ProgramGlobal.{ProgramGlobal}
 use Rattle.lx_model.specs.Program.{Home}
 use Rattle.lx_link_texts.specs.Placing.{end_behind, end_of, global_size, last_end, module_places, modules_end, place, places_from, start_behind}
-use Rattle.lx_link_texts.proofs.Pairs.{rest_at}
 use Rattle.lx_link_texts.proofs.Entries.{goes_on, ends}
+use Rattle.lx_caps.proofs.Items.{rest_at}
 
 -- sizes
 

@@ -1,10 +1,10 @@
 -- Texts without a fault make a well-formed program.
-use Rattle.std.proofs.Common.{◌≡◌, ℕ, zero, suc, ◌+◌, ◌<◌, ◌≤◌, Bool, true, false, ◌&&◌, ◌||◌, not, Option, Some, None, List, [], ◌∷◌, length, get_or, nat_le, refl, ap, sym, subst, ◌∙◌, arith}
+use Rattle.std.proofs.Common.{◌≡◌, ℕ, zero, suc, ◌+◌, ◌<◌, Bool, true, false, ◌&&◌, ◌||◌, not, Option, Some, None, List, [], ◌∷◌, length, get_or, nat_le, refl, ap, sym, subst, ◌∙◌, arith, leb-true}
 use Rattle.std.specs.Prelude.{All, slice_get, if◌then◌else◌, IsTrue}
 use Rattle.std.specs.List.{list_all, AllPass}
 use Rattle.std.specs.Option.{option_or}
-use Rattle.std.proofs.lemmas.Bool.Decides.{nat_tests}
 use Rattle.std.proofs.lemmas.List.Sums.{AllPass-from_list_all}
+use Rattle.std.proofs.lemmas.Bool.{and_from}
 use Rattle.lx_ir.specs.declared.module.Function.{Function}
 use Rattle.lx_ir.specs.declared.module.Module.{Module}
 use Rattle.lx_ir.specs.declared.module.GlobalVar.{GlobalVar}
@@ -29,29 +29,18 @@ use Rattle.lx_link_texts.specs.Placing.{HasLimits, HasLawfulGlobals, functions_o
 use Rattle.lx_link_texts.specs.Faults.{Fault, fault, fault_of, fault_unless, first_module, calls_indirectly, kernel_call_fault, defined, export_fault, export_fault_by, kernel_native, slot_called, kernel_import_fault, kernel_import_fault_by, is_alias, is_kernel_name, is_exported, import_fault_by, module_import_fault, imports_fault, slot_fault, slot_fault_by, slots_fault, text_fault, limit_fault, functions_fault, globals_fault, most_functions}
 use Rattle.lx_link_texts.specs.WellFormed.{IsWellFormed, IsModuleOf, is_export_of, is_exported_well, is_kernel_import_by, is_kernel_import, is_import_of, is_module_import, has_slot_of, is_marked_well}
 use Rattle.lx_link_texts.specs.Laws.{AreSound, AreWellFormed, VerifiedHaveLimits}
+use Rattle.lx_caps.proofs.Items.{first_none, rest_none}
 
 -- No fault in a row of passes.
 
-first_none : {B : Type 0} (x y : Option B) → option_or x y ≡ None → x ≡ None
-first_none None y h = refl
-first_none (Some b) y h = absurd (cc)
-
-rest_none : {B : Type 0} (x y : Option B) → option_or x y ≡ None → y ≡ None
-rest_none None y h = h
-rest_none (Some b) y h = absurd (cc)
-
-passes : (b : Bool) (x : Fault) → fault_unless b x ≡ None → b ≡ true
+pub passes : (b : Bool) (x : Fault) → fault_unless b x ≡ None → b ≡ true
 passes true x h = refl
 passes false x h = absurd (cc)
-
-both : (a b : Bool) → a ≡ true → b ≡ true → (a && b) ≡ true
-both true b p q = q
-both false b p q = absurd (cc)
 
 all_pass : {A : Type 0} (f : A → Option Fault) (p : A → Bool) (xs : List A) → ((x : A) → f x ≡ None → p x ≡ true) → first_some f xs ≡ None → list_all p xs ≡ true
 all_pass f p [] g h = refl
 all_pass f p (x ∷ xs) g h =
-    both (p x) (list_all p xs) (g x (first_none (f x) (first_some f xs) h)) (all_pass f p xs g (rest_none (f x) (first_some f xs) h))
+    and_from (p x) (list_all p xs) (g x (first_none (f x) (first_some f xs) h)) (all_pass f p xs g (rest_none (f x) (first_some f xs) h))
 
 each_module : (f : ℕ → Module → Option Fault) (P : Module → Type 0) (n : ℕ) (ms : List ProgramModule) → ((k : ℕ) (m : Module) → f k m ≡ None → P m) → first_module f n ms ≡ None → All (λ (m : ProgramModule). P m.«module») ms
 each_module f P n [] g h k d less = absurd (omega (arith, less))
@@ -121,9 +110,6 @@ imports_well kernel i k m h = all_pass (module_import_fault kernel i (source.Mod
 slots_well : (i : Interface) (k : ℕ) (m : Module) → slots_fault i k m ≡ None → list_all (is_marked_well i m) (annotated_of i m) ≡ true
 slots_well i k m h = all_pass (slot_fault i (source.Module k) m) (is_marked_well i m) (annotated_of i m) (slot_well i (source.Module k) m) h
 
-at_most : (a b : ℕ) → nat_le a b ≡ true → a ≤ b
-at_most a b h = grind (arith, nat_tests)
-
 -- All passes together.
 
 pub are_well_formed : AreWellFormed
@@ -148,8 +134,8 @@ are_well_formed s sound texts limits =
       modules = λ k d h. record { verified = (sound.modules k d h).0; plain = (sound.modules k d h).1; imports = imported k d h; marked = marked k d h };
       functions = refl;
       globals = refl;
-      few_functions = at_most (length (functions_of s)) most_functions (passes (nat_le (length (functions_of s)) most_functions) _ (first_none (functions_fault s) (globals_fault s) limits));
-      globals_fit = at_most (globals_end s) last_end (passes (nat_le (globals_end s) last_end) _ (rest_none (functions_fault s) (globals_fault s) limits));
+      few_functions = leb-true (length (functions_of s)) most_functions (passes (nat_le (length (functions_of s)) most_functions) _ (first_none (functions_fault s) (globals_fault s) limits));
+      globals_fit = leb-true (globals_end s) last_end (passes (nat_le (globals_end s) last_end) _ (rest_none (functions_fault s) (globals_fault s) limits));
     }
 
 -- Verified texts.

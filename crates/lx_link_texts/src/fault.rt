@@ -5,7 +5,7 @@ use std::marker::Model;
 use thiserror::Error;
 
 /// What kind of fault it is.
-#[derive(Clone, Copy, Debug, PartialEq, Eq)]
+#[derive(Clone, Copy, Debug)]
 pub enum FaultKind {
     Missing,
     Unannotated,
@@ -39,7 +39,7 @@ impl fmt::Display for Shown<'_> {
 }
 
 /// The text that has a fault: a module by its number.
-#[derive(Clone, Copy, Debug, PartialEq, Eq)]
+#[derive(Clone, Copy, Debug)]
 pub enum Source {
     Kernel,
     Interface,

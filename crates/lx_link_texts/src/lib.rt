@@ -1,4 +1,12 @@
 //! Texts that are linked: the kernel, an interface and modules. What is wrong with them, and their program.
+//!
+//! ```text
+//! check_texts(&sources, &annotated)?;
+//! // The natives, then the functions that the kernel defines, then those of each module.
+//! let functions = functions_of(alloc, &sources)?;
+//! // Each global at the next address divisible by 16, or `PlaceError::Past`.
+//! let globals = globals_of(alloc, &sources)?;
+//! ```
 #![tactic(auto)]
 
 ghost use Rattle.lx_link_texts.specs.Laws.{AreWellFormed, VerifiedHaveLimits};

@@ -129,7 +129,7 @@ fn globals_end(sources: &Sources) -> Result<u64, PastRegion>
 }
 
 /// Whether the globals end within their region.
-#[tactic(auto, using(crate::proofs::Passes::at_most, crate::proofs::Passes::not_at_most))]
+#[tactic(auto, using(lx_words::proofs::Tests::le_true, lx_words::proofs::Tests::not_at_most))]
 pub fn do_globals_fit(sources: &Sources) -> bool
     requires { HasLimits sources.now }
     ensures { result ≡ nat_le (globals_end sources.now) last_end }

@@ -3,8 +3,7 @@ use Rattle.std.proofs.Common.{◌≡◌, ℕ, zero, suc, ◌+◌, ◌<◌, ◌�
 use Rattle.std.specs.Prelude.{⊤}
 use Rattle.std.specs.List.{list_any}
 use Rattle.std.proofs.lemmas.Bool.{and_parts, cases_Bool, or_cases}
-use Rattle.std.proofs.lemmas.Bool.Decides.{nat_tests}
-use Rattle.lx_caps.specs.Regions.{covers, globals_start}
+use Rattle.lx_caps.specs.Regions.{globals_start}
 use Rattle.lx_ir.specs.declared.module.GlobalVar.{GlobalVar}
 use Rattle.lx_ir.specs.declared.module.Module.{Module}
 use Rattle.lx_ir.specs.Layout.{size_of}
@@ -15,7 +14,9 @@ use Rattle.lx_model.specs.Opening.{global_of}
 use Rattle.lx_model.specs.Program.{Home, module_of, module_or_empty}
 use Rattle.lx_link_texts.specs.declared.sources.Sources.{Sources}
 use Rattle.lx_link_texts.specs.Placing.{end_behind, end_of, global_size, globals_of, kernel_end, module_places, place, places_from, program_of, start_behind}
-use Rattle.lx_reached.specs.Opened.{global_has, is_constant, is_constant_with, is_variable, is_variable_with, StandApart}
+use Rattle.lx_run_laws.specs.Opened.{global_has, is_constant, is_constant_with, is_variable, is_variable_with, StandApart}
+use Rattle.lx_caps.proofs.Covering.{covers_parts}
+use Rattle.lx_link_texts.proofs.Places.{behind}
 
 -- how many bytes a place takes
 abbrev size_by : Program → ProgramGlobal → Option GlobalVar → ℕ
@@ -32,16 +33,13 @@ Ordered p from (x ∷ xs) = (from ≤ x.at) × Ordered p (x.at + size_at p x) xs
 
 -- a byte that a global has lies within it
 
-within : (at size b : ℕ) → covers at size b ≡ true → (at ≤ b) × (b < at + size)
-within at size b is = (grind (arith, nat_tests, is), grind (arith, nat_tests, is))
-
 variable_within : (p : Program) (b : ℕ) (x : ProgramGlobal) (g : Option GlobalVar) → is_variable p b x g ≡ true → (x.at ≤ b) × (b < x.at + size_by p x g)
 variable_within p b x None is = absurd (cc)
-variable_within p b x (Some g) is = within x.at _ b (and_parts (not g.constant) (global_has p b x g) is).1
+variable_within p b x (Some g) is = covers_parts x.at _ b (and_parts (not g.constant) (global_has p b x g) is).1
 
 constant_within : (p : Program) (b : ℕ) (x : ProgramGlobal) (g : Option GlobalVar) → is_constant p b x g ≡ true → (x.at ≤ b) × (b < x.at + size_by p x g)
 constant_within p b x None is = absurd (cc)
-constant_within p b x (Some g) is = within x.at _ b (and_parts g.constant (global_has p b x g) is).1
+constant_within p b x (Some g) is = covers_parts x.at _ b (and_parts g.constant (global_has p b x g) is).1
 
 abbrev Within : Program → ℕ → (ProgramGlobal → Bool) → Type 0
 Within p b test = (x : ProgramGlobal) → test x ≡ true → (x.at ≤ b) × (b < x.at + size_at p x)
@@ -81,9 +79,6 @@ apart_in p b from (x ∷ xs) ordered is also =
 
 -- places
 
-start_after : (end : ℕ) → end ≤ start_behind end
-start_after end = omega arith
-
 first_of : {X : Type 0} (xs : List X) (k : ℕ) (y : X) (ys : List X) → drop k xs ≡ y ∷ ys → slice_get xs k ≡ Some y
 first_of xs zero y ys is = ap (λ l. slice_get l 0) is
 first_of [] (suc k) y ys is = absurd (cc)
@@ -105,7 +100,7 @@ places_ordered : (p : Program) (home : Home) (k end : ℕ) (gs : List GlobalVar)
     → Ordered p (end_behind (module_of p home).types end gs) more → Ordered p end (places_from (module_of p home).types home k end gs ++ more)
 places_ordered p home k end [] more is rest = rest
 places_ordered p home k end (g ∷ gs) more is rest = (
-  start_after end,
+  behind end,
   subst (λ size. Ordered p (start_behind end + size) (places_from (module_of p home).types home (k + 1) (end_of (module_of p home).types end g) gs ++ more))
       (sym (size_is p home k (start_behind end) g (first_of (module_of p home).globals k g gs is)))
       (places_ordered p home (k + 1) (end_of (module_of p home).types end g) gs more (behind_of (module_of p home).globals k g gs is) rest),

@@ -14,7 +14,7 @@ use Rattle.lx_model.specs.declared.program.ProgramModule.{ProgramModule}
 use Rattle.lx_model.specs.Program.{Home}
 use Rattle.lx_link_texts.specs.declared.sources.Sources.{Sources}
 use Rattle.lx_link_texts.specs.Placing.{entries_from, entry_if, functions_of, module_entries, natives, program_of}
-use Rattle.lx_reached.specs.Listed.{has_homes, is_of_program}
+use Rattle.lx_run_laws.specs.Listed.{has_homes, is_of_program}
 
 abbrev AllOf : Program → List ProgramFunction → Type 0
 AllOf p xs = list_all (is_of_program p) xs ≡ true

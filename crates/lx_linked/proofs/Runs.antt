@@ -11,14 +11,14 @@ use Rattle.lx_model.specs.Program.{module_of, module_or_empty}
 use Rattle.lx_model.specs.World.{opening, run}
 use Rattle.lx_link_texts.specs.Placing.{program_of}
 use Rattle.lx_link_texts.specs.WellFormed.{texts_of, IsModuleOf, IsWellFormed, FitsCalls}
-use Rattle.lx_refusals.specs.Laws.{RefusalLaws}
-use Rattle.lx_reached.specs.Laws.{ReachedLaws}
-use Rattle.lx_reached.specs.Listed.{has_homes}
-use Rattle.lx_reached.specs.Opened.{StandApart}
-use Rattle.lx_fitting.specs.Laws.{FittingLaws}
-use Rattle.lx_assigned.specs.Laws.{AssignedLaws}
-use Rattle.lx_site_laws.specs.Laws.{SiteLaws}
-use Rattle.lx_site_laws.specs.Paths.{HasLawfulGlobals}
+use Rattle.lx_run_laws.specs.RefusalLaws.{RefusalLaws}
+use Rattle.lx_run_laws.specs.ReachedLaws.{ReachedLaws}
+use Rattle.lx_run_laws.specs.Listed.{has_homes}
+use Rattle.lx_run_laws.specs.Opened.{StandApart}
+use Rattle.lx_linked.specs.FittingLaws.{FittingLaws}
+use Rattle.lx_linked.specs.AssignedLaws.{AssignedLaws}
+use Rattle.lx_linked.specs.SiteLaws.{SiteLaws}
+use Rattle.lx_linked.specs.Paths.{HasLawfulGlobals}
 use Rattle.lx_linked.specs.Explained.{HasTypesByFields, IsExplainedRun}
 use Rattle.lx_linked.specs.Fitting.{IsFittingRun}
 use Rattle.lx_linked.proofs.Apart.{apart}

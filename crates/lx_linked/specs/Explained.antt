@@ -7,14 +7,14 @@ use Rattle.lx_model.specs.declared.program.Program.{Program}
 use Rattle.lx_model.specs.declared.program.ScriptCall.{ScriptCall}
 use Rattle.lx_model.specs.Program.{module_of}
 use Rattle.lx_model.specs.World.{World, opening, run}
-use Rattle.lx_refusals.specs.Caused.{AreCaused}
-use Rattle.lx_refusals.specs.Explained.{AreExplained}
-use Rattle.lx_reached.specs.Listed.{ListsPrincipals, NumbersInstances, WritersHold}
-use Rattle.lx_reached.specs.Opened.{FirstOwned, StandApart}
-use Rattle.lx_reached.specs.Stopped.{StopsCleanly}
-use Rattle.lx_reached.specs.Texts.{AllRunAsTexts, AsksByText}
-use Rattle.lx_site_laws.specs.Members.{Exactly}
-use Rattle.lx_site_laws.specs.Typed.{GetsType, IsFirstType}
+use Rattle.lx_run_laws.specs.Caused.{AreCaused}
+use Rattle.lx_run_laws.specs.Explained.{AreExplained}
+use Rattle.lx_run_laws.specs.Listed.{ListsPrincipals, NumbersInstances, WritersHold}
+use Rattle.lx_run_laws.specs.Opened.{FirstOwned, StandApart}
+use Rattle.lx_run_laws.specs.Stopped.{StopsCleanly}
+use Rattle.lx_run_laws.specs.Texts.{AllRunAsTexts, AsksByText}
+use Rattle.lx_linked.specs.Members.{Exactly}
+use Rattle.lx_linked.specs.Typed.{GetsType, IsFirstType}
 
 -- the functions of a module have the slot types of the fields where they stand: by an initialiser, by a store at a constant address,
 -- or by a store at the address of a field

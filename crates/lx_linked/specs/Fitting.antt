@@ -6,8 +6,8 @@ use Rattle.lx_model.specs.Fits.{Fits}
 use Rattle.lx_model.specs.Next.{next}
 use Rattle.lx_model.specs.Thread.{Thread}
 use Rattle.lx_model.specs.World.{World, opening, run}
-use Rattle.lx_assigned.specs.Alike.{AlikeWorlds}
-use Rattle.lx_assigned.specs.Filled.{Fill, filled_run}
+use Rattle.lx_linked.specs.Alike.{AlikeWorlds}
+use Rattle.lx_linked.specs.Filled.{Fill, filled_run}
 
 -- what each thread of a world asks for names what is there, with as many arguments as it takes and as wide ones, and keeps to the
 -- thread's stack

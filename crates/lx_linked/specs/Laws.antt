@@ -11,8 +11,8 @@ use Rattle.lx_model.specs.World.{opening, run}
 use Rattle.lx_link_texts.specs.declared.sources.Sources.{Sources}
 use Rattle.lx_link_texts.specs.Placing.{globals_of, program_of}
 use Rattle.lx_link_texts.specs.WellFormed.{IsWellFormed, FitsCalls}
-use Rattle.lx_reached.specs.Listed.{has_homes, ListsPrincipals, WritersHold}
-use Rattle.lx_reached.specs.Opened.{gives_byte, StandApart}
+use Rattle.lx_run_laws.specs.Listed.{has_homes, ListsPrincipals, WritersHold}
+use Rattle.lx_run_laws.specs.Opened.{gives_byte, StandApart}
 use Rattle.lx_linked.specs.Explained.{IsExplainedRun}
 use Rattle.lx_linked.specs.Fitting.{IsFittingRun}
 

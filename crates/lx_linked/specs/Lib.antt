@@ -1,3 +1,15 @@
+pub mod Alike
+pub mod AssignedLaws
 pub mod Explained
+pub mod Filled
 pub mod Fitting
+pub mod FittingLaws
+pub mod Imports
 pub mod Laws
+pub mod Members
+pub mod Paths
+pub mod Replies
+pub mod SiteLaws
+pub mod Stands
+pub mod Threads
+pub mod Typed

@@ -2,12 +2,13 @@
 use Rattle.std.proofs.Common.{◌≡◌, inl, inr, refl, sym, subst, ◌∙◌, ap, ℕ, zero, suc, ◌+◌, ◌<◌, ◌≤◌, Bool, true, false, not, nat_eq, ◌&&◌, ◌||◌, cond, List, [], ◌∷◌, Some, None, length, position, get_or, arith}
 use Rattle.std.specs.List.{list_any, remove, insert, position_from}
 use Rattle.std.proofs.lemmas.Iterator.Adapters.{position_from-zero}
-use Rattle.std.proofs.lemmas.Bool.{true≢false, false≢true, or_cases, cases_Bool, eqb-true, false_from_ne_true}
+use Rattle.std.proofs.lemmas.Bool.{true≢false, false≢true, or_cases, cases_Bool, eqb-true, false_from_ne_true, or_left, or_right}
 use Rattle.std.proofs.lemmas.Bool.Decides.{nat_tests}
 use Rattle.lx_caps.specs.declared.Block.{Block}
 use Rattle.lx_caps.specs.Heap.{Blocks, is_live, without_block}
 use Rattle.lx_caps.specs.HeapLaws.{IsApart}
 use Rattle.lx_memory.specs.Heaps.{IsAscending, same_block, has_block, KeepsBlocks}
+use Rattle.lx_caps.proofs.Tests.{or_swap}
 
 -- the block shares no byte with the range
 abbrev pub IsApartFrom : Block → ℕ → ℕ → Type 0
@@ -24,17 +25,10 @@ apart-each (c ∷ cs) at size apart b is =
       | inr more ↦ apart-each cs at size apart.1 b more
     ]
 
-or-left : (a b : Bool) → a ≡ true → (a || b) ≡ true
-or-left a b is = rw is refl
-
-or-right : (a b : Bool) → b ≡ true → (a || b) ≡ true
-or-right true b is = refl
-or-right false b is = is
-
 pub each-apart : (bs : Blocks) (at size : ℕ) → ((b : Block) → has_block bs b ≡ true → IsApartFrom b at size) → IsApart bs at size
 each-apart [] at size each = tt
 each-apart (c ∷ cs) at size each =
-    (each c (or-left (same_block c c) (has_block cs c) (itself c)), each-apart cs at size (λ b is. each b (or-right (same_block b c) (has_block cs b) is)))
+    (each c (or_left (same_block c c) (has_block cs c) (itself c)), each-apart cs at size (λ b is. each b (or_right (same_block b c) (has_block cs b) is)))
 
 -- a heap is apart from a range where the live blocks are
 pub kept-apart : (kept : List Block) (bs : Blocks) (at size : ℕ) → KeepsBlocks kept bs → IsApart bs at size → IsApart kept at size
@@ -49,16 +43,16 @@ live-has : (bs : Blocks) (at : ℕ) → is_live bs at ≡ true → (b : Block) �
 live-has [] at is = absurd (false≢true is)
 live-has (c ∷ cs) at is =
     elim (or_cases (nat_eq c.at at) (is_live cs at) is) [
-      | inl here ↦ (c, eqb-true c.at at here, or-left (same_block c c) (has_block cs c) (itself c))
-      | inr more ↦ let (b, at, has) = live-has cs at more in (b, at, or-right (same_block b c) (has_block cs b) has)
+      | inl here ↦ (c, eqb-true c.at at here, or_left (same_block c c) (has_block cs c) (itself c))
+      | inr more ↦ let (b, at, has) = live-has cs at more in (b, at, or_right (same_block b c) (has_block cs b) has)
     ]
 
 pub has-live : (bs : Blocks) (b : Block) → has_block bs b ≡ true → is_live bs b.at ≡ true
 has-live [] b is = absurd (false≢true is)
 has-live (c ∷ cs) b is =
     elim (or_cases (same_block b c) (has_block cs b) is) [
-      | inl same ↦ or-left (nat_eq c.at b.at) (is_live cs b.at) (grind (arith, nat_tests, same))
-      | inr more ↦ or-right (nat_eq c.at b.at) (is_live cs b.at) (has-live cs b more)
+      | inl same ↦ or_left (nat_eq c.at b.at) (is_live cs b.at) (grind (arith, nat_tests, same))
+      | inr more ↦ or_right (nat_eq c.at b.at) (is_live cs b.at) (has-live cs b more)
     ]
 
 pub live-same : (kept : List Block) (bs : Blocks) (at : ℕ) → KeepsBlocks kept bs → is_live kept at ≡ true → is_live bs at ≡ true
@@ -73,8 +67,8 @@ live-kept kept bs at keeps is =
 
 live-at : (bs : Blocks) (at i : ℕ) (d : Block) → i < length bs → nat_eq (get_or bs i d).at at ≡ true → is_live bs at ≡ true
 live-at [] at i d within is = absurd (omega (arith, within))
-live-at (c ∷ cs) at zero d within is = or-left (nat_eq c.at at) (is_live cs at) is
-live-at (c ∷ cs) at (suc i) d within is = or-right (nat_eq c.at at) (is_live cs at) (live-at cs at i d (omega (arith, within)) is)
+live-at (c ∷ cs) at zero d within is = or_left (nat_eq c.at at) (is_live cs at) is
+live-at (c ∷ cs) at (suc i) d within is = or_right (nat_eq c.at at) (is_live cs at) (live-at cs at i d (omega (arith, within)) is)
 
 pub live-found : (kept : List Block) (bs : Blocks) (at i : ℕ) (d : Block) → KeepsBlocks kept bs → i < length kept → nat_eq (get_or kept i d).at at ≡ true → is_live bs at ≡ true
 live-found kept bs at i d keeps within is = live-same kept bs at keeps (live-at kept at i d within is)
@@ -99,17 +93,12 @@ place-none kept bs at keeps none =
 
 -- one more block, and one less
 
-swapped : (a b c : Bool) → (a || (b || c)) ≡ (b || (a || c))
-swapped true true c = refl
-swapped true false c = refl
-swapped false b c = refl
-
 pub has-inserted : (bs : List Block) (i : ℕ) (x b : Block) → has_block (insert bs i x) b ≡ (same_block b x || has_block bs b)
 has-inserted bs zero x b = refl
 has-inserted [] (suc i) x b = refl
 has-inserted (c ∷ cs) (suc i) x b =
     let more = has-inserted cs i x b in
-    rw more (swapped (same_block b c) (same_block b x) (has_block cs b))
+    rw more (or_swap (same_block b c) (same_block b x) (has_block cs b))
 
 without-here : (s h e : Bool) → (s ≡ true → e ≡ true) → (h && not e) ≡ ((s || h) && not e)
 without-here true true true f = refl
@@ -161,8 +150,8 @@ removed-first false false e f g = refl
 
 got-has : (bs : List Block) (i : ℕ) (d : Block) → i < length bs → has_block bs (get_or bs i d) ≡ true
 got-has [] i d within = absurd (omega (arith, within))
-got-has (c ∷ cs) zero d within = or-left (same_block c c) (has_block cs c) (itself c)
-got-has (c ∷ cs) (suc i) d within = or-right (same_block (get_or cs i d) c) (has_block cs (get_or cs i d)) (got-has cs i d (omega (arith, within)))
+got-has (c ∷ cs) zero d within = or_left (same_block c c) (has_block cs c) (itself c)
+got-has (c ∷ cs) (suc i) d within = or_right (same_block (get_or cs i d) c) (has_block cs (get_or cs i d)) (got-has cs i d (omega (arith, within)))
 
 pub has-removed : (from : ℕ) (bs : List Block) (i : ℕ) (d : Block) → IsAscending from bs → i < length bs → (b : Block) → has_block (remove bs i) b ≡ (has_block bs b && not (nat_eq b.at (get_or bs i d).at))
 has-removed from [] i d ascending within b = absurd (omega (arith, within))

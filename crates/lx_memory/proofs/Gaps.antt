@@ -10,6 +10,7 @@ use Rattle.lx_caps.specs.HeapLaws.{IsApart, Fits, HeapLaws}
 use Rattle.lx_memory.specs.declared.heap.Gap.{Gap}
 use Rattle.lx_memory.specs.Heaps.{heap_end, IsAscending, first_gap, gap, same_block, has_block, KeepsBlocks, with_block}
 use Rattle.lx_memory.proofs.Elements.{raised, kept-apart, live-apart, has-inserted, has-removed, has-without}
+use Rattle.lx_caps.proofs.Tests.{one_more}
 
 -- the next address divisible by 16
 
@@ -110,14 +111,11 @@ found size place at (b ∷ bs) some even ascending =
 
 -- the search, from one block to the next
 
-one-more : (n : ℕ) → n + 1 ≡ suc n
-one-more n = omega arith
-
 pub gap-here : (size place at : ℕ) (bs : List Block) (i : ℕ) (d : Block) → i < length bs → nat_le (at + size) (get_or bs i d).at ≡ true → first_gap size place at (drop i bs) ≡ gap place at
 gap-here size place at bs i d within is = rw (drop-cons bs i d within, is) refl
 
 pub gap-behind : (size place at : ℕ) (bs : List Block) (i : ℕ) (d : Block) → i < length bs → nat_le (at + size) (get_or bs i d).at ≡ false → first_gap size place at (drop i bs) ≡ first_gap size (place + 1) (align_up ((get_or bs i d).at + (get_or bs i d).size) 16) (drop (i + 1) bs)
-gap-behind size place at bs i d within short = rw (drop-cons bs i d within, short, one-more place, one-more i) refl
+gap-behind size place at bs i d within short = rw (drop-cons bs i d within, short, one_more place, one_more i) refl
 
 ascending-cons : (at : ℕ) (bs : List Block) (i : ℕ) (d : Block) → i < length bs → IsAscending at (drop i bs) → IsAscending at (get_or bs i d ∷ drop (suc i) bs)
 ascending-cons at bs i d within ascending = subst (IsAscending at) (drop-cons bs i d within) ascending
@@ -130,7 +128,7 @@ end-within at bs i d within ascending =
 pub ascending-behind : (at : ℕ) (bs : List Block) (i : ℕ) (d : Block) → i < length bs → IsAscending at (drop i bs) → IsAscending (align_up ((get_or bs i d).at + (get_or bs i d).size) 16) (drop (i + 1) bs)
 ascending-behind at bs i d within ascending =
     let it = ascending-cons at bs i d within ascending in
-    rw (one-more i) (raised-aligned ((get_or bs i d).at + (get_or bs i d).size) (drop (suc i) bs) it.3)
+    rw (one_more i) (raised-aligned ((get_or bs i d).at + (get_or bs i d).size) (drop (suc i) bs) it.3)
 
 drop-all : (bs : List Block) (i : ℕ) → length bs ≤ i → drop i bs ≡ []
 drop-all [] zero over = refl

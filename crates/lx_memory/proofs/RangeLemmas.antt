@@ -1,8 +1,9 @@
 -- Where the bytes of a range are kept.
 use Rattle.std.proofs.Common.{◌≡◌, ◌+◌, ◌-◌, ◌*◌, ◌<◌, ◌≤◌, ◌⊎◌, inl, inr, ℕ, Bool, true, false, ◌||◌, ltb, leb, eqb, arith, cond, Some, None, refl, ◌∙◌, sym}
-use Rattle.std.proofs.lemmas.Bool.{ltb-true, false≢true, and_parts, and_from, le-leb, or_cases, eqb-true, leb-true, lt-ltb, le-ltb}
+use Rattle.std.proofs.lemmas.Bool.{false≢true, and_from, le-leb, or_cases, eqb-true, lt-ltb, le-ltb, or_left, or_right}
 use Rattle.lx_caps.specs.Regions.{covers, mapped, first_unmapped, lies_in, region_size, globals_start, heap_start, stacks_start}
 use Rattle.lx_memory.specs.Ranges.{place_of, range_fault, memory_size}
+use Rattle.lx_caps.proofs.RegionLemmas.{lies_in-parts}
 
 -- the range lies in the region that begins at `start`, whose bytes are kept from `base` on
 pub record IsKept (at size start base : ℕ) : Type 0 where
@@ -32,33 +33,19 @@ in_stacks at size some low high =
     let higher = le-ltb at stacks_start (omega arith) in
     record { from = low; to = high; place = rw (above, higher) (omega arith) }
 
--- the bounds that `lies_in` tests
-bounds : (start at size : ℕ) → lies_in start at size ≡ true → (start ≤ at) × (at + size ≤ start + region_size)
-bounds start at size is =
-    let parts = and_parts (leb start at) (leb (at + size) (start + region_size)) is in
-    (leb-true _ _ parts.0, leb-true _ _ parts.1)
-
 -- a mapped range that is not empty lies in a region
 pub kept : (at size : ℕ) → 0 < size → mapped at size ≡ true → KeptSomewhere at size
 kept at size some is =
     elim (or_cases (eqb size 0) (lies_in globals_start at size || (lies_in heap_start at size || lies_in stacks_start at size)) is) [
       | inl none ↦ absurd (omega (arith, eqb-true size 0 none))
       | inr somewhere ↦ elim (or_cases (lies_in globals_start at size) (lies_in heap_start at size || lies_in stacks_start at size) somewhere) [
-        | inl is_global ↦ (let b = bounds globals_start at size is_global in inl (in_globals at size some b.0 b.1))
+        | inl is_global ↦ (let b = lies_in-parts globals_start at size is_global in inl (in_globals at size some b.0 b.1))
         | inr further ↦ elim (or_cases (lies_in heap_start at size) (lies_in stacks_start at size) further) [
-          | inl is_heap ↦ (let b = bounds heap_start at size is_heap in inr (inl (in_heap at size some b.0 b.1)))
-          | inr is_stack ↦ (let b = bounds stacks_start at size is_stack in inr (inr (in_stacks at size some b.0 b.1)))
+          | inl is_heap ↦ (let b = lies_in-parts heap_start at size is_heap in inr (inl (in_heap at size some b.0 b.1)))
+          | inr is_stack ↦ (let b = lies_in-parts stacks_start at size is_stack in inr (inr (in_stacks at size some b.0 b.1)))
         ]
       ]
     ]
-
-either_first : (x y : Bool) → x ≡ true → (x || y) ≡ true
-either_first true y h = refl
-either_first false y h = cc
-
-either_second : (x y : Bool) → y ≡ true → (x || y) ≡ true
-either_second true y h = refl
-either_second false y h = h
 
 -- the test of bounds that hold
 lies : (start a : ℕ) → start ≤ a → a + 1 ≤ start + region_size → lies_in start a 1 ≡ true
@@ -67,11 +54,11 @@ lies start a low high =
 
 -- an address that is kept is mapped
 pub is_mapped : (a : ℕ) → KeptSomewhere a 1 → mapped a 1 ≡ true
-is_mapped a (inl k) = either_first (lies_in globals_start a 1) _ (lies globals_start a k.from k.to)
+is_mapped a (inl k) = or_left (lies_in globals_start a 1) _ (lies globals_start a k.from k.to)
 is_mapped a (inr (inl k)) =
-    either_second (lies_in globals_start a 1) _ (either_first (lies_in heap_start a 1) _ (lies heap_start a k.from k.to))
+    or_right (lies_in globals_start a 1) _ (or_left (lies_in heap_start a 1) _ (lies heap_start a k.from k.to))
 is_mapped a (inr (inr k)) =
-    either_second (lies_in globals_start a 1) _ (either_second (lies_in heap_start a 1) _ (lies stacks_start a k.from k.to))
+    or_right (lies_in globals_start a 1) _ (or_right (lies_in heap_start a 1) _ (lies stacks_start a k.from k.to))
 
 no_fault : (b : Bool) (n : ℕ) → cond b None (Some n) ≡ None → b ≡ true
 no_fault true n h = refl
@@ -107,11 +94,6 @@ near at size a (inr (inl x)) (inr (inr y)) low high = (omega arith, omega arith)
 near at size a (inr (inr x)) (inl y) low high = (omega arith, omega arith)
 near at size a (inr (inr x)) (inr (inl y)) low high = (omega arith, omega arith)
 near at size a (inr (inr x)) (inr (inr y)) low high = (omega arith, omega arith)
-
--- the bounds of an address that a range covers
-pub covered : (at size a : ℕ) → covers at size a ≡ true → (at ≤ a) × (a < at + size)
-covered at size a is =
-    let parts = and_parts (leb at a) (ltb a (at + size)) is in (leb-true _ _ parts.0, ltb-true _ _ parts.1)
 
 pub uncovered : (at size a : ℕ) → covers at size a ≡ false → at ≤ a → a < at + size → ⊥
 uncovered at size a is low high =

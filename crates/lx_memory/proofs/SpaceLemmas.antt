@@ -7,7 +7,8 @@ use Rattle.lx_caps.specs.Regions.{covers}
 use Rattle.lx_caps.specs.Memory.{Memory, bytes_at, byte_at, bytes_of, Put, Repeat}
 use Rattle.lx_memory.specs.Ranges.{place_of, memory_size}
 use Rattle.lx_memory.specs.Shows.{Shows}
-use Rattle.lx_memory.proofs.RangeLemmas.{covered, uncovered, KeptSomewhere, kept, fits, inside, near, is_mapped}
+use Rattle.lx_memory.proofs.RangeLemmas.{uncovered, KeptSomewhere, kept, fits, inside, near, is_mapped}
+use Rattle.lx_caps.proofs.Covering.{covers_parts}
 
 splice_below : (xs ys : List ℕ) (i j k : ℕ) → k < i → i ≤ length xs → get_or (splice xs i j ys) k 0 ≡ get_or xs k 0
 splice_below xs ys i j k below within = grind (arith, places)
@@ -58,7 +59,7 @@ over : (old ys : List ℕ) (at n a : ℕ) → KeptSomewhere at n → KeptSomewhe
 over old ys at n a here there size all =
     let within = fits at n here in
     pick (covers at n a) _ _ _ (λ is.
-    let bounds = covered at n a is in
+    let bounds = covers_parts at n a is in
     let address : at + (a - at) ≡ a = omega arith in
     let next = inside at n (a - at) (omega arith) here in
     let place : place_of a ≡ place_of at + (a - at) = ap place_of (sym address) ∙ next.1 in
@@ -83,12 +84,12 @@ pub shows_repeat : (old : List ℕ) (m : Memory) (at n byte : ℕ) → KeptSomew
 shows_repeat old m at n byte here all shows = λ a is.
     over old (replicate n byte) at n a here (kept a 1 (omega arith) is) (length-replicate n byte) all
     ∙ pick (covers at n a) _ _ _ (λ in_it.
-    let bounds = covered at n a in_it in
+    let bounds = covers_parts at n a in_it in
     rw in_it (get_or-replicate n (a - at) byte 0 (omega arith))) (λ out. rw out (shows a is))
 
 -- to put no bytes changes nothing
 pub shows_none : (space ys : List ℕ) (m : Memory) (at : ℕ) → length ys ≡ 0 → Shows space m → Shows space (Put at ys ∷ m)
 shows_none space ys m at size shows = λ a is.
     pick (covers at (length ys) a) _ _ _ (λ in_it.
-    let bounds = covered at (length ys) a in_it in
+    let bounds = covers_parts at (length ys) a in_it in
     absurd (omega arith)) (λ _. shows a is)

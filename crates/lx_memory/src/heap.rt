@@ -4,7 +4,8 @@ ghost use Rattle.std.specs.List.{insert, remove, filter};
 ghost use Rattle.lx_caps.specs.Regions.{heap_start, align_up};
 ghost use Rattle.lx_memory.specs.Heaps.{IsAscending, first_gap, heap_end};
 
-use lx_caps::{Block, HEAP_START, Memory, REGION_SIZE, heap_laws};
+use lx_caps::{Block, HEAP_START, REGION_SIZE, heap_laws};
+use lx_words::Memory;
 use std::alloc::{AllocError, Global};
 use std::marker::Model;
 use thiserror::Error;
@@ -27,9 +28,14 @@ struct Gap {
 }
 
 /// The heap, seen as its live blocks by their addresses.
-#[derive(Drop)]
 pub struct KHeap {
     blocks: Vec<Block>,
+}
+
+impl Drop for KHeap {
+    fn drop(self) {
+        let KHeap { blocks: _ } = self;
+    }
 }
 
 impl Model for KHeap {

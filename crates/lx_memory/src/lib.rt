@@ -13,6 +13,6 @@ mod range;
 mod space;
 
 pub use heap::{KHeap, NotLive};
-pub use lx_caps::{Memory, mapped};
+pub use lx_caps::mapped;
 pub use range::Unmapped;
 pub use space::Space;

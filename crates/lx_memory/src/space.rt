@@ -5,15 +5,20 @@ ghost use Rattle.lx_caps.specs.Memory.{bytes_of};
 
 use crate::numbers::{number, put_number};
 use crate::range::{MEMORY_SIZE, Unmapped, place_of, test};
-use lx_caps::Memory;
+use lx_words::Memory;
 use std::alloc::Global;
 use std::marker::Model;
 
 /// The bytes of memory, seen as the list of the bytes of the three regions, one region behind the
 /// other. No call but `new` takes memory, and none changes anything where it answers `Unmapped`.
-#[derive(Drop)]
 pub struct Space {
     bytes: Vec<u8>,
+}
+
+impl Drop for Space {
+    fn drop(self) {
+        let Space { bytes: _ } = self;
+    }
 }
 
 impl Model for Space {

@@ -6,3 +6,13 @@ pub mod ForgettingReplies
 pub mod PlainServing
 pub mod PlainEvents
 pub mod Crossing
+pub mod Tests
+pub mod Items
+pub mod Passing
+pub mod Journals
+pub mod Homes
+pub mod Blanks
+pub mod Threads
+pub mod Activations
+pub mod Turns
+pub mod ActKeeps

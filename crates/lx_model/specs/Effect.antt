@@ -1,5 +1,5 @@
 -- What an instruction of a running function does.
-use Rattle.std.specs.Prelude.{ℕ, zero, suc, Bool, true, false, Option, Some, None, List, [], ◌∷◌, map, nat_eq, bytes_eq, find, unwrap_or, option_map, slice_set, filter, not, ℤ, pos, ◌+ℤ◌}
+use Rattle.std.specs.Prelude.{◌≡◌, refl, ℕ, zero, suc, Bool, true, false, Option, Some, None, List, [], ◌∷◌, map, nat_eq, bytes_eq, find, unwrap_or, option_map, slice_set, filter, not, ℤ, pos, ◌+ℤ◌}
 use Rattle.std.specs.Int.{next_multiple_of}
 use Rattle.lx_words.specs.declared.word.Width.{Width}
 use Rattle.lx_words.specs.declared.word.Width.TheVariants.{W1, W8, W64}
@@ -141,6 +141,10 @@ indices_of p a indices = map (λ x. signed (operand p a x.value)) indices
 -- the result of an operator on one word
 abbrev pub unary_value : UnaryOp → Word → Word
 unary_value unary.Freeze w = w
+
+-- which is as wide as the word
+pub unary_width : (o : UnaryOp) (a : Word) → (unary_value o a).width ≡ a.width
+unary_width unary.Freeze a = refl
 
 -- what a verified program never comes to ends as `unreachable` does
 abbrev pub effect : Program → Activation → Op → Effect

@@ -1,5 +1,13 @@
 //! The reference monitor: what every program of a kernel and modules does, looking back through one history of
-//! grants and strips. Definitions and plain data alone; code that runs stands in the crates above.
+//! grants, strips and loans. Definitions and plain data alone; code that runs stands in the crates above.
+//!
+//! ```text
+//! // One event of thread t, from world to world, and the account of a run under a schedule.
+//! event p t w
+//! account p (run p schedule w)
+//! authority_laws();
+//! // A module's store that is performed was held as a whole before; one that is not held is refused.
+//! ```
 #![tactic(auto)]
 
 ghost use Rattle.lx_model.specs.Authority.{AuthorityLaws};

@@ -1,17 +1,10 @@
 -- First places in lists.
-use Rattle.std.proofs.Common.{◌≡◌, ◌∙◌, refl, sym, ap, ℕ, suc, ◌+◌, ◌<◌, ◌≤◌, Bool, true, false, not, ◌||◌, cond, nat_lt, Option, Some, None, List, [], ◌∷◌, length, drop, arith}
+use Rattle.std.proofs.Common.{◌≡◌, ◌∙◌, refl, sym, ap, ℕ, suc, ◌+◌, ◌<◌, Bool, true, false, not, ◌||◌, cond, nat_lt, Option, Some, None, List, [], ◌∷◌, length, arith, ltb-false}
 use Rattle.std.specs.Prelude.{position, find, slice_get}
-use Rattle.std.specs.List.{position_from, position_or_len, list_any}
+use Rattle.std.specs.List.{position_or_len, list_any}
 use Rattle.std.proofs.lemmas.Bool.Decides.{nat_tests}
-use Rattle.std.proofs.lemmas.Iterator.Adapters.{position_from-zero}
 use Rattle.std.proofs.lemmas.List.Folds.{find_at}
 use Rattle.std.proofs.lemmas.Option.{slice_get_past}
-
--- the first of the whole list
-pub first_all : {A : Type 0} (t : A → Bool) (xs : List A) (k : ℕ) (found : Option ℕ) → k ≤ 0 → found ≡ position_from t k (drop k xs) → found ≡ position t xs
-first_all t xs k found none is =
-    let zero_is : k ≡ 0 = omega (arith, none) in
-    is ∙ ap (λ n. position_from t n (drop n xs)) zero_is ∙ sym (position_from-zero t xs)
 
 -- what stands at the first place is what is found
 
@@ -30,12 +23,9 @@ failed false n e = refl
 pub found_at : {A : Type 0} (t : A → Bool) (xs : List A) (k : ℕ) (x : Option A) → position t xs ≡ Some k → x ≡ slice_get xs k → x ≡ find t xs
 found_at t xs k x p e = e ∙ ap (slice_get xs) (sym (by_test (nat_lt (position_or_len t xs) (length xs)) (position_or_len t xs) k p)) ∙ sym (find_at t xs)
 
-past : (n m : ℕ) → nat_lt n m ≡ false → m ≤ n
-past n m h = grind (arith, nat_tests, h)
-
 pub not_found : {A : Type 0} (t : A → Bool) (xs : List A) → position t xs ≡ None → None ≡ find t xs
 not_found t xs p =
-    let far = past (position_or_len t xs) (length xs) (failed (nat_lt (position_or_len t xs) (length xs)) (position_or_len t xs) p) in
+    let far = ltb-false (position_or_len t xs) (length xs) (failed (nat_lt (position_or_len t xs) (length xs)) (position_or_len t xs) p) in
     sym (find_at t xs ∙ slice_get_past xs (position_or_len t xs) far)
 
 -- something passes exactly where there is a first place

@@ -1,10 +1,9 @@
 -- What actions and block writes ask.
-use Rattle.std.proofs.Common.{◌≡◌, ◌∙◌, refl, sym, ap, ℕ, zero, suc, ◌+◌, ◌^◌, ◌≤◌, Bool, true, false, Option, Some, None, Ok, Err, List, [], map, take, length, arith}
+use Rattle.std.proofs.Common.{◌≡◌, ◌∙◌, refl, sym, ap, ℕ, zero, suc, Bool, true, false, Option, Some, None, Ok, Err, List, [], map, take, length}
 use Rattle.std.specs.Prelude.{filter, flat_map, option_and_then, slice_get, if◌then◌else◌}
 use Rattle.std.specs.List.{prefix_len}
 use Rattle.std.specs.Result.{result_ok}
 use Rattle.std.proofs.lemmas.List.Folds.{length-prefix_len}
-use Rattle.std.proofs.lemmas.Bool.Decides.{nat_tests}
 use Rattle.lx_caps.specs.declared.Principal.{Principal}
 use Rattle.lx_caps.specs.declared.Cap.{Cap}
 use Rattle.lx_caps.specs.declared.Cap.TheVariants.{Call}
@@ -15,8 +14,8 @@ use Rattle.lx_principals.specs.Instances.{Instances}
 use Rattle.lx_slot_types.specs.Gets.{below}
 use Rattle.lx_annot.specs.declared.expr.Env.{Env}
 use Rattle.lx_annot.specs.declared.interface.Interface.{Interface}
-use Rattle.lx_annot.specs.Action.{Action, Copy, Transfer, Check, Lend, End, If}
-use Rattle.lx_annot.specs.Items.{action_caps, caps_of, unless_zero}
+use Rattle.lx_annot.specs.Action.{Action, End, If}
+use Rattle.lx_annot.specs.Items.{action_caps, unless_zero}
 use Rattle.lx_annot.specs.Value.{Found, and_then, value}
 use Rattle.lx_certificates.specs.declared.Need.{Need}
 use Rattle.lx_model.specs.declared.program.Program.{Program}
@@ -24,15 +23,11 @@ use Rattle.lx_model.specs.declared.request.What.TheVariants as what
 use Rattle.lx_model.specs.Next.{actions_of}
 use Rattle.lx_model.specs.State.{State, module_principals}
 use Rattle.lx_serve.specs.Stands.{instances}
-use Rattle.lx_refusals.specs.Errands.{Errand, errand_for, errand_of_action, where_true}
-use Rattle.lx_refusals.specs.Needs.{all_needs, item_needs, to_hold}
+use Rattle.lx_run_laws.specs.Errands.{Errand, errand_for, errand_of_action, where_true}
+use Rattle.lx_run_laws.specs.Needs.{all_needs, item_needs, to_hold}
 use Rattle.lx_needs.specs.declared.actions.Terms.{Terms}
 use Rattle.lx_needs.specs.Asked.{needs_found, terms_of}
 use Rattle.lx_needs.specs.Listed.{block_needs, of_modules, slot_needs, writer_needs}
-
--- a slot that lies in memory ends below the end of the address space
-pub slot_end : (slot : ℕ) → mapped slot 8 ≡ true → slot + 8 ≤ 2 ^ 64
-slot_end slot is = grind (arith, nat_tests)
 
 -- the items at the front that pass are as many as they are
 pub front_length : {A : Type 0} (p : A → Bool) (xs : List A) (n : ℕ) → n ≡ prefix_len p xs → n ≡ length (take n xs)
@@ -53,13 +48,10 @@ asked_if (Ok (suc n)) errand t found is = is
 -- what an action asks are its terms for what it names
 pub asked : (i : Interface) (a : Action) (env : Env) (source : Principal) (m : Memory)
     → item_needs (errand_of_action i a env source m) ≡ needs_found (terms_of source a) (result_ok (action_caps i (load64 m) env a))
-asked i (Copy list) env source m = asked_for source false true (caps_of i (load64 m) env list)
-asked i (Transfer list) env source m = asked_for source true true (caps_of i (load64 m) env list)
-asked i (Check list) env source m = asked_for source false false (caps_of i (load64 m) env list)
-asked i (Lend list) env source m = asked_for source false true (caps_of i (load64 m) env list)
 asked i (End k) env source m = refl
 asked i (If e a) env source m =
     asked_if (value (load64 m) env e) (errand_of_action i a env source m) (terms_of source a) (action_caps i (load64 m) env a) (asked i a env source m)
+asked i a env source m = asked_for source (terms_of source a).transfers (terms_of source a).gives (action_caps i (load64 m) env a)
 
 -- block writes
 pub filled : (p : Program) (s : State) (who : Principal) (to byte len : ℕ) → all_needs p s who (what.Fill to byte len) ≡ block_needs who to len

@@ -9,10 +9,7 @@ use Rattle.lx_certificates.specs.Certificates.{is_kernel}
 use Rattle.lx_model.specs.Authority.{is_module}
 use Rattle.lx_needs.specs.Listed.{AreOfModules, of_modules}
 use Rattle.lx_needs.proofs.Writing.{both}
-
-map_append : {A B : Type 0} (f : A → B) (xs ys : List A) → map f (xs ++ ys) ≡ map f xs ++ map f ys
-map_append f [] ys = refl
-map_append f (x ∷ xs) ys = ap (λ zs. f x ∷ zs) (map_append f xs ys)
+use Rattle.lx_caps.proofs.Items.{map_append}
 
 -- one thing's need more
 pub need_more : {A : Type 0} (f : A → Need) (xs : List A) (i : ℕ) (x : A) (old now new : List Need) → i < length xs → x ≡ get_or xs i x → now ≡ old ++ of_modules (map f (take i xs)) → new ≡ now ++ of_modules (f x ∷ [])

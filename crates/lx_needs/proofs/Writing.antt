@@ -5,10 +5,7 @@ use Rattle.std.proofs.lemmas.List.Elements.{filter-append}
 use Rattle.std.proofs.lemmas.Grind.{flat_map-append}
 use mathlib.Core.List.{append-nil}
 use Rattle.lx_slot_types.specs.Gets.{below}
-
-map_append : {A B : Type 0} (f : A → B) (xs ys : List A) → map f (xs ++ ys) ≡ map f xs ++ map f ys
-map_append f [] ys = refl
-map_append f (x ∷ xs) ys = ap (λ zs. f x ∷ zs) (map_append f xs ys)
+use Rattle.lx_caps.proofs.Items.{map_append}
 
 -- what passes of a list, and of one behind it
 pub both : {A : Type 0} (p : A → Bool) (xs ys old now new : List A) → now ≡ old ++ filter p xs → new ≡ now ++ filter p ys → new ≡ old ++ filter p (xs ++ ys)

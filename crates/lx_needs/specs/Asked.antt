@@ -5,8 +5,8 @@ use Rattle.lx_caps.specs.declared.Cap.{Cap}
 use Rattle.lx_annot.specs.Action.{Action}
 use Rattle.lx_actions.specs.Deeds.{deed_of, gives, is_transfer}
 use Rattle.lx_certificates.specs.declared.Need.{Need}
-use Rattle.lx_refusals.specs.Errands.{Errand}
-use Rattle.lx_refusals.specs.Needs.{item_needs}
+use Rattle.lx_run_laws.specs.Errands.{Errand}
+use Rattle.lx_run_laws.specs.Needs.{item_needs}
 use Rattle.lx_needs.specs.declared.actions.Terms.{Terms}
 
 -- what an action asks of its source, whatever conditions stand before it

@@ -10,7 +10,7 @@ use Rattle.lx_model.specs.declared.program.Program.{Program}
 use Rattle.lx_model.specs.Authority.{is_module}
 use Rattle.lx_model.specs.Enter.{slot_writers}
 use Rattle.lx_model.specs.State.{State}
-use Rattle.lx_refusals.specs.Needs.{to_hold}
+use Rattle.lx_run_laws.specs.Needs.{to_hold}
 
 -- those of the needs that are of modules
 abbrev pub of_modules : List Need → List Need

@@ -1,7 +1,7 @@
 //! Needs as they are listed: the kernel's are left out.
 ghost use Rattle.std.specs.Prelude.{◌≡◌, ◌++◌, ◌∷◌, [], map, IfOk, OnOk};
 ghost use Rattle.lx_model.specs.Authority.{is_module};
-ghost use Rattle.lx_refusals.specs.Needs.{to_hold};
+ghost use Rattle.lx_run_laws.specs.Needs.{to_hold};
 ghost use Rattle.lx_needs.specs.Listed.{AreOfModules, block_needs, of_modules};
 
 use crate::Needs;

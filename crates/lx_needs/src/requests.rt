@@ -13,7 +13,7 @@ ghost use Rattle.lx_model.specs.declared.program.Program.{Program};
 ghost use Rattle.lx_model.specs.declared.request.Way.TheVariants as way;
 ghost use Rattle.lx_model.specs.declared.request.What.TheVariants as what;
 ghost use Rattle.lx_serve.specs.Stands.{StandsForState};
-ghost use Rattle.lx_refusals.specs.Needs.{all_needs};
+ghost use Rattle.lx_run_laws.specs.Needs.{all_needs};
 ghost use Rattle.lx_needs.specs.Listed.{AreOfModules, of_modules, slot_needs, writer_needs};
 
 use crate::Needs;
@@ -41,7 +41,7 @@ fn address_in(space: &Space, slot: u64) -> u64
 }
 
 /// What a call through a slot that lies in memory needs: the call of the address in the slot, by each of its writers.
-#[tactic(auto, using(crate::proofs::Asking::slot_end, crate::proofs::Asking::writers_asked, crate::proofs::Listing::are_of_modules))]
+#[tactic(auto, using(lx_caps::proofs::Covering::slot_end, crate::proofs::Asking::writers_asked, crate::proofs::Listing::are_of_modules))]
 fn mapped_slot_needs<C: CapStore + Drop>(
     alloc: Global,
     part: &SharedPart<C>,

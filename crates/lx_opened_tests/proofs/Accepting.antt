@@ -6,7 +6,7 @@ use Rattle.lx_ir.specs.declared.module.Module.{Module}
 use Rattle.lx_ir.specs.Verified.{IsVerified}
 use Rattle.lx_annot.specs.declared.interface.Interface.{Interface}
 use Rattle.lx_image_texts.specs.ImageFaults.{first_image_fault}
-use Rattle.lx_accepted.specs.Accepted.{IsAcceptedBy}
+use Rattle.lx_simulation.specs.Accepted.{IsAcceptedBy}
 
 pub accepted : (i : Interface) (image y : Module) → y ≡ image → first_image_fault i image ≡ None → IsVerified y → IsAcceptedBy i y
 accepted i image y same none verified = record { verified = verified; no_fault = ap (first_image_fault i) same ∙ none }

@@ -11,10 +11,10 @@ use Rattle.lx_report.specs.Lawful.{HasLawfulModules}
 use Rattle.lx_images.specs.Image.{Code}
 use Rattle.lx_images.specs.ImageWorld.{ImageWorld, image_event, image_opening}
 use Rattle.lx_serve.specs.declared.shared.SharedPart.{SharedPart}
-use Rattle.lx_core.specs.declared.runners.Runners.{Runners}
-use Rattle.lx_core.specs.declared.world.World.{World}
-use Rattle.lx_core.specs.Parts.{AreParts}
-use Rattle.lx_core.specs.Worlds.{StandsForWorld}
+use Rattle.lx_world.specs.declared.runners.Runners.{Runners}
+use Rattle.lx_world.specs.declared.world.World.{World}
+use Rattle.lx_world.specs.Parts.{AreParts}
+use Rattle.lx_world.specs.Worlds.{StandsForWorld}
 use Rattle.lx_opened_tests.specs.Opened.{IsOpened}
 
 -- a world that is opened over code

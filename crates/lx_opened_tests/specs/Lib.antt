@@ -1,3 +1,5 @@
+pub mod Callers
 pub mod Coded
 pub mod Opened
+pub mod Programs
 pub mod Typed

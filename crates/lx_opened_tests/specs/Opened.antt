@@ -7,8 +7,8 @@ use Rattle.lx_model.specs.Account.{image_count}
 use Rattle.lx_link_texts.specs.WellFormed.{IsWellFormed}
 use Rattle.lx_images.specs.Image.{Code}
 use Rattle.lx_images.specs.ImageWorld.{ImageWorld}
-use Rattle.lx_core.specs.declared.world.World.{World}
-use Rattle.lx_core.specs.Worlds.{StandsForWorld}
+use Rattle.lx_world.specs.declared.world.World.{World}
+use Rattle.lx_world.specs.Worlds.{StandsForWorld}
 
 -- the world stands for one of images of a well-formed program, and its images have so much beyond the modules
 pub record IsOpened {C : Type 0} (stands : C → History → Type 0) (world : World C) (counts : List ImageCount) : Type 0 where

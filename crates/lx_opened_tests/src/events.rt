@@ -9,7 +9,7 @@ use crate::opened::{Opened, is_reported, open_over};
 use crate::runs::{Told, act, act_all, is_told};
 use crate::texts::{stores_seven, two_threads};
 use lx_caps::{CapStore, PlainCaps};
-use lx_core::{EventFault, World};
+use lx_world::{EventFault, World};
 use std::alloc::Global;
 use std::process::Abort;
 use std::test::Fail;

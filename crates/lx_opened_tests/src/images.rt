@@ -1,6 +1,6 @@
 //! Images of modules: made of their texts, or by hand.
 ghost use Rattle.std.specs.Prelude.{◌≡◌, [], None, IfOk, OnOk, All, length};
-ghost use Rattle.lx_accepted.specs.Accepted.{AreAccepted, IsAcceptedBy};
+ghost use Rattle.lx_simulation.specs.Accepted.{AreAccepted, IsAcceptedBy};
 ghost use Rattle.lx_ir.specs.Lawful.{IsPlain};
 ghost use Rattle.lx_ir.specs.Verified.{IsVerified};
 ghost use Rattle.lx_propagate.specs.Slots.{annotated_of, conflict_of};

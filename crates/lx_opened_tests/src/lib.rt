@@ -1,5 +1,10 @@
-//! Tests of runners and worlds of images: for whom a runner asks over images that a checker refuses, which images a program's world is
-//! opened over, what it does over those that it takes, and what the lines of wrappers do.
+//! Tests of what runs and watches a program: its code, its steps, its runner, its requests, its lock, its world and its report; and of
+//! worlds of images, also over images that a checker refuses.
+//!
+//! ```text
+//! // `rt test` proves and runs them. A row of `wrapper_lines`: a wrapper that is bent, and the run that it gives or what the checker says.
+//! Wanted::Run(Told { schedule: &[0, 0, 0], report: "schedule 0*3\ncall 0.0 m:main trap 3\n.." })
+//! ```
 #![tactic(auto)]
 
 #[cfg(test)]
@@ -7,7 +12,11 @@ mod asking;
 #[cfg(test)]
 mod bare_code;
 #[cfg(test)]
+mod code;
+#[cfg(test)]
 mod codes;
+#[cfg(test)]
+mod common;
 #[cfg(test)]
 mod crossings;
 #[cfg(test)]
@@ -19,14 +28,28 @@ mod images;
 #[cfg(test)]
 mod inputs;
 #[cfg(test)]
+mod lock;
+#[cfg(test)]
 mod opened;
 #[cfg(test)]
+mod report;
+#[cfg(test)]
+mod requests;
+#[cfg(test)]
 mod rows;
+#[cfg(test)]
+mod runner;
 #[cfg(test)]
 mod runs;
 #[cfg(test)]
 mod spared;
 #[cfg(test)]
+mod steps;
+#[cfg(test)]
 mod texts;
+#[cfg(test)]
+mod threads;
+#[cfg(test)]
+mod world;
 #[cfg(test)]
 mod wrapper_lines;

@@ -1,19 +1,19 @@
 //! Worlds of images that were opened, and what is reported of them.
 ghost use Rattle.std.specs.Prelude.{◌≡◌, [], IfOk, length};
-ghost use Rattle.lx_accepted.specs.Accepted.{AreAccepted};
+ghost use Rattle.lx_simulation.specs.Accepted.{AreAccepted};
 ghost use Rattle.lx_input.specs.Laws.{IsReady};
 ghost use Rattle.lx_opened_tests.specs.Opened.{IsOpened};
 
 use crate::images::{Image, checked_images};
 use lx_annotation_tables::image_counts;
 use lx_caps::{CapStore, PlainCaps};
-use lx_core::World;
 use lx_image_check::Checked;
 use lx_input::Input;
 use lx_model::account::ImageCount;
 use lx_opening::{OpenFault, open_world};
 use lx_report::report;
 use lx_words::{Items, Memory};
+use lx_world::World;
 use std::alloc::Global;
 use std::test::Fail;
 

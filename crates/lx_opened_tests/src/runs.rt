@@ -7,8 +7,8 @@ ghost use Rattle.lx_opened_tests.specs.Opened.{IsOpened};
 use crate::images::Image;
 use crate::opened::{Opened, is_reported, open_over};
 use lx_caps::CapStore;
-use lx_core::{EventFault, World};
 use lx_input::Input;
+use lx_world::{EventFault, World};
 use std::alloc::Global;
 use std::test::Fail;
 

@@ -2,13 +2,13 @@
 use Rattle.std.proofs.Common.{◌≡◌, ℕ, ◌<◌, ◌∙◌, sym, subst, Some, List, length, arith}
 use Rattle.std.specs.Prelude.{IsTrue, slice_get}
 use Rattle.std.proofs.lemmas.List.Elements.{All-get_or}
-use Rattle.std.proofs.lemmas.Option.{slice_get_within, get_or_from_slice_get}
+use Rattle.std.proofs.lemmas.Option.{slice_get_within, get_or_from_slice_get, same_Some}
 use Rattle.lx_ir.specs.declared.module.Module.{Module}
 use Rattle.lx_ir.specs.declared.types.NamedType.{NamedType}
 use Rattle.lx_model.specs.declared.program.Program.{Program}
 use Rattle.lx_model.specs.Program.{module_of}
-use Rattle.lx_accepted.specs.Accepted.{AreAccepted, AreOfTexts, IsAcceptedBy, IsImageOfText}
-use Rattle.lx_accepted.specs.Laws.{AcceptedLaws}
+use Rattle.lx_simulation.specs.Accepted.{AreAccepted, AreOfTexts, IsAcceptedBy, IsImageOfText}
+use Rattle.lx_simulation.specs.AcceptedLaws.{AcceptedLaws}
 use Rattle.lx_annotation_tables.specs.Laws.{AreSized}
 use Rattle.lx_image_code.specs.Reach.{AreWithinReach, is_sized_image}
 use Rattle.lx_images.specs.WrapperForm.{have_formed_wrappers}
@@ -20,15 +20,12 @@ accepted_at : (p : Program) (images : List Module) (m : ℕ) (x : Module) → Ar
 accepted_at p images m x all is =
     subst (IsAcceptedBy p.interface) (get_or_from_slice_get images m x x is) (All-get_or (IsAcceptedBy p.interface) images m x (slice_get_within images m x is) all)
 
-some_one : {A : Type 0} (x y : A) → Some x ≡ Some y → x ≡ y
-some_one x y e = cc
-
 -- an image with a number is one of its module's text
 text_at : (p : Program) (images : List Module) (m : ℕ) (x : Module) → length images ≡ length p.modules → AreOfTexts p images → slice_get images m ≡ Some x → IsImageOfText (module_of p (Some m)) x
 text_at p images m x count texts is =
     let within : m < length p.modules = omega (arith, slice_get_within images m x is, count) in
     let there = texts m within in
-    subst (IsImageOfText (module_of p (Some m))) (some_one there.0 x (sym there.1 ∙ is)) there.2
+    subst (IsImageOfText (module_of p (Some m))) (same_Some there.0 x (sym there.1 ∙ is)) there.2
 
 -- a machine lays out what they ask for by the types of their modules' texts, which are their own
 pub accepted_reach : AcceptedLaws → AreSized → (p : Program) (images : List Module) → length images ≡ length p.modules → AreAccepted p images → AreOfTexts p images → AreWithinReach p images

@@ -1,10 +1,8 @@
 -- Each global of a well-formed program lies in memory.
 use Rattle.std.proofs.Common.{◌≡◌, ℕ, zero, suc, ◌+◌, ◌<◌, ◌≤◌, Bool, true, false, ◌&&◌, Option, Some, None, List, [], ◌∷◌, length, get_or, nat_le, refl, ap, sym, subst, ◌∙◌, arith}
 use Rattle.std.specs.Prelude.{slice_get, IsTrue}
-use Rattle.std.specs.List.{list_all}
-use Rattle.std.specs.Option.{option_or}
 use Rattle.std.proofs.lemmas.Bool.{and_parts}
-use Rattle.std.proofs.lemmas.Option.{slice_get-get_or}
+use Rattle.std.proofs.lemmas.Option.{slice_get-get_or, same_Some}
 use Rattle.lx_caps.specs.Regions.{globals_start, mapped}
 use Rattle.lx_ir.specs.declared.types.NamedType.{NamedType}
 use Rattle.lx_ir.specs.declared.module.GlobalVar.{GlobalVar}
@@ -21,9 +19,12 @@ use Rattle.lx_model.specs.Opening.{global_of}
 use Rattle.lx_link_texts.specs.Placing.{globals_of, globals_end, global_size, places_from, module_places, modules_end, kernel_end, end_behind, end_of, start_behind, place, last_end}
 use Rattle.lx_link_texts.specs.WellFormed.{IsWellFormed, IsModuleOf, texts_of}
 use Rattle.lx_link_texts.proofs.Places.{behind, farther, farther_modules}
-use Rattle.lx_annotation_tables.proofs.Texts.{Each, each_join, each_at, all_at, some_same, module_at, goes_on, first_there}
+use Rattle.lx_annotation_tables.proofs.Texts.{Each, each_join, each_at, goes_on, first_there}
 use Rattle.lx_opening.specs.Placed.{IsGlobalPlaced, is_init_placed}
 use Rattle.lx_opening.proofs.Typed.{in_globals, init_placed}
+use Rattle.lx_model.proofs.Items.{all_got}
+use Rattle.lx_caps.proofs.Items.{all_at as each_passes, first_none, rest_none, from_start}
+use Rattle.lx_model.proofs.Homes.{module_at}
 
 -- a global's bytes lie in the region of globals
 abbrev LiesIn : Program → ProgramGlobal → Type 0
@@ -35,7 +36,7 @@ size_is types g = refl
 
 lies : (p : Program) (home : Home) (text : Module) → module_of p home ≡ text → (k end : ℕ) (g : GlobalVar) → slice_get text.globals k ≡ Some g → globals_start ≤ end → end_of text.types end g ≤ last_end → LiesIn p (place home k (start_behind end))
 lies p home text is k end g there low high found e =
-    let same : found ≡ g = some_same found g (sym e ∙ (ap (λ (m : Module). slice_get m.globals k) is ∙ there)) in
+    let same : found ≡ g = same_Some found g (sym e ∙ (ap (λ (m : Module). slice_get m.globals k) is ∙ there)) in
     let size : size_of (module_of p home).types found.ty ≡ global_size text.types g = (λ j. size_of (is j).types (same j).ty) ∙ sym (size_is text.types g) in
     (omega (arith, low, behind end), omega (arith, size, high))
 
@@ -48,9 +49,6 @@ places_lie p home text is k end (g ∷ gs) there low high =
       lies p home text is k end g (first_there text.globals k g gs there) low (omega (arith, far, high)),
       places_lie p home text is (k + 1) (end_of text.types end g) gs (goes_on text.globals k g gs there) near high,
     )
-
-from_start : {A : Type 0} (xs : List A) (j : ℕ) → slice_get xs (0 + j) ≡ slice_get xs j
-from_start xs j = ap (slice_get xs) (omega arith)
 
 modules_lie : (p : Program) (k end : ℕ) (ms : List ProgramModule) → ((j : ℕ) → slice_get p.modules (k + j) ≡ slice_get ms j) → globals_start ≤ end → modules_end end ms ≤ last_end → Each (LiesIn p) (module_places k end ms)
 modules_lie p k end [] there low high = tt
@@ -84,27 +82,14 @@ no_fault : (o : Option Fault) (m : Module) → FirstBehind o m None → o ≡ No
 no_fault None m h = refl
 no_fault (Some x) m h = absurd (cc)
 
-first_none : {B : Type 0} (x y : Option B) → option_or x y ≡ None → x ≡ None
-first_none None y h = refl
-first_none (Some b) y h = absurd (cc)
-
-rest_none : {B : Type 0} (x y : Option B) → option_or x y ≡ None → y ≡ None
-rest_none None y h = h
-rest_none (Some b) y h = absurd (cc)
-
 each_none : {A B : Type 0} (f : A → Option B) (xs : List A) (k : ℕ) (x : A) → first_some f xs ≡ None → slice_get xs k ≡ Some x → f x ≡ None
 each_none f [] k x h e = absurd (cc)
-each_none f (y ∷ ys) zero x h e = subst (λ z. f z ≡ None) (some_same y x e) (first_none (f y) (first_some f ys) h)
+each_none f (y ∷ ys) zero x h e = subst (λ z. f z ≡ None) (same_Some y x e) (first_none (f y) (first_some f ys) h)
 each_none f (y ∷ ys) (suc k) x h e = each_none f ys k x (rest_none (f y) (first_some f ys) h) e
 
 passes : (b : Bool) (x : Fault) → fault_unless b x ≡ None → b ≡ true
 passes true x h = refl
 passes false x h = absurd (cc)
-
-each_passes : {A : Type 0} (f : A → Bool) (xs : List A) (k : ℕ) (x : A) → list_all f xs ≡ true → slice_get xs k ≡ Some x → f x ≡ true
-each_passes f [] k x h e = absurd (cc)
-each_passes f (y ∷ ys) zero x h e = subst (λ z. f z ≡ true) (some_same y x e) (and_parts (f y) (list_all f ys) h).0
-each_passes f (y ∷ ys) (suc k) x h e = each_passes f ys k x (and_parts (f y) (list_all f ys) h).1 e
 
 typed : (m : Module) (k : ℕ) (g : GlobalVar) → IsVerified m → slice_get m.globals k ≡ Some g → IsTyped m g
 typed m k g verified there =
@@ -125,7 +110,7 @@ typed_module kernel p (Some x) k g all there = typed x.«module» k g (all x ref
 typed_global : (p : Program) (home : Home) (k : ℕ) (g : GlobalVar) → IsWellFormed p → slice_get (module_of p home).globals k ≡ Some g → IsTyped (module_of p home) g
 typed_global p None k g well there = typed p.kernel k g well.kernel_verified there
 typed_global p (Some h) k g well there =
-    typed_module p.kernel p (slice_get p.modules h) k g (λ x e. all_at (λ (m : ProgramModule). IsModuleOf p.kernel p.interface m.«module») p.modules h x well.modules e) there
+    typed_module p.kernel p (slice_get p.modules h) k g (λ x e. all_got (λ (m : ProgramModule). IsModuleOf p.kernel p.interface m.«module») p.modules h x well.modules e) there
 
 -- each global by its place in the program
 pub global_placed : (p : Program) (k : ℕ) (x : ProgramGlobal) → IsWellFormed p → slice_get p.globals k ≡ Some x → IsGlobalPlaced p x

@@ -1,9 +1,8 @@
 -- The items of a group, one behind another.
-use Rattle.std.proofs.Common.{◌≡◌, ℕ, ◌+◌, ◌-◌, ◌<◌, ◌≤◌, Bool, true, false, List, [], ◌∷◌, length, get_or, drop, min, nat_le, refl, ap, sym, subst, ◌∙◌, arith}
+use Rattle.std.proofs.Common.{◌≡◌, ℕ, ◌+◌, ◌-◌, ◌<◌, ◌≤◌, Bool, true, false, List, [], ◌∷◌, length, get_or, drop, min, nat_le, refl, ap, sym, subst, ◌∙◌, arith, leb-true}
 use Rattle.std.specs.Prelude.{IsTrue}
 use Rattle.std.proofs.lemmas.Bool.{and_parts}
-use Rattle.std.proofs.lemmas.Bool.Decides.{nat_tests}
-use Rattle.std.proofs.lemmas.List.{drop_more, length-drop}
+use Rattle.std.proofs.lemmas.List.{length-drop}
 use Rattle.lx_caps.specs.Memory.{Memory}
 use Rattle.lx_ir.specs.declared.types.NamedType.{NamedType}
 use Rattle.lx_ir.specs.declared.module.Module.{Module}
@@ -17,10 +16,7 @@ use Rattle.lx_model.specs.Opening.{item_start, with_init, with_items}
 use Rattle.lx_link_texts.specs.Placing.{last_end}
 use Rattle.lx_opening.specs.Placed.{start_behind, end_behind, fits_item, is_init_placed, are_items_placed}
 use Rattle.lx_opening.proofs.Typed.{behind}
-
--- what is left of a list begins with the element at the place
-rest_at : {X : Type 0} (xs : List X) (i : ℕ) (x : X) → i < length xs → x ≡ get_or xs i x → drop i xs ≡ x ∷ drop (i + 1) xs
-rest_at xs i x h e = drop_more xs i x h ∙ ap (λ y. y ∷ drop (i + 1) xs) (sym e)
+use Rattle.lx_caps.proofs.Items.{rest_at}
 
 -- only how far items reach counts
 items_alike : (p : Program) (home : Home) (at : ℕ) (packed : Bool) (laid : Layout) (ts : List IrType) (is : Inits) (m : Memory) → with_items p home at packed laid ts is m ≡ with_items p home at packed (layout laid.size 1) ts is m
@@ -95,12 +91,9 @@ pub fit_lawful : (types : List NamedType) (at : ℕ) (packed : Bool) (taken : �
 unfolding fits_item
 fit_lawful types at packed taken t h = (and_parts (is_lawful_type types t) (nat_le (at + end_behind types packed taken t) last_end) h).0
 
-at_most : (m n : ℕ) → nat_le m n ≡ true → m ≤ n
-at_most m n h = grind (arith, nat_tests)
-
 pub fit_end : (types : List NamedType) (at : ℕ) (packed : Bool) (taken : ℕ) (t : IrType) → fits_item types at packed taken t ≡ true → at + end_behind types packed taken t ≤ last_end
 unfolding fits_item
-fit_end types at packed taken t h = at_most (at + end_behind types packed taken t) last_end (and_parts (is_lawful_type types t) (nat_le (at + end_behind types packed taken t) last_end) h).1
+fit_end types at packed taken t h = leb-true (at + end_behind types packed taken t) last_end (and_parts (is_lawful_type types t) (nat_le (at + end_behind types packed taken t) last_end) h).1
 
 pub start_le : (types : List NamedType) (packed : Bool) (taken : ℕ) (t : IrType) → start_behind types packed taken t + size_of types t ≡ end_behind types packed taken t
 unfolding end_behind

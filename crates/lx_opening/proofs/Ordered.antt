@@ -1,5 +1,5 @@
 -- The globals of a program stand in the order of their texts, so that a module's stand beside each other.
-use Rattle.std.proofs.Common.{◌≡◌, ℕ, zero, suc, ◌+◌, ◌<◌, ◌≤◌, true, false, Some, None, List, [], ◌∷◌, ◌++◌, length, get_or, drop, nat_lt, refl, ap, sym, subst, ◌∙◌, arith}
+use Rattle.std.proofs.Common.{◌≡◌, ℕ, zero, suc, ◌+◌, ◌<◌, ◌≤◌, true, false, Some, None, List, [], ◌∷◌, ◌++◌, length, get_or, drop, nat_lt, refl, ap, sym, subst, ◌∙◌, arith, ltb-true, ltb-false}
 use Rattle.std.specs.Prelude.{if◌then◌else◌}
 use Rattle.std.specs.List.Sorted.{IsPartitionPoint, IsPartitionedBy}
 use Rattle.std.proofs.lemmas.Bool.Decides.{nat_tests}
@@ -64,16 +64,10 @@ pub parted : (xs : List ProgramGlobal) (n : ℕ) → AreOrdered xs → IsPartiti
 unfolding AreOrdered
 parted xs n r i j d up h e = below_too (rank_at xs i d) (rank_at xs j d) n (rises 0 xs i j d r up h) e
 
-is_below : (a n : ℕ) → nat_lt a n ≡ true → a < n
-is_below a n e = grind (arith, nat_tests, e)
-
-is_behind : (a n : ℕ) → nat_lt a n ≡ false → n ≤ a
-is_behind a n e = grind (arith, nat_tests, e)
-
 pub is_split : (xs : List ProgramGlobal) (n count : ℕ) → IsPartitionPoint (λ (x : ProgramGlobal). nat_lt (rank x.«module») n ≡ true) (λ (x : ProgramGlobal). nat_lt (rank x.«module») n ≡ false) xs count → IsSplit n xs count
 is_split xs n count p = record {
-  before = λ k d less. is_below (rank_at xs k d) n (p.0 k d (omega arith) less);
-  behind = λ k d from less. is_behind (rank_at xs k d) n (p.1 k d from less);
+  before = λ k d less. ltb-true (rank_at xs k d) n (p.0 k d (omega arith) less);
+  behind = λ k d from less. ltb-false (rank_at xs k d) n (p.1 k d from less);
 }
 
 -- what no global of a list is granted

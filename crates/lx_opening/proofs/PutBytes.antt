@@ -6,14 +6,12 @@ use Rattle.std.proofs.lemmas.Bool.Decides.{nat_tests}
 use Rattle.lx_caps.specs.Regions.{covers, mapped}
 use Rattle.lx_caps.specs.Memory.{Memory, Put, byte_at}
 use Rattle.lx_actions.specs.Shown.{IsShownBy}
+use Rattle.lx_caps.proofs.Covering.{none_covered}
 
 -- memories with the same bytes are shown alike
 shown_alike : (space : List ℕ) (m n : Memory) → ((a : ℕ) → byte_at m a ≡ byte_at n a) → IsShownBy space m → IsShownBy space n
 unfolding IsShownBy
 shown_alike space m n same shown = λ a is. shown a is ∙ same a
-
-none_covered : (at a : ℕ) → covers at 0 a ≡ false
-none_covered at a = grind (arith, nat_tests)
 
 -- no bytes are put
 pub put_none : (space : List ℕ) (at : ℕ) (m : Memory) → IsShownBy space m → IsShownBy space (Put at [] ∷ m)

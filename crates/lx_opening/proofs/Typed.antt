@@ -1,11 +1,12 @@
 -- An initialiser of a type writes no further than the type reaches.
-use Rattle.std.proofs.Common.{◌≡◌, ℕ, suc, ◌+◌, ◌*◌, ◌≤◌, Bool, true, false, List, [], ◌∷◌, length, nat_eq, nat_le, refl, ap, sym, ◌∙◌, arith}
+use Rattle.std.proofs.Common.{◌≡◌, ℕ, suc, ◌+◌, ◌*◌, ◌≤◌, Bool, true, false, List, [], ◌∷◌, length, nat_eq, nat_le, refl, ap, sym, ◌∙◌, arith, eqb-true, le-leb}
 use Rattle.std.specs.List.{list_all}
 use Rattle.std.proofs.lemmas.Bool.{and_parts, and_from}
 use Rattle.std.proofs.lemmas.Bool.Decides.{nat_tests}
 use Rattle.lx_words.specs.declared.word.Width.{Width}
 use Rattle.lx_words.specs.declared.word.Width.TheVariants.{W1, W8, W16, W32, W64}
 use Rattle.lx_words.specs.Width.{byte_count, same_width}
+use Rattle.lx_words.proofs.Tests.{next_above}
 use Rattle.lx_caps.specs.Regions.{mapped, globals_start}
 use Rattle.lx_ir.specs.declared.types.Scalar.{Scalar}
 use Rattle.lx_ir.specs.declared.types.Scalar.TheVariants.{Int, Ptr}
@@ -19,7 +20,7 @@ use Rattle.lx_ir.specs.Init.{Init, Plain, Empty, Bytes, Group, Inits, no_more, m
 use Rattle.lx_ir.specs.Layout.{Layout, layout, beside, padded, layout_in, fields_in, named_layouts, layout_of, size_of, scalar_size, unnamed, is_lawful_type}
 use Rattle.lx_ir.specs.Lawful.{same_scalar, is_lawful_init, are_lawful_inits}
 use Rattle.lx_ir.specs.Faults.{same_type, same_types, are_types, type_of_constant, has_items, holds_bytes, init_fits, inits_fit}
-use Rattle.lx_ir.proofs.Layouts.{name_layout, next_le}
+use Rattle.lx_ir.proofs.Layouts.{name_layout}
 use Rattle.lx_model.specs.declared.program.Program.{Program}
 use Rattle.lx_model.specs.Program.{Home, module_of, constant_word}
 use Rattle.lx_model.specs.Opening.{is_packed, item_start}
@@ -65,9 +66,6 @@ same_scalars (Int v) Ptr h = absurd (cc)
 same_scalars Ptr (Int w) h = absurd (cc)
 same_scalars Ptr Ptr h = refl
 
-same_numbers : (m n : ℕ) → nat_eq m n ≡ true → m ≡ n
-same_numbers m n h = grind (arith, nat_tests, h)
-
 mutual
   pub alike : (named : ℕ → Layout) (s t : IrType) → same_type s t ≡ true → layout_in named s ≡ layout_in named t
   alike named (One s) (One t) h = ap (λ n. layout n n) (same_scalars s t h)
@@ -78,7 +76,7 @@ mutual
   alike named (Array m s) (One t) h = absurd (cc)
   alike named (Array m s) (Array n t) h =
       let a = and_parts (nat_eq m n) (same_type s t) h in
-      let e : m ≡ n = same_numbers m n a.0 in
+      let e : m ≡ n = eqb-true m n a.0 in
       let l : layout_in named s ≡ layout_in named t = alike named s t a.1 in
       λ j. layout (e j * (l j).size) (l j).align
   alike named (Array m s) (Struct ts) h = absurd (cc)
@@ -98,7 +96,7 @@ mutual
   alike named (Named j) (Array n t) h = absurd (cc)
   alike named (Named j) (Struct ts) h = absurd (cc)
   alike named (Named j) (Packed ts) h = absurd (cc)
-  alike named (Named j) (Named k) h = ap named (same_numbers j k h)
+  alike named (Named j) (Named k) h = ap named (eqb-true j k h)
 
   all_alike : (named : ℕ → Layout) (packed : Bool) (ss ts : IrTypes) (laid : Layout) → same_types ss ts ≡ true → fields_in named packed ss laid ≡ fields_in named packed ts laid
   all_alike named packed none none laid h = refl
@@ -121,7 +119,7 @@ behind types false laid t = refl
 
 farther_by : (packed : Bool) (taken : ℕ) (item : Layout) → taken ≤ item_start packed (layout taken 1) item + item.size
 farther_by true taken item = omega arith
-farther_by false taken item = omega (arith, next_le taken item.align)
+farther_by false taken item = omega (arith, next_above taken item.align)
 
 farther : (types : List NamedType) (packed : Bool) (taken : ℕ) (t : IrType) → taken ≤ end_behind types packed taken t
 unfolding start_behind end_behind
@@ -159,7 +157,7 @@ elements_reach types taken (u ∷ us) t h =
     elements_reach types (taken + size_of types u) us t a.1 ∙ more_elements taken (size_of types u) (size_of types t) (length us) l
 
 array_reach : (n m size : ℕ) (r : ℕ) → nat_eq n m ≡ true → r ≡ 0 + m * size → r ≤ n * size
-array_reach n m size r h e = let k : n ≡ m = same_numbers n m h in let f : n * size ≡ m * size = ap (λ x. x * size) k in omega (arith, e, f)
+array_reach n m size r h e = let k : n ≡ m = eqb-true n m h in let f : n * size ≡ m * size = ap (λ x. x * size) k in omega (arith, e, f)
 
 -- the items of a group reach no further than its type
 items_reach : (types : List NamedType) (t : IrType) (k : Brackets) (us : List IrType) → has_items t k us ≡ true → reach types (is_packed k) 0 us ≤ size_of types t
@@ -173,7 +171,7 @@ items_reach types (Array n t) brackets.Packed us h = absurd (cc)
 items_reach types (Struct ts) brackets.Struct us h =
     let e = fields_reach types false us ts (layout 0 1) h in
     let l : Layout = fields_in (named_layouts types 64) false ts (layout 0 1) in
-    omega (arith, e, next_le l.size l.align)
+    omega (arith, e, next_above l.size l.align)
 items_reach types (Struct ts) brackets.Packed us h = absurd (cc)
 items_reach types (Struct ts) brackets.Array us h = absurd (cc)
 items_reach types (Packed ts) brackets.Packed us h =
@@ -207,7 +205,7 @@ bytes_size types (One s) k h = absurd (cc)
 bytes_size types (Struct ts) k h = absurd (cc)
 bytes_size types (Packed ts) k h = absurd (cc)
 bytes_size types (Named n) k h = absurd (cc)
-bytes_size types (Array n (One (Int W8))) k h = let e : n ≡ k = same_numbers n k h in omega (arith, e)
+bytes_size types (Array n (One (Int W8))) k h = let e : n ≡ k = eqb-true n k h in omega (arith, e)
 bytes_size types (Array n (One (Int W1))) k h = absurd (cc)
 bytes_size types (Array n (One (Int W16))) k h = absurd (cc)
 bytes_size types (Array n (One (Int W32))) k h = absurd (cc)
@@ -220,9 +218,6 @@ bytes_size types (Array n (Named m)) k h = absurd (cc)
 
 reaches_end : (at n m : ℕ) → n ≡ m → at + m ≤ last_end → at + n ≤ last_end
 reaches_end at n m e h = omega (arith, e, h)
-
-nat_le_true : (m n : ℕ) → m ≤ n → nat_le m n ≡ true
-nat_le_true m n h = grind (arith, nat_tests)
 
 mutual
   unfolding start_behind end_behind fits_item
@@ -261,7 +256,7 @@ mutual
       let h : at + end ≤ last_end = omega (arith, r, high) in
       let s : (at + start) + size_of types t ≤ last_end = omega (arith, h) in
       and_from (fits_item types at packed taken t) _
-      (and_from (is_lawful_type types t) (nat_le (at + end) last_end) a.0 (nat_le_true (at + end) last_end h))
+      (and_from (is_lawful_type types t) (nat_le (at + end) last_end) a.0 (le-leb (at + end) last_end h))
       (and_from (is_init_placed p home (at + start) i) _
       (init_placed p home (at + start) t i a.0 b.0 c.0 (omega (arith, low)) s)
       (items_placed p home at packed end ts is a.1 b.1 c.1 low high))

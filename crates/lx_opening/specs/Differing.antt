@@ -3,7 +3,7 @@ use Rattle.std.specs.Prelude.{◌≡◌, ℕ, ◌<◌, Some, List, length, slice
 use Rattle.lx_ir.specs.declared.module.Module.{Module}
 use Rattle.lx_model.specs.declared.program.Program.{Program}
 use Rattle.lx_model.specs.Program.{module_of}
-use Rattle.lx_accepted.specs.Accepted.{HasImageAt, IsImageOfText}
+use Rattle.lx_simulation.specs.Accepted.{HasImageAt, IsImageOfText}
 
 -- the image with this number is there, and is none of that text
 abbrev pub DiffersAt : Program → List Module → ℕ → Type 0

@@ -1,7 +1,7 @@
 //! The code of a program and of the images of its modules.
 ghost use Rattle.std.specs.Prelude.{◌≡◌, ℕ, IfOk, IsErrOf, IsTrue, length};
 ghost use Rattle.std.specs.Arc.{arc_value};
-ghost use Rattle.lx_accepted.specs.Accepted.{AreAccepted, AreOfTexts};
+ghost use Rattle.lx_simulation.specs.Accepted.{AreAccepted, AreOfTexts};
 ghost use Rattle.lx_annotation_tables.specs.Entries.{all_annotated};
 ghost use Rattle.lx_code.specs.Reach.{CountsActions, IsWithinReach};
 ghost use Rattle.lx_image_code.specs.Code.{code_of};
@@ -15,7 +15,6 @@ ghost use Rattle.lx_simulation.specs.Images.{AreImages};
 
 use crate::differing::compare_images;
 use crate::fault::OpenFault;
-use lx_accepted::accepted_laws;
 use lx_annotation_tables::{action_counts, reach_laws, sources_of};
 use lx_code::ActionCounts;
 use lx_image_check::Checked;
@@ -23,7 +22,7 @@ use lx_image_code::{Code, CodeFault};
 use lx_ir_verify::Verified;
 use lx_model::program::Program;
 use lx_serve::Source;
-use lx_simulation::simulation_laws;
+use lx_simulation::{accepted_laws, simulation_laws};
 use lx_slot_types::Annotated;
 use lx_words::Memory;
 use std::alloc::Global;

@@ -1,6 +1,6 @@
 //! Images compared with the modules whose images they are to be.
 ghost use Rattle.std.specs.Prelude.{◌≡◌, ◌<◌, ℕ, IsTrue, IfOk, IsErrOf, OnOk, length};
-ghost use Rattle.lx_accepted.specs.Accepted.{AreOfTexts, HasImageAt, IsImageOfText};
+ghost use Rattle.lx_simulation.specs.Accepted.{AreOfTexts, HasImageAt, IsImageOfText};
 ghost use Rattle.lx_opening.specs.Differing.{DiffersAt, IsFirstDifferent};
 ghost use Rattle.lx_opening.specs.declared.fault.OpenFault.{OpenFault};
 

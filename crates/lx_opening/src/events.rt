@@ -1,7 +1,7 @@
 //! How many events a script may have.
 ghost use Rattle.std.specs.Prelude.{◌≡◌, ◌+◌, IfOk};
 ghost use Rattle.lx_interp.specs.Runner.{events_of};
-ghost use Rattle.lx_core.specs.Worlds.{script_events};
+ghost use Rattle.lx_world.specs.Worlds.{script_events};
 
 use lx_model::program::{Calls, ScriptCall};
 use lx_words::Memory;

@@ -3,7 +3,7 @@ use lx_words::Memory;
 use thiserror::Error;
 
 /// Why a world was not opened.
-#[derive(Clone, Copy, Debug, PartialEq, Eq, Error)]
+#[derive(Clone, Copy, Debug, Error)]
 pub enum OpenFault {
     /// The image of a module is that of another text. It is the first such module.
     #[error("the image of module {module} is not that of its text")]

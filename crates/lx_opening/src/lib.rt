@@ -1,5 +1,10 @@
 //! The opening of a linked program: what its memory holds and what its modules own before the first call, and the world
 //! of images of its modules that begins so.
+//!
+//! ```text
+//! // The first image that is not that of its module's text: OpenFault::ImageDiffers { module }.
+//! let world = open_world(alloc, program, images, script, &annotated, caps)?;
+//! ```
 #![tactic(auto)]
 
 mod bytes;

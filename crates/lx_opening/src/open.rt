@@ -1,10 +1,10 @@
 //! The world of a program before the first call.
 ghost use Rattle.std.specs.Prelude.{◌≡◌, ◌≤◌, ℕ, [], IfOk, IsErrOf, length};
 ghost use Rattle.std.specs.Arc.{arc_value};
-ghost use Rattle.lx_accepted.specs.Accepted.{AreAccepted, AreOfTexts};
+ghost use Rattle.lx_simulation.specs.Accepted.{AreAccepted, AreOfTexts};
 ghost use Rattle.lx_annotation_tables.specs.Entries.{all_annotated};
 ghost use Rattle.lx_image_code.specs.Code.{code_of};
-ghost use Rattle.lx_core.specs.Worlds.{HasEndsRoom, HasRoom, StandsForWorld, script_events, code_of as code_in};
+ghost use Rattle.lx_world.specs.Worlds.{HasEndsRoom, HasRoom, StandsForWorld, script_events, code_of as code_in};
 ghost use Rattle.lx_images.specs.ImageWorld.{image_opening};
 ghost use Rattle.lx_link_texts.specs.WellFormed.{IsWellFormed};
 ghost use Rattle.lx_opening.specs.Differing.{IsFirstDifferent};
@@ -22,13 +22,13 @@ use crate::part::open_part;
 use lx_annotation_tables::sources_of;
 use lx_caps::CapStore;
 use lx_code::Code as ProgramCode;
-use lx_core::World;
 use lx_image_check::Checked;
 use lx_image_code::Code;
 use lx_model::program::{Calls, Program};
 use lx_serve::SharedPart;
 use lx_slot_types::Annotated;
 use lx_words::Memory;
+use lx_world::World;
 use std::alloc::Global;
 use std::sync::Arc;
 

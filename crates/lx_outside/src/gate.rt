@@ -1,7 +1,7 @@
 //! A gate that each thread passes, by which its caller can hold a thread or note that it came by.
 
 /// Where a thread passes the gate.
-#[derive(Clone, Copy, Debug, PartialEq, Eq)]
+#[derive(Clone, Copy, PartialEq, Eq)]
 pub enum GatePlace {
     /// Before it takes register steps.
     Local,
@@ -16,7 +16,7 @@ pub trait Gate {
 }
 
 /// A gate that returns at once.
-#[derive(Clone, Copy, Debug)]
+#[derive(Clone, Copy)]
 pub struct OpenGate;
 
 impl Gate for OpenGate {

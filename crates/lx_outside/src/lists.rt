@@ -1,15 +1,20 @@
 //! Lists and texts that contracts see as lists.
 ghost use Rattle.std.specs.Prelude.{◌≡◌, ◌<◌, [], ◌∷◌, ◌++◌, length, slice_set, slice_index_or, string_bytes, IfOk, OnOk, OnErr};
 
-use crate::memory::Memory;
+use lx_words::Memory;
 use std::alloc::Global;
 use std::marker::Model;
 use std::mem;
 
 /// A list of values.
-#[derive(Drop)]
 pub struct Items<T> {
     items: Vec<T>,
+}
+
+impl<T: Drop> Drop for Items<T> {
+    fn drop(self) {
+        let Items { items: _ } = self;
+    }
 }
 
 impl<T> Model for Items<T> {
@@ -44,7 +49,8 @@ impl<T> Items<T> {
     pub fn into_vec(self) -> Vec<T>
         ensures { result.items ≡ self }
     {
-        self.items
+        let Items { items } = self;
+        items
     }
 
     /// The values in order.
@@ -83,9 +89,14 @@ pub type CallNumbers = Items<u32>;
 pub type Names = Items<Name>;
 
 /// A name, seen as the bytes of its text.
-#[derive(Drop)]
 pub struct Name {
     text: String,
+}
+
+impl Drop for Name {
+    fn drop(self) {
+        let Name { text: _ } = self;
+    }
 }
 
 impl Model for Name {

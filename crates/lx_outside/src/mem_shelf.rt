@@ -6,12 +6,11 @@ ghost use Rattle.lx_outside.specs.Files.{file_at, names_differ};
 use crate::calls::is_to_fail;
 use crate::file_text::{FileText, Files};
 use crate::lists::{Bytes, CallNumbers, Items, Name, Names};
-use crate::memory::Memory;
 use crate::shelf::{Shelf, ShelfFault};
+use lx_words::Memory;
 use std::alloc::Global;
 
 /// A shelf in memory.
-#[derive(Drop)]
 pub struct MemShelf {
     /// The files, each name once.
     pub files: Files,
@@ -22,6 +21,17 @@ pub struct MemShelf {
     /// The names whose reads failed, the oldest first.
     pub faults: Names,
     ghost names_differ: { IsTrue (names_differ files) },
+}
+
+impl Drop for MemShelf {
+    fn drop(self) {
+        let MemShelf {
+            files: _,
+            fails: _,
+            calls: _,
+            faults: _,
+        } = self;
+    }
 }
 
 fn place_of(files: &[FileText], name: &str) -> Option<usize>

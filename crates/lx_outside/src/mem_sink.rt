@@ -3,8 +3,8 @@ ghost use Rattle.std.specs.Prelude.{◌≡◌, ◌+◌, ◌≤◌, vec_len, vec_
 
 use crate::calls::is_to_fail;
 use crate::lists::{CallNumbers, Items};
-use crate::memory::Memory;
 use crate::sink::{Sink, SinkFault};
+use lx_words::Memory;
 use std::alloc::Global;
 
 /// A sink in memory.

@@ -3,12 +3,12 @@ ghost use Rattle.std.specs.Prelude.{◌≡◌, ◌∷◌, [], ◌++◌, List, �
 ghost use Rattle.lx_outside.specs.declared.file_text.FileText.{FileText};
 ghost use Rattle.lx_outside.specs.Files.{file_at};
 
-use crate::memory::Memory;
+use lx_words::Memory;
 use std::alloc::{AllocError, Global};
 use thiserror::Error;
 
 /// Why a read gave no bytes.
-#[derive(Clone, Copy, Debug, PartialEq, Eq, Error)]
+#[derive(Clone, Copy, Debug, Error)]
 pub enum ShelfFault {
     #[error("the file cannot be read")]
     Failed,

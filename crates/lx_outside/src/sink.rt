@@ -5,7 +5,7 @@ ghost use Rattle.lx_outside.specs.Counts.{HasRisen};
 use thiserror::Error;
 
 /// Why a piece was not taken.
-#[derive(Clone, Copy, Debug, PartialEq, Eq, Error)]
+#[derive(Clone, Copy, Debug, Error)]
 pub enum SinkFault {
     #[error("the bytes were not taken")]
     Failed,

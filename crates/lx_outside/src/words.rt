@@ -1,6 +1,6 @@
 //! The words of the command line.
 
-use crate::memory::Memory;
+use lx_words::Memory;
 use std::alloc::Global;
 use std::env;
 use std::io::ErrorKind;

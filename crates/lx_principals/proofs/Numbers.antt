@@ -11,10 +11,7 @@ use Rattle.lx_caps.specs.Names.{Namings, named, instance_count, first_name, olde
 use Rattle.lx_caps.specs.NameLaws.{IsNumbered}
 use Rattle.lx_principals.specs.Kept.{Entry, same_pair, naming, namings, IsKept}
 use Rattle.lx_principals.proofs.Tables.{namings_more}
-
-counts_up : (b : Bool) (n : ℕ) → n ≤ (if b then suc n else n)
-counts_up true n = omega arith
-counts_up false n = omega arith
+use Rattle.lx_caps.proofs.Tests.{counts_up}
 
 -- one act more takes no instance away
 count_grows : (act : Naming) (acts : Namings) (m : ℕ) → instance_count acts m ≤ instance_count (act ∷ acts) m

@@ -1,5 +1,5 @@
 //! Why a further name is not given.
-use lx_caps::Memory as WantOfMemory;
+use lx_words::Memory;
 use thiserror::Error;
 
 /// Why an instance is not given a further name.
@@ -17,13 +17,13 @@ pub enum AliasFault {
     Memory,
 }
 
-impl From<WantOfMemory> for AliasFault {
+impl From<Memory> for AliasFault {
     ghost use Rattle.std.specs.Prelude.{◌≡◌};
     ghost use Rattle.lx_principals.specs.declared.fault.AliasFault.TheVariants.{Memory};
 
     ghost from_gives = { λ _ e. e ≡ Memory };
 
-    fn from(_: WantOfMemory) -> Self {
+    fn from(_: Memory) -> Self {
         AliasFault::Memory
     }
 }

@@ -16,5 +16,4 @@ mod fault;
 mod principals;
 
 pub use fault::AliasFault;
-pub use lx_caps::Memory;
 pub use principals::Principals;

@@ -6,13 +6,13 @@ ghost use Rattle.lx_principals.specs.Kept.{same_pair};
 
 use crate::fault::AliasFault;
 use indexmap::IndexMap;
-use lx_caps::{Memory, Principal};
+use lx_caps::Principal;
+use lx_words::Memory;
 use std::alloc::{AllocError, Global};
 use std::marker::Model;
 
 /// The names of the instances of modules. Contracts see how many modules there are, and the acts that gave the names,
 /// the newest first.
-#[derive(Drop)]
 pub struct Principals {
     /// The instance of each module's value, in the order in which the names were given.
     names: IndexMap<(u32, u64), u32>,
@@ -20,6 +20,16 @@ pub struct Principals {
     firsts: IndexMap<(u32, u32), u64>,
     /// How many instances each module has.
     counts: Vec<u32>,
+}
+
+impl Drop for Principals {
+    fn drop(self) {
+        let Principals {
+            names: _,
+            firsts: _,
+            counts: _,
+        } = self;
+    }
 }
 
 impl Model for Principals {

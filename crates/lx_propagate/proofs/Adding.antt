@@ -1,7 +1,7 @@
 -- Sites that are added to a table, one after another.
-use Rattle.std.proofs.Common.{◌≡◌, ℕ, ◌+◌, ◌<◌, Bool, true, false, cond, Option, Some, None, List, [], ◌∷◌, ◌++◌, length, get_or, take, if◌then◌else◌, nat_eq, refl, sym, ap, ◌∙◌, subst, arith, append_assoc, append-nil}
+use Rattle.std.proofs.Common.{◌≡◌, ℕ, ◌+◌, ◌<◌, Bool, true, false, cond, Option, Some, None, List, [], ◌∷◌, ◌++◌, length, get_or, take, if◌then◌else◌, nat_eq, refl, sym, ap, ◌∙◌, subst, append_assoc, append-nil}
 use Rattle.std.specs.Prelude.{flat_map, find, option_and_then, option_to_list}
-use Rattle.std.proofs.lemmas.Bool.Decides.{nat_tests}
+use Rattle.lx_words.proofs.Tests.{true_eq}
 use Rattle.lx_ir.specs.declared.module.Module.{Module}
 use Rattle.lx_ir.specs.declared.module.Function.{Function}
 use Rattle.lx_ir.specs.declared.module.GlobalVar.{GlobalVar}
@@ -40,9 +40,6 @@ pub adds_list_more : {A B : Type 0} (i : Interface) (m : Module) (f : B → List
 adds_list_more i m f g xs k x a b c h e p q =
     subst (λ zs. Adds i m zs a c) (flat_flat_front f g xs k x h e) (adds_then i m (flat_map f (flat_map g (take k xs))) (flat_map f (g x)) a b c p q)
 
-same_number : (k n : ℕ) → nat_eq k n ≡ true → k ≡ n
-same_number k n h = grind (arith, nat_tests, h)
-
 -- fields of one number, by what they come to
 pub joined : (i : Interface) (m : Module) (number : ℕ) (more : List FieldName) (old new : Table) (sum join : SlotSum) → ((n : ℕ) → sum_at new n ≡ cond (nat_eq number n) join (sum_at old n)) → ((xs ys : List FieldName) → sum_at old number ≡ sum_of i m xs → sum ≡ sum_of i m ys → join ≡ sum_of i m (xs ++ ys)) → sum ≡ sum_of i m more → Adds i m (sites_at more (Some number)) old new
 unfolding Adds
@@ -50,7 +47,7 @@ joined i m number more old new sum join put joins is n names e =
     put n ∙ by (nat_eq number n) refl ∙ ap (λ zs. sum_of i m (names ++ zs)) (sym (names_at n number more))
   where
     by : (b : Bool) → nat_eq number n ≡ b → cond b join (sum_at old n) ≡ sum_of i m (names ++ (if b then more else []))
-    by true h = joins names more (ap (sum_at old) (same_number number n h) ∙ e) is
+    by true h = joins names more (ap (sum_at old) (true_eq number n h) ∙ e) is
     by false h = e ∙ ap (sum_of i m) (sym (append-nil names))
 
 pub put_is : (b : Bool) (sum : SlotSum) (o : Option SlotSum) → sum_or_none (cond b (Some sum) o) ≡ cond b sum (sum_or_none o)

@@ -1,6 +1,7 @@
 -- The types of parts, and the field that the last index selects.
 use Rattle.std.proofs.Common.{◌≡◌, ℕ, zero, suc, ◌+◌, ◌<◌, ◌≤◌, Bool, true, false, Some, None, List, [], ◌∷◌, length, map, drop, get_or, ℤ, refl, sym, ap, ◌∙◌, arith, add-one}
 use Rattle.std.specs.Prelude.{slice_get, nat_abs}
+use Rattle.lx_words.proofs.Lists.{drop_next, some_left}
 use Rattle.lx_ir.specs.declared.types.NamedType.{NamedType}
 use Rattle.lx_ir.specs.declared.instr.Argument.{Argument}
 use Rattle.lx_ir.specs.IrType.{IrType, One, Array, Struct, Packed, Named, IrTypes, none, also}
@@ -45,19 +46,9 @@ field_part types t u v i k e h n f =
 
 -- index by index
 
-rest_at : {A : Type 0} (xs : List A) (k : ℕ) (x : A) → k < length xs → x ≡ get_or xs k x → drop k xs ≡ x ∷ drop (suc k) xs
-rest_at [] k x h e = absurd (omega arith)
-rest_at (y ∷ ys) zero x h e = ap (λ z. z ∷ ys) (sym e)
-rest_at (y ∷ ys) (suc k) x h e = rest_at ys k x (omega arith) e
-
-some_left : {A : Type 0} (xs : List A) (k : ℕ) → k < length xs → (x : A) × (drop k xs ≡ x ∷ drop (suc k) xs)
-some_left [] k h = absurd (omega arith)
-some_left (y ∷ ys) zero h = (y, refl)
-some_left (y ∷ ys) (suc k) h = some_left ys k (omega arith)
-
 pub last_step : (types : List NamedType) (t u : IrType) (xs : List Argument) (k : ℕ) (x : Argument) → k + 1 < length xs → x ≡ get_or xs k x → u ≡ (part_at types t (index_number x ∷ [])).ty → last_field types u (map index_number (drop (k + 1) xs)) ≡ last_field types t (map index_number (drop k xs))
 last_step types t u xs k x h e f =
-    let a : drop k xs ≡ x ∷ drop (suc k) xs = rest_at xs k x (omega arith) e in
+    let a : drop k xs ≡ x ∷ drop (suc k) xs = drop_next xs k x (omega arith) e in
     let b = some_left xs (suc k) (omega arith) in
     let n : k + 1 ≡ suc k = add-one k in
     ap (λ j. last_field types u (map index_number (drop j xs))) n
@@ -73,7 +64,7 @@ none_left (y ∷ ys) (suc k) h = none_left ys k (omega arith)
 
 pub last_end : (types : List NamedType) (t : IrType) (xs : List Argument) (k : ℕ) (x : Argument) → k + 1 ≡ length xs → x ≡ get_or xs k x → last_field types t (map index_number (drop k xs)) ≡ field_if_named t (nat_abs (index_number x))
 last_end types t xs k x h e =
-    let a : drop k xs ≡ x ∷ drop (suc k) xs = rest_at xs k x (omega arith) e in
+    let a : drop k xs ≡ x ∷ drop (suc k) xs = drop_next xs k x (omega arith) e in
     let b : drop (suc k) xs ≡ [] = none_left xs (suc k) (omega arith) in
     ap (λ zs. last_field types t (map index_number zs)) a ∙ ap (λ zs. last_field types t (index_number x ∷ map index_number zs)) b
 

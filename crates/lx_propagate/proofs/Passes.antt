@@ -1,8 +1,10 @@
 -- Functions, one by one.
-use Rattle.std.proofs.Common.{◌≡◌, ℕ, suc, ◌+◌, ◌<◌, ◌≤◌, Option, Some, None, List, ◌++◌, length, get_or, drop, sym, ap, subst, ◌∙◌, add-one, append_assoc, append-nil}
+use Rattle.std.proofs.Common.{◌≡◌, ℕ, suc, ◌+◌, ◌<◌, ◌≤◌, Option, None, List, ◌++◌, length, get_or, drop, sym, ap, subst, ◌∙◌, add-one, append_assoc, append-nil}
 use Rattle.std.specs.Prelude.{option_to_list}
 use Rattle.std.specs.Option.{option_or}
 use Rattle.std.proofs.lemmas.List.{drop_all}
+use Rattle.lx_words.proofs.Options.{or_some}
+use Rattle.lx_words.proofs.Lists.{rest_at}
 use Rattle.lx_ir.specs.declared.module.Function.{Function}
 use Rattle.lx_annot.specs.declared.interface.Interface.{Interface}
 use Rattle.lx_slot_types.specs.declared.Marked.{Marked}
@@ -12,7 +14,6 @@ use Rattle.lx_propagate.specs.declared.fault.PropagateFault.TheVariants as fault
 use Rattle.lx_propagate.specs.Slots.{Conflict}
 use Rattle.lx_propagate.specs.Decide.{conflict_in, first_conflict, mark_in, marked_in}
 use Rattle.lx_propagate.specs.Answers.{IsAnswer, IsAnswerOr}
-use Rattle.lx_propagate.proofs.Walks.{rest_at}
 
 pub conflict_step : (i : Interface) (sums : ℕ → SlotSum) (fs : List Function) (k : ℕ) (f : Function) → k < length fs → f ≡ get_or fs k f → first_conflict i sums k (drop k fs) ≡ option_or (conflict_in i f (sums k)) (first_conflict i sums (k + 1) (drop (k + 1) fs))
 conflict_step i sums fs k f h e =
@@ -20,9 +21,6 @@ conflict_step i sums fs k f h e =
 
 pub conflict_end : (i : Interface) (sums : ℕ → SlotSum) (fs : List Function) (k : ℕ) → length fs ≤ k → first_conflict i sums k (drop k fs) ≡ None
 conflict_end i sums fs k h = ap (first_conflict i sums k) (drop_all k fs h)
-
-or_some : {B : Type 0} (x rest y : Option B) (b : B) → y ≡ option_or x rest → x ≡ Some b → y ≡ Some b
-or_some x rest y b e h = e ∙ ap (λ z. option_or z rest) h
 
 -- a conflict that comes first is the answer
 pub first_answer : (w : Type 0) (x rest y : Option Conflict) (e : PropagateFault) → y ≡ option_or x rest → IsAnswerOr w x e → IsAnswerOr w y e

@@ -1,11 +1,8 @@
 -- Lists that loops go over.
-use Rattle.std.proofs.Common.{◌≡◌, ℕ, zero, suc, ◌+◌, ◌<◌, List, [], ◌∷◌, ◌++◌, length, get_or, take, drop, sym, ap, ◌∙◌, refl, arith, add-one, append_assoc, append-nil}
+use Rattle.std.proofs.Common.{◌≡◌, ℕ, ◌+◌, ◌<◌, List, [], ◌∷◌, ◌++◌, length, get_or, take, sym, ap, ◌∙◌, append-nil}
 use Rattle.std.specs.Prelude.{flat_map}
 use Rattle.std.proofs.lemmas.List.{take_more}
-
-pub flat_append : {A B : Type 0} (f : A → List B) (xs ys : List A) → flat_map f (xs ++ ys) ≡ flat_map f xs ++ flat_map f ys
-flat_append f [] ys = refl
-flat_append f (x ∷ xs) ys = ap (λ r. f x ++ r) (flat_append f xs ys) ∙ sym (append_assoc (f x) (flat_map f xs) (flat_map f ys))
+use Rattle.std.proofs.lemmas.Grind.{flat_map-append}
 
 front_more : {A : Type 0} (xs : List A) (i : ℕ) (x : A) → i < length xs → x ≡ get_or xs i x → take (i + 1) xs ≡ take i xs ++ x ∷ []
 front_more xs i x h e = take_more xs i x h ∙ ap (λ y. take i xs ++ y ∷ []) (sym e)
@@ -15,16 +12,8 @@ pub flat_front : {A B : Type 0} (f : A → List B) (xs : List A) (i : ℕ) (x : 
 flat_front f xs i x h e =
     sym
     (ap (flat_map f) (front_more xs i x h e)
-    ∙ (flat_append f (take i xs) (x ∷ []) ∙ ap (λ ys. flat_map f (take i xs) ++ ys) (append-nil (f x))))
+    ∙ (flat_map-append f (take i xs) (x ∷ []) ∙ ap (λ ys. flat_map f (take i xs) ++ ys) (append-nil (f x))))
 
 -- the same for one list of items more
 pub flat_flat_front : {A B C : Type 0} (f : B → List C) (g : A → List B) (xs : List A) (i : ℕ) (x : A) → i < length xs → x ≡ get_or xs i x → flat_map f (flat_map g (take i xs)) ++ flat_map f (g x) ≡ flat_map f (flat_map g (take (i + 1) xs))
-flat_flat_front f g xs i x h e = sym (flat_append f (flat_map g (take i xs)) (g x)) ∙ ap (flat_map f) (flat_front g xs i x h e)
-
-rest : {A : Type 0} (xs : List A) (k : ℕ) (x : A) → k < length xs → x ≡ get_or xs k x → drop k xs ≡ x ∷ drop (suc k) xs
-rest [] k x h e = absurd (omega arith)
-rest (y ∷ ys) zero x h e = ap (λ z. z ∷ ys) (sym e)
-rest (y ∷ ys) (suc k) x h e = rest ys k x (omega arith) e
-
-pub rest_at : {A : Type 0} (xs : List A) (k : ℕ) (x : A) → k < length xs → x ≡ get_or xs k x → drop k xs ≡ x ∷ drop (k + 1) xs
-rest_at xs k x h e = rest xs k x h e ∙ ap (λ j. x ∷ drop j xs) (sym (add-one k))
+flat_flat_front f g xs i x h e = sym (flat_map-append f (flat_map g (take i xs)) (g x)) ∙ ap (flat_map f) (flat_front g xs i x h e)

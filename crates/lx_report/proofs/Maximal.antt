@@ -1,27 +1,21 @@
 -- The runs of a schedule are maximal, and written out they are the schedule.
-use Rattle.std.proofs.Common.{◌≡◌, ◌≢◌, ℕ, suc, ◌<◌, ◌≤◌, ◌^◌, true, false, Bool, nat_eq, cond, All, List, [], ◌∷◌, ◌++◌, length, ap, sym, ◌∙◌, refl, arith}
-use Rattle.std.proofs.lemmas.Bool.Decides.{nat_tests}
+use Rattle.std.proofs.Common.{◌≡◌, ℕ, suc, ◌<◌, ◌≤◌, ◌^◌, true, false, Bool, nat_eq, cond, All, List, [], ◌∷◌, ◌++◌, length, ap, sym, ◌∙◌, refl, arith, eqb-true}
 use Rattle.std.proofs.lemmas.List.Elements.{All-head, All-tail}
 use Rattle.std.specs.List.{flat_map}
 use Rattle.lx_report.specs.Runs.{Run, run, joined, runs}
 use Rattle.lx_report.specs.Laws.{events_of, AreMaximal}
+use Rattle.lx_caps.proofs.Tests.{ne_from_test}
 
 -- a fact about a choice, where it holds of both
 by_cases : (P : List Run → Type 0) (b : Bool) (x y : List Run) → (b ≡ true → P x) → (b ≡ false → P y) → P (cond b x y)
 by_cases P true x y p q = p refl
 by_cases P false x y p q = q refl
 
-same_is : (m n : ℕ) → nat_eq m n ≡ true → m ≡ n
-same_is m n h = grind (arith, nat_tests)
-
-other_is : (m n : ℕ) → nat_eq m n ≡ false → m ≢ n
-other_is m n h = grind (arith, nat_tests)
-
 joined_out : (t : ℕ) (rs : List Run) → flat_map events_of (joined t rs) ≡ t ∷ flat_map events_of rs
 joined_out t [] = refl
 joined_out t (r ∷ rs) =
     by_cases (λ x. flat_map events_of x ≡ t ∷ flat_map events_of (r ∷ rs)) (nat_eq t r.thread) _ _
-    (λ e. ap (λ u. t ∷ (events_of (run u r.count) ++ flat_map events_of rs)) (same_is t r.thread e)) (λ e. refl)
+    (λ e. ap (λ u. t ∷ (events_of (run u r.count) ++ flat_map events_of rs)) (eqb-true t r.thread e)) (λ e. refl)
 
 pub written_out : (s : List ℕ) → flat_map events_of (runs s) ≡ s
 written_out [] = refl
@@ -34,7 +28,7 @@ longer t n r (q ∷ qs) e h = (omega arith, λ f. h.1 (sym e ∙ f), h.2)
 maximal_joined : (t : ℕ) (rs : List Run) → AreMaximal rs → AreMaximal (joined t rs)
 maximal_joined t [] h = omega arith
 maximal_joined t (r ∷ rs) h =
-    by_cases AreMaximal (nat_eq t r.thread) _ _ (λ e. longer t r.count r rs (same_is t r.thread e) h) (λ e. (omega arith, other_is t r.thread e, h))
+    by_cases AreMaximal (nat_eq t r.thread) _ _ (λ e. longer t r.count r rs (eqb-true t r.thread e) h) (λ e. (omega arith, ne_from_test t r.thread e, h))
 
 pub maximal : (s : List ℕ) → AreMaximal (runs s)
 maximal [] = tt

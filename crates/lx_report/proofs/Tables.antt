@@ -3,7 +3,7 @@ use Rattle.std.proofs.Common.{◌≡◌, ◌∙◌, refl, sym, ap, subst, ℕ, z
 use Rattle.std.specs.Prelude.{All}
 use Rattle.std.proofs.lemmas.List.{length-append}
 use Rattle.std.proofs.lemmas.List.Elements.{All-get_or}
-use Rattle.std.proofs.lemmas.Option.{slice_get-get_or}
+use Rattle.std.proofs.lemmas.Option.{slice_get-get_or, same_Some}
 use Rattle.lx_annot.specs.declared.interface.Interface.{Interface}
 use Rattle.lx_ir.specs.Lawful.{IsLawful}
 use Rattle.lx_ir.specs.declared.module.Module.{Module}
@@ -36,13 +36,10 @@ pub no_first_types : (i : Interface) (ms : List ProgramModule) → AreFirstTypes
 unfolding AreFirstTypes
 no_first_types i ms = (refl, no_types i ms)
 
-some_same : (x y : SlotTypes) → Some x ≡ Some y → x ≡ y
-some_same x y e = cc
-
 -- what holds of each table by its place holds with one more, where it holds of that one
 each_more : (P : ℕ → SlotTypes → Type 0) (tables : List SlotTypes) (types : SlotTypes) → ((k : ℕ) → (t : SlotTypes) → slice_get tables k ≡ Some t → P k t) → P (length tables) types
     → (k : ℕ) → (t : SlotTypes) → slice_get (tables ++ types ∷ []) k ≡ Some t → P k t
-each_more P [] types each last zero t at = subst (P zero) (some_same types t at) last
+each_more P [] types each last zero t at = subst (P zero) (same_Some types t at) last
 each_more P [] types each last (suc k) t at = absurd (cc)
 each_more P (s ∷ tables) types each last zero t at = each zero t at
 each_more P (s ∷ tables) types each last (suc k) t at = each_more (λ n. P (suc n)) tables types (λ n. each (suc n)) last k t at

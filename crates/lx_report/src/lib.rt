@@ -1,4 +1,14 @@
 //! The text of a report: what a run did, one line a fact.
+//!
+//! ```text
+//! // Of `examples/one.case`:
+//! let text = report(alloc, &account, &program)?;
+//! schedule 0*5
+//! call 0.0 m:main returned 7
+//! image m guards 1 checks 0 wrappers 0
+//! owns m.shared write 0x1000000+4
+//! owns m.shared call 0x10060
+//! ```
 #![tactic(auto)]
 
 ghost use Rattle.std.specs.Prelude.{◌≡◌, ◌++◌, IfOk, OnOk};

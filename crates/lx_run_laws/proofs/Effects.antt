@@ -19,6 +19,7 @@ use Rattle.lx_model.specs.Thread.{CodeBlock, Activation}
 use Rattle.lx_model.specs.Effect.{Effect, Moves, Wants, Enters, Calls, Traps, arrival, call_effect, code_block_named, division, effect, jump_effect, slot_effect, target_effect, text_of, types_of}
 use Rattle.lx_run_laws.specs.Servable.{is_on_stack, is_servable_what}
 use Rattle.lx_run_laws.proofs.Targets.{IsKnown, target_known}
+use Rattle.lx_caps.proofs.Tests.{next_above}
 
 -- bytes of the stack are asked for at no address below this
 abbrev pub IsAbove : ℕ → What → Type 0
@@ -35,9 +36,6 @@ KeepsPart p t a (Traps trap) = ⊤
 
 from_start : (t low high at : ℕ) → is_on_stack t low high ≡ true → high ≤ at → nat_le (stack_start t) at ≡ true
 from_start t low high at on above = grind (arith, nat_tests)
-
-next_above : (x y : ℕ) → x ≤ next_multiple_of x y
-next_above x y = omega arith
 
 divided : (p : Program) (t : ℕ) (a : Activation) (w : Option Word) → KeepsPart p t a (division a w)
 divided p t a None = tt

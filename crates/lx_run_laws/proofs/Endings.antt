@@ -3,6 +3,7 @@ use Rattle.std.proofs.Common.{◌≡◌, ℕ, zero, suc, ◌+◌, ◌*◌, Bool,
 use Rattle.std.specs.List.{list_all, flat_map, enumerate_from}
 use Rattle.std.proofs.lemmas.Bool.{and_parts}
 use Rattle.std.proofs.lemmas.List.Folds.{list_all-append, list_all-map}
+use Rattle.std.proofs.lemmas.Option.{same_Some}
 use Rattle.lx_words.specs.Word.{Word}
 use Rattle.lx_caps.specs.declared.Principal.{Principal}
 use Rattle.lx_caps.specs.declared.Principal.TheVariants.{Kernel}
@@ -23,7 +24,6 @@ use Rattle.lx_model.specs.Effect.{Effect, Moves, Wants, Enters, Calls, Traps, ef
 use Rattle.lx_model.specs.Next.{Asking, Step, Goes, Asks, absorb, after_entry, after_leaving, after_reply, after_ret, after_ret_of, due_or, effect_step, ending, entered_frame, fits_site, frame_step, has_action, has_room, if_paid, if_room, instruction_step, next, next_within, post_action, post_step, pre_action, request, stage_step, start_step, step, undue_step}
 use Rattle.lx_model.specs.PlainLaws.{is_refused, is_refusal}
 use Rattle.lx_model.specs.Thread.{Crossing, Ending, Frame, Stage, Pre, Body, Post, Thread, has_call, has_work}
-use Rattle.lx_run_laws.proofs.Replaced.{some_same}
 
 -- register steps leave the calls, those that are left and those that have ended
 
@@ -215,7 +215,7 @@ pub threads_calm : (k : ℕ) (xs : List Thread) → list_all is_calm_call (flat_
     → (t : ℕ) (x : Thread) → slice_get xs t ≡ Some x → IsCalm x
 threads_calm k [] all t x at = absurd (cc)
 threads_calm k (y ∷ ys) all zero x at =
-    subst IsCalm (some_same y x at)
+    subst IsCalm (same_Some y x at)
     (first_calm k y (and_parts _ _ (sym (list_all-append is_calm_call (thread_outcomes (k, y)) (flat_map thread_outcomes (enumerate_from (k + 1) ys))) ∙ all)).0)
 threads_calm k (y ∷ ys) all (suc t) x at =
     threads_calm (k + 1) ys (and_parts _ _ (sym (list_all-append is_calm_call (thread_outcomes (k, y)) (flat_map thread_outcomes (enumerate_from (k + 1) ys))) ∙ all)).1 t x at

@@ -1,7 +1,7 @@
 -- What was served was held.
 use Rattle.std.proofs.Common.{◌≡◌, ℕ, zero, suc, Bool, true, false, not, Option, Some, None, List, [], ◌∷◌, refl, sym, ap, subst, ◌∙◌}
-use Rattle.std.specs.Prelude.{if◌then◌else◌}
 use Rattle.std.specs.List.{find}
+use Rattle.std.proofs.lemmas.Option.{same_Some}
 use Rattle.lx_words.specs.Width.{byte_count}
 use Rattle.lx_words.specs.Word.{Word}
 use Rattle.lx_caps.specs.declared.Principal.{Principal}
@@ -33,6 +33,8 @@ use Rattle.lx_model.specs.State.{State}
 use Rattle.lx_model.specs.World.{World, event}
 use Rattle.lx_run_laws.specs.Authorised.{needs, needs_of_way, is_end, IsAuthorised, AreAuthorised}
 use Rattle.lx_run_laws.proofs.Tops.{next_top}
+use Rattle.lx_model.proofs.Passing.{first_row, passed_on}
+use Rattle.lx_model.proofs.Authority.{refused_first}
 
 -- the need of a request is decided first
 abbrev IsFirst : State → Principal → Cap → Option Outcome → Type 0
@@ -41,9 +43,6 @@ IsFirst s who c d = (more : Option Outcome) × (d ≡ or_else (unless (holds s.h
 alone : (b : Bool) (o : Outcome) → unless b o ≡ or_else (unless b o) None
 alone true o = refl
 alone false o = refl
-
-some_same : (c d : Cap) → Some c ≡ Some d → c ≡ d
-some_same c d e = cc
 
 write_first : (s : State) (who : Principal) (at size : ℕ) → is_module who ≡ true → IsFirst s who (cap.Write at size) (decide_write s who at size)
 write_first s Kernel at size im = absurd (cc)
@@ -61,18 +60,18 @@ way_first : (p : Program) (s : State) (who : Principal) (way : Way) (args : List
 way_first p s who (Script n) args c is = absurd (cc)
 way_first p s who (Direct n) args c is = absurd (cc)
 way_first p s who (Indirect a) args c is =
-    subst (λ (d : Cap). IsFirst s who d (decide_enter p s who (Indirect a) args)) (some_same (cap.Call a) c is) (decide_target p s who a args (function_at p a), refl)
+    subst (λ (d : Cap). IsFirst s who d (decide_enter p s who (Indirect a) args)) (same_Some (cap.Call a) c is) (decide_target p s who a args (function_at p a), refl)
 way_first p s who (Slot slot ty) args c is = absurd (cc)
 
 need_first : (p : Program) (s : State) (t : ℕ) (who : Principal) (w : What) (c : Cap) → is_module who ≡ true → needs w ≡ Some c → IsFirst s who c (decide_what p s t who w)
 need_first p s t who (what.Load at width) c im is = absurd (cc)
 need_first p s t who (what.Store at w) c im is =
-    subst (λ (d : Cap). IsFirst s who d (decide_write s who at (byte_count w.width))) (some_same _ c is) (write_first s who at (byte_count w.width) im)
+    subst (λ (d : Cap). IsFirst s who d (decide_write s who at (byte_count w.width))) (same_Some _ c is) (write_first s who at (byte_count w.width) im)
 need_first p s t who (what.Copy to from zero) c im is = absurd (cc)
 need_first p s t who (what.Copy to from (suc len)) c im is =
-    subst (λ (d : Cap). IsFirst s who d (or_else (decide_write s who to (suc len)) (unless_mapped from (suc len)))) (some_same _ c is)
+    subst (λ (d : Cap). IsFirst s who d (or_else (decide_write s who to (suc len)) (unless_mapped from (suc len)))) (same_Some _ c is)
     (copy_first s who to (suc len) (unless_mapped from (suc len)) im)
-need_first p s t who (what.Fill to byte len) c im is = subst (λ (d : Cap). IsFirst s who d (decide_write s who to len)) (some_same _ c is) (write_first s who to len im)
+need_first p s t who (what.Fill to byte len) c im is = subst (λ (d : Cap). IsFirst s who d (decide_write s who to len)) (same_Some _ c is) (write_first s who to len im)
 need_first p s t who (what.Alloca at size) c im is = absurd (cc)
 need_first p s t who (what.Enter way args) c im is = way_first p s who way args c is
 need_first p s t who (what.Perform n post k env source dest) c im is = absurd (cc)
@@ -84,10 +83,6 @@ met : (b : Bool) (o : Outcome) (more : Option Outcome) (p : Program) (s : State)
 met true o more p s t r h = refl
 met false o more p s t r h = absurd (cc)
 
-unmet : (b : Bool) (o : Outcome) (more : Option Outcome) (p : Program) (s : State) (t : ℕ) (r : Request) → b ≡ false → (serve_by (or_else (unless b o) more) p s t r).reply ≡ Ended o
-unmet true o more p s t r h = absurd (cc)
-unmet false o more p s t r h = refl
-
 was_held : (p : Program) (s : State) (t : ℕ) (r : Request) (c : Cap) → is_module r.who ≡ true → needs r.what ≡ Some c → is_end (serve p s t r).reply ≡ false → holds s.history r.who c ≡ true
 was_held p s t r c im is served =
     let first = need_first p s t r.who r.what c im is in
@@ -96,23 +91,15 @@ was_held p s t r c im is served =
 is_refused : (p : Program) (s : State) (t : ℕ) (r : Request) (c : Cap) → is_module r.who ≡ true → needs r.what ≡ Some c → holds s.history r.who c ≡ false → (serve p s t r).reply ≡ Ended (not_held r.who c)
 is_refused p s t r c im is none =
     let first = need_first p s t r.who r.what c im is in
-    ap (λ (d : Option Outcome). (serve_by d p s t r).reply) first.1 ∙ unmet (holds s.history r.who c) (not_held r.who c) first.0 p s t r none
+    ap (λ (d : Option Outcome). (serve_by d p s t r).reply) first.1 ∙ refused_first (holds s.history r.who c) (not_held r.who c) first.0 p s t r none
 
 -- the first writer that does not hold the call
-
-some_writer : (v w : Principal) → Some v ≡ Some w → v ≡ w
-some_writer v w e = cc
-
-first_writer : (b : Bool) (v w : Principal) (a slot : ℕ) (rest : Option Principal) (more : Option Outcome) → (if not b then Some v else rest) ≡ Some w
-    → (rest ≡ Some w → more ≡ Some (Refused (refusal.Writer w a slot))) → or_else (unless b (Refused (refusal.Writer v a slot))) more ≡ Some (Refused (refusal.Writer w a slot))
-first_writer true v w a slot rest more is go = go is
-first_writer false v w a slot rest more is go = ap (λ (u : Principal). Some (Refused (refusal.Writer u a slot))) (some_writer v w is)
 
 writer_named : (s : State) (slot a : ℕ) (ws : List Principal) (w : Principal) → find (λ v. not (holds s.history v (Call a))) ws ≡ Some w
     → writer_refusal s slot a ws ≡ Some (Refused (refusal.Writer w a slot))
 writer_named s slot a [] w is = absurd (cc)
 writer_named s slot a (v ∷ vs) w is =
-    first_writer (holds s.history v (Call a)) v w a slot (find (λ u. not (holds s.history u (Call a))) vs) (writer_refusal s slot a vs) is (writer_named s slot a vs w)
+    first_row (holds s.history v (Call a)) v w a slot (find (λ u. not (holds s.history u (Call a))) vs) (writer_refusal s slot a vs) is (writer_named s slot a vs w)
 
 -- an outcome that is decided first
 goes_first : (o : Outcome) (first more : Option Outcome) → first ≡ Some o → or_else first more ≡ Some o
@@ -124,15 +111,11 @@ by_named : (p : Program) (s : State) (who : Principal) (slot ty a : ℕ) (target
 by_named p s who slot ty a target [] w is = absurd (cc)
 by_named p s who slot ty a target (v ∷ vs) w is = goes_first _ (writer_refusal s slot a (v ∷ vs)) (written_target p who a ty target) (writer_named s slot a (v ∷ vs) w is)
 
-behind : (b : Bool) (o x : Outcome) (more : Option Outcome) → b ≡ true → more ≡ Some x → or_else (unless b o) more ≡ Some x
-behind true o x more is e = e
-behind false o x more is e = absurd (cc)
-
 slot_decided : (p : Program) (s : State) (who : Principal) (slot ty : ℕ) (args : List Word) (w : Principal) → mapped slot 8 ≡ true
     → find (λ v. not (holds s.history v (Call (number_at s.memory slot 8)))) (slot_writers p s slot) ≡ Some w
     → decide_enter p s who (Slot slot ty) args ≡ Some (Refused (refusal.Writer w (number_at s.memory slot 8) slot))
 slot_decided p s who slot ty args w at is =
-    behind (mapped slot 8) (unmapped slot) _ (decide_slot p s who slot ty (number_at s.memory slot 8) args) at
+    passed_on (mapped slot 8) (unmapped slot) _ (decide_slot p s who slot ty (number_at s.memory slot 8) args) at
     (goes_first _ (by_writers p s who slot ty (number_at s.memory slot 8) (function_at p (number_at s.memory slot 8)) (slot_writers p s slot)) _
     (by_named p s who slot ty (number_at s.memory slot 8) (function_at p (number_at s.memory slot 8)) (slot_writers p s slot) w is))
 

@@ -1,6 +1,6 @@
 -- The worlds that a run reaches, and what their events are.
 use Rattle.std.proofs.Common.{◌≡◌, ◌≢◌, ℕ, ◌≤◌, ◌<◌, Bool, true, false, not, ◌&&◌, Option, Some, None, option_map, List, [], ◌∷◌, length, map, slice_get, slice_set, refl, sym, ap, subst, ◌∙◌, arith}
-use Rattle.std.proofs.lemmas.Bool.{and_parts, true≢false}
+use Rattle.std.proofs.lemmas.Bool.{and_parts, true≢false, not-true}
 use Rattle.std.proofs.lemmas.List.{length-map}
 use Rattle.std.proofs.lemmas.Option.{slice_get-map, slice_get_within}
 use Rattle.lx_caps.specs.declared.Principal.{Principal}
@@ -27,8 +27,10 @@ use Rattle.lx_run_laws.specs.OnStack.{AreOnStack}
 use Rattle.lx_run_laws.specs.Servable.{is_servable, is_servable_way, is_servable_what}
 use Rattle.lx_run_laws.specs.PlainRuns.{refuses, is_refused_event, IsPlain, ArePlain, is_unrefused, IsPlainRun}
 use Rattle.lx_run_laws.proofs.Placed.{served_placed}
-use Rattle.lx_run_laws.proofs.Replaced.{set_all, set_back, set_here, set_length}
+use Rattle.lx_run_laws.proofs.Replaced.{set_all, set_back, set_length}
 use Rattle.lx_run_laws.proofs.Endings.{IsCalm, turn_calm, threads_calm}
+use Rattle.lx_caps.proofs.Tests.{not_had}
+use Rattle.lx_model.proofs.Threads.{set_here}
 
 -- at most 16 threads keep to their stacks, and what is granted, stripped and zeroed lies in memory
 pub record Reached (w : World) : Type 0 where
@@ -135,15 +137,11 @@ run_events plains owners laws p [] w reached = tt
 run_events plains owners laws p (t ∷ ts) w reached =
     (event_plain plains owners laws p t w reached, run_events plains owners laws p ts (event p t w) (event_reached laws p t w reached))
 
-turned_false : (b : Bool) → not b ≡ true → b ≡ false
-turned_false true h = absurd (cc)
-turned_false false h = refl
-
 run_plain : (p : Program) (s : List ℕ) (w : World) → ArePlain p s w → is_unrefused p s w ≡ true → plain_run p s (forget_world w) ≡ forget_world (run p s w)
 run_plain p [] w are kept = refl
 run_plain p (t ∷ ts) w are kept =
     let both = and_parts (not (is_refused_event p t w)) (is_unrefused p ts (event p t w)) kept in
-    ap (plain_run p ts) (are.0 (turned_false (is_refused_event p t w) both.0)) ∙ run_plain p ts (event p t w) are.1 both.1
+    ap (plain_run p ts) (are.0 (not-true (is_refused_event p t w) both.0)) ∙ run_plain p ts (event p t w) are.1 both.1
 
 -- a run whose outcomes are no refusals
 
@@ -166,16 +164,12 @@ of_calm p t w (Some x) at calm = if_calm p t w x (has_work x) refl at calm
 event_calm : (p : Program) (t : ℕ) (w : World) → AllCalm (event p t w) → AllCalm w × (is_refused_event p t w ≡ false)
 event_calm p t w calm = of_calm p t w (slice_get w.threads t) refl calm
 
-both_true : (a b : Bool) → a ≡ false → b ≡ true → (not a && b) ≡ true
-both_true true b x y = absurd (cc)
-both_true false b x y = y
-
 run_calm : (p : Program) (s : List ℕ) (w : World) → AllCalm (run p s w) → AllCalm w × (is_unrefused p s w ≡ true)
 run_calm p [] w calm = (calm, refl)
 run_calm p (t ∷ ts) w calm =
     let later = run_calm p ts (event p t w) calm in
     let now = event_calm p t w later.0 in
-    (now.0, both_true (is_refused_event p t w) (is_unrefused p ts (event p t w)) now.1 later.1)
+    (now.0, not_had (is_refused_event p t w) (is_unrefused p ts (event p t w)) now.1 later.1)
 
 pub is_plain_run : (plains : PlainLaws) (owners : OwnerLaws) (laws : RequestLaws) (p : Program) (script : List (List ScriptCall)) (s : List ℕ) → length script ≤ 16 → AllPlaced (opening_history p)
     → IsPlainRun p script s

@@ -20,12 +20,12 @@ use Rattle.lx_model.specs.Thread.{Crossing, Frame, Thread, activation_behind, to
 use Rattle.lx_model.specs.Effect.{returned_value}
 use Rattle.lx_model.specs.Next.{absorb, after_entry, after_ret, after_ret_of, crossing_on, entered_frame, fits_site, next, on_top, request, with_alloca, with_run}
 use Rattle.lx_model.specs.State.{State}
-use Rattle.lx_model.specs.Act.{unless}
 use Rattle.lx_model.specs.Decide.{decide, decide_what}
 use Rattle.lx_model.specs.Serve.{grant_what, serve, serve_by}
 use Rattle.lx_run_laws.specs.Servable.{is_on_stack}
 use Rattle.lx_run_laws.specs.OnStack.{IsOnStack, AreOnStack}
 use Rattle.lx_run_laws.proofs.Steps.{IsAskedOn, left_on, next_on, top_on}
+use Rattle.lx_model.proofs.Passing.{passed}
 
 behind_on : (t : ℕ) (v : Option Word) (fs : List Frame) → AreOnStack t fs → AreOnStack t (on_top (λ f. with_run f (activation_behind v f.run)) fs)
 behind_on t v [] all = tt
@@ -37,7 +37,7 @@ acted_on p t (f ∷ fs) all = all
 
 -- bytes of the stack
 
-lodged : (t low high at size : ℕ) → is_on_stack t low high ≡ true → high ≤ at → nat_le (at + size) (stack_end t) ≡ true → is_on_stack t low (at + size) ≡ true
+pub lodged : (t low high at size : ℕ) → is_on_stack t low high ≡ true → high ≤ at → nat_le (at + size) (stack_end t) ≡ true → is_on_stack t low (at + size) ≡ true
 lodged t low high at size on above room = grind (arith, nat_tests)
 
 lodged_on : (t : ℕ) (v : Option Word) (at size : ℕ) (fs : List Frame) → AreOnStack t fs → top_of_stack t fs ≤ at → nat_le (at + size) (stack_end t) ≡ true
@@ -47,7 +47,7 @@ lodged_on t v at size (f ∷ fs) all above room = (lodged t f.run.low f.run.high
 
 -- a function that is entered
 
-empty_on : (t : ℕ) → is_on_stack t (stack_start t) (stack_start t) ≡ true
+pub empty_on : (t : ℕ) → is_on_stack t (stack_start t) (stack_start t) ≡ true
 empty_on t = grind (arith, nat_tests)
 
 stack_top_on : (t : ℕ) (fs : List Frame) → AreOnStack t fs → is_on_stack t (top_of_stack t fs) (top_of_stack t fs) ≡ true
@@ -86,10 +86,6 @@ returned_on p t (f ∷ fs) thread h all = ret_on p t f.crossing f fs (returned_v
 
 -- what is served
 
-decided : (b : Bool) (o : Outcome) → unless b o ≡ None → b ≡ true
-decided true o is = refl
-decided false o is = absurd (cc)
-
 granted_on : (p : Program) (s : State) (t : ℕ) (x : Thread) (who : Principal) (w : What) → IsAskedOn p t x.frames (request who w) → decide_what p s t who w ≡ None
     → AreOnStack t (absorb p t x (request who w) (grant_what p s t who w).reply).frames
 granted_on p s t x who (what.Load at width) h is = behind_on t _ x.frames h.frames_on
@@ -97,7 +93,7 @@ granted_on p s t x who (what.Store at v) h is = behind_on t None x.frames h.fram
 granted_on p s t x who (what.Copy to from len) h is = behind_on t None x.frames h.frames_on
 granted_on p s t x who (what.Fill to byte len) h is = behind_on t None x.frames h.frames_on
 granted_on p s t x who (what.Alloca at size) h is =
-    lodged_on t (Some (word W64 at)) at size x.frames h.frames_on h.above (decided (nat_le (at + size) (stack_end t)) (Trapped StackFull) is)
+    lodged_on t (Some (word W64 at)) at size x.frames h.frames_on h.above (passed (nat_le (at + size) (stack_end t)) (Trapped StackFull) is)
 granted_on p s t x who (what.Enter way args) h is = entered_on p t x who way args _ h.frames_on
 granted_on p s t x who (what.Perform n post k env source dest) h is = acted_on p t x.frames h.frames_on
 granted_on p s t x who (what.Return low high) h is = returned_on p t x.frames x h.frames_on h.frames_on

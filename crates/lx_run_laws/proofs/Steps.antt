@@ -1,7 +1,8 @@
 -- What a thread asks whose functions keep to its stack.
-use Rattle.std.proofs.Common.{◌≡◌, ℕ, zero, suc, ◌+◌, ◌*◌, ◌<◌, Bool, true, false, ◌&&◌, Option, Some, None, List, [], ◌∷◌, length, refl, sym, ap, subst, ◌∙◌, arith}
+use Rattle.std.proofs.Common.{◌≡◌, ℕ, zero, suc, ◌+◌, ◌*◌, ◌<◌, Bool, true, false, Option, Some, None, List, [], ◌∷◌, length, refl, sym, ap, subst, ◌∙◌, arith}
 use Rattle.std.specs.Prelude.{nat_lt}
 use Rattle.std.proofs.lemmas.Bool.Decides.{nat_tests}
+use Rattle.std.proofs.lemmas.Bool.{and_from}
 use Rattle.lx_words.specs.Word.{Word}
 use Rattle.lx_caps.specs.declared.Principal.TheVariants.{Kernel}
 use Rattle.lx_ir.specs.declared.instr.Op.{Op}
@@ -17,6 +18,7 @@ use Rattle.lx_model.specs.Next.{Asking, Step, Goes, Asks, after_leaving, due_or,
 use Rattle.lx_run_laws.specs.Servable.{is_on_stack, is_servable, is_servable_what}
 use Rattle.lx_run_laws.specs.OnStack.{IsOnStack, AreOnStack}
 use Rattle.lx_run_laws.proofs.Effects.{IsAbove, KeepsPart, effect_keeps}
+use Rattle.lx_caps.proofs.Tests.{below_16}
 
 -- what a thread with these frames asks
 pub record IsAskedOn (p : Program) (t : ℕ) (frames : List Frame) (r : Request) : Type 0 where
@@ -36,7 +38,7 @@ ended p t o = record { servable = refl; above = tt; frames_on = tt }
 pub top_on : (t low high : ℕ) → is_on_stack t low high ≡ true → is_on_stack t high high ≡ true
 top_on t low high on = grind (arith, nat_tests)
 
-moved_on : (t low high low2 high2 : ℕ) → is_on_stack t low high ≡ true → low2 ≡ low → high2 ≡ high → is_on_stack t low2 high2 ≡ true
+pub moved_on : (t low high low2 high2 : ℕ) → is_on_stack t low high ≡ true → low2 ≡ low → high2 ≡ high → is_on_stack t low2 high2 ≡ true
 moved_on t low high low2 high2 on l h = ap (λ x. is_on_stack t x high2) l ∙ ap (is_on_stack t low) h ∙ on
 
 roomed : (p : Program) (t : ℕ) (b : Bool) (thread : Thread) (s : Step) → IsStepOn p t s → IsStepOn p t (if_room b thread s)
@@ -127,12 +129,5 @@ within_on (suc n) p t thread all = goes_on p t n (step p t thread) (step_on p t 
 pub next_on : (p : Program) (t : ℕ) (thread : Thread) → AreOnStack t thread.frames → IsAskingOn p t (next p t thread)
 next_on p t thread all = within_on (2 * thread.fuel + length thread.frames + 1) p t thread all
 
-few : (t : ℕ) → t < 16 → nat_lt t 16 ≡ true
-few t h = grind (arith, nat_tests)
-
-both : (a b : Bool) → a ≡ true → b ≡ true → (a && b) ≡ true
-both true b h k = k
-both false b h k = absurd (cc)
-
 pub next_servable : (p : Program) (t : ℕ) (thread : Thread) → t < 16 → AreOnStack t thread.frames → is_servable p t (next p t thread).request ≡ true
-next_servable p t thread small all = both (nat_lt t 16) (is_servable_what p t (next p t thread).request.what) (few t small) (next_on p t thread all).servable
+next_servable p t thread small all = and_from (nat_lt t 16) (is_servable_what p t (next p t thread).request.what) (below_16 t small) (next_on p t thread all).servable

@@ -6,9 +6,9 @@ use Rattle.std.proofs.lemmas.Option.{slice_get-get_or}
 use Rattle.lx_ir.specs.declared.module.Function.{Function}
 use Rattle.lx_ir.specs.Lookup.{is_defined}
 use Rattle.lx_model.specs.declared.program.Program.{Program}
-use Rattle.lx_model.specs.declared.program.ProgramFunction.{ProgramFunction}
-use Rattle.lx_model.specs.declared.program.ProgramFunction.TheVariants.{Native, Of}
+use Rattle.lx_model.specs.declared.program.ProgramFunction.TheVariants.{Native}
 use Rattle.lx_model.specs.Program.{Home, home_of_entry, is_home, is_entry, is_in, number_of, native_named, slot_named, kernel_function, Target, ToNative, ToSlot, ToImport, ToOwn, Nowhere, own, slot, native_or_slot, kernel_import, import, target_of, target}
+use Rattle.lx_model.proofs.Homes.{kernel_entry}
 
 -- an import that is called is the kernel's
 abbrev pub IsKnown : Program → Target → Type 0
@@ -18,18 +18,13 @@ IsKnown p (ToImport n) = is_in p None n ≡ true
 IsKnown p (ToOwn n) = ⊤
 IsKnown p Nowhere = ⊤
 
-kernel_entry : (f : ℕ) (e : ProgramFunction) → is_entry None f e ≡ true → is_home None (home_of_entry (Some e)) ≡ true
-kernel_entry f (Native k) is = absurd (cc)
-kernel_entry f (Of None g) is = refl
-kernel_entry f (Of (Some m) g) is = absurd (cc)
-
-numbered_in : (p : Program) (f n : ℕ) → number_of p None f ≡ Some n → is_in p None n ≡ true
+pub numbered_in : (p : Program) (f n : ℕ) → number_of p None f ≡ Some n → is_in p None n ≡ true
 numbered_in p f n is =
     let there = position-Some (is_entry None f) p.functions n (Native 0) is in
     ap (λ e. is_home None (home_of_entry e)) (slice_get-get_or p.functions n (Native 0) there.0)
     ∙ kernel_entry f (get_or p.functions n (Native 0)) there.1
 
-found_in : (p : Program) (o : Option ℕ) (n : ℕ) → option_and_then (number_of p None) o ≡ Some n → is_in p None n ≡ true
+pub found_in : (p : Program) (o : Option ℕ) (n : ℕ) → option_and_then (number_of p None) o ≡ Some n → is_in p None n ≡ true
 found_in p None n is = absurd (cc)
 found_in p (Some f) n is = numbered_in p f n is
 

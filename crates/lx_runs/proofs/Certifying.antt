@@ -1,5 +1,5 @@
 -- A run that is certified, entry by entry of its schedule.
-use Rattle.std.proofs.Common.{◌≡◌, ◌∙◌, refl, sym, ap, subst, ℕ, ◌+◌, ◌<◌, ◌≤◌, Bool, true, false, List, [], ◌∷◌, ◌++◌, length, map, drop, take, get_or, Option, Some, None, option_map, arith}
+use Rattle.std.proofs.Common.{◌≡◌, ◌∙◌, refl, sym, ap, subst, ℕ, ◌+◌, ◌<◌, ◌≤◌, true, false, List, [], ◌∷◌, ◌++◌, length, map, drop, take, get_or, Option, Some, None, option_map, arith}
 use Rattle.std.proofs.lemmas.List.{drop_all, drop_more, length-take-le, take_all, take_more}
 use Rattle.lx_caps.specs.History.{History}
 use Rattle.lx_certificates.specs.declared.Cert.{Cert}
@@ -12,10 +12,11 @@ use Rattle.lx_why.specs.Run.{StandsForWhy}
 use Rattle.lx_why.specs.Why.{behind}
 use Rattle.lx_why.specs.declared.logged.Logged.{Logged}
 use Rattle.lx_why.specs.declared.run.WhyRun.{WhyRun}
-use Rattle.lx_why.proofs.Behind.{run_more}
 use Rattle.lx_why.proofs.Certifying.{certified_more}
 use Rattle.lx_runs.specs.Reports.{broken_at}
 use Rattle.lx_runs.proofs.Wholes.{entry_if, end_if}
+use Rattle.lx_model.proofs.Turns.{run_more}
+use Rattle.lx_runs.proofs.Replays.{more as on, here, at_end, done_end}
 
 -- the first entries of a schedule are done and certified, and the others are left
 pub record HasCertified {C : Type 0} (stands : Logged C → History → Type 0) (p : Program) (script : List (List ScriptCall)) (s : List ℕ) (n : ℕ) (r : WhyRun C) (certs : List Certified) : Type 0 where
@@ -37,15 +38,6 @@ broken_from : (p : Program) (script : List (List ScriptCall)) (s : List ℕ) (n 
     → broken_at p s (opening p script) ≡ option_map (λ k. n + k) (entry_if (can_act (behind p script (take n s)) (get_or s n 0)) (broken_at p (drop (n + 1) s) (event p (get_or s n 0) (behind p script (take n s)))))
 broken_from p script s n below broken =
     broken ∙ ap (λ (ts : List ℕ). option_map (λ k. n + k) (broken_at p ts (behind p script (take n s)))) (drop_more s n 0 below)
-
-on : (b : Bool) (n : ℕ) (rest : Option ℕ) → b ≡ true → option_map (λ k. n + k) (entry_if b rest) ≡ option_map (λ k. n + 1 + k) rest
-on true n None is = refl
-on true n (Some k) is = ap Some (omega arith)
-on false n rest is = absurd cc
-
-off : (b : Bool) (n : ℕ) (rest : Option ℕ) → b ≡ false → option_map (λ k. n + k) (entry_if b rest) ≡ Some n
-off true n rest is = absurd cc
-off false n rest is = ap Some (omega arith)
 
 -- the world behind the entry that comes
 behind_more : (p : Program) (script : List (List ScriptCall)) (s : List ℕ) (n : ℕ) → n < length s → behind p script (take (n + 1) s) ≡ event p (get_or s n 0) (behind p script (take n s))
@@ -75,7 +67,7 @@ one_certified stands p script s n old new certs more cs below has works st next 
 pub broken_here : {C : Type 0} (stands : Logged C → History → Type 0) (p : Program) (script : List (List ScriptCall)) (s : List ℕ) (n : ℕ) (r : WhyRun C) (certs : List Certified) → n < length s
     → HasCertified stands p script s n r certs → can_act (behind p script (take n s)) (get_or s n 0) ≡ false → broken_at p s (opening p script) ≡ Some n
 broken_here stands p script s n r certs below has idle =
-    broken_from p script s n below has.broken ∙ off (can_act (behind p script (take n s)) (get_or s n 0)) n (broken_at p (drop (n + 1) s) (event p (get_or s n 0) (behind p script (take n s)))) idle
+    broken_from p script s n below has.broken ∙ here (can_act (behind p script (take n s)) (get_or s n 0)) n (broken_at p (drop (n + 1) s) (event p (get_or s n 0) (behind p script (take n s)))) idle
 
 -- behind the last entry
 
@@ -83,14 +75,6 @@ broken_last : (p : Program) (script : List (List ScriptCall)) (s : List ℕ) (n 
     → broken_at p s (opening p script) ≡ option_map (λ k. n + k) (broken_at p (drop n s) (behind p script (take n s)))
     → broken_at p s (opening p script) ≡ option_map (λ k. n + k) (end_if (is_done (behind p script (take n s))))
 broken_last p script s n past broken = broken ∙ ap (λ (ts : List ℕ). option_map (λ k. n + k) (broken_at p ts (behind p script (take n s)))) (drop_all n s past)
-
-at_end : (b : Bool) (n : ℕ) → b ≡ false → option_map (λ k. n + k) (end_if b) ≡ Some n
-at_end true n is = absurd cc
-at_end false n is = ap Some (omega arith)
-
-done_end : (b : Bool) (n : ℕ) → b ≡ true → option_map (λ k. n + k) (end_if b) ≡ None
-done_end true n is = refl
-done_end false n is = absurd cc
 
 pub work_left : {C : Type 0} (stands : Logged C → History → Type 0) (p : Program) (script : List (List ScriptCall)) (s : List ℕ) (n : ℕ) (r : WhyRun C) (certs : List Certified) → length s ≤ n
     → HasCertified stands p script s n r certs → is_done (behind p script (take n s)) ≡ false → broken_at p s (opening p script) ≡ Some n

@@ -1,4 +1,3 @@
-pub mod Booleans
 pub mod Formed
 pub mod Imaged
 pub mod Journal

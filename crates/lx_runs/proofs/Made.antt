@@ -15,8 +15,8 @@ use Rattle.lx_link_texts.specs.WellFormed.{IsModuleOf, IsWellFormed}
 use Rattle.lx_model.specs.declared.program.Program.{Program}
 use Rattle.lx_model.specs.declared.program.ProgramModule.{ProgramModule}
 use Rattle.lx_model.specs.Program.{module_of, module_or_empty}
-use Rattle.lx_accepted.specs.Accepted.{AreOfTexts, IsAcceptedBy, IsImageOfText}
-use Rattle.lx_accepted.specs.Laws.{AcceptedLaws}
+use Rattle.lx_simulation.specs.Accepted.{AreOfTexts, IsAcceptedBy, IsImageOfText}
+use Rattle.lx_simulation.specs.AcceptedLaws.{AcceptedLaws}
 use Rattle.lx_opening.specs.Differing.{IsFirstDifferent}
 use Rattle.lx_simulation.specs.Images.{AreFullImages}
 use Rattle.lx_runs.specs.Images.{AreMadeOf, HasPushed, IsInstrumented, IsMadeOf}

@@ -7,8 +7,8 @@ use Rattle.lx_images.specs.ImageWorld.{ImageWorld, image_opening, image_run}
 use Rattle.lx_images.specs.Shown.{image_is_whole, shown}
 use Rattle.lx_images.specs.Stands.{StandsFor}
 use Rattle.lx_threads.specs.Running.{AreRun}
-use Rattle.lx_core.specs.declared.world.World.{World as Held}
-use Rattle.lx_core.specs.Worlds.{StandsForWorld}
+use Rattle.lx_world.specs.declared.world.World.{World as Held}
+use Rattle.lx_world.specs.Worlds.{StandsForWorld}
 use Rattle.lx_linked.specs.Laws.{LinkedLaws}
 use Rattle.lx_model.specs.Account.{account}
 use Rattle.lx_model.specs.Opening.{opening_history}
@@ -19,7 +19,7 @@ use Rattle.lx_model.specs.World.{is_whole, opening, run}
 use Rattle.lx_run_laws.specs.Laws.{RunLaws}
 use Rattle.lx_simulation.specs.Images.{code_of}
 use Rattle.lx_simulation.specs.Simulation.{SimulationLaws}
-use Rattle.lx_workers.specs.Monitor.{threads_of}
+use Rattle.lx_threads.specs.Monitor.{threads_of}
 use Rattle.lx_runs.specs.Opened.{IsOpened}
 use Rattle.lx_runs.specs.Replays.{image_broken_at}
 use Rattle.lx_runs.specs.Reports.{IsAccountOfRun, IsAsked, TellsRun, broken_at}

@@ -20,7 +20,7 @@ all_left c s v = record { ran = refl; broken = same (image_broken_at c s v) } wh
   same None = refl
   same (Some k) = ap Some (omega arith)
 
-more : (b : Bool) (n : ℕ) (rest : Option ℕ) → b ≡ true → option_map (λ k. n + k) (entry_if b rest) ≡ option_map (λ k. n + 1 + k) rest
+pub more : (b : Bool) (n : ℕ) (rest : Option ℕ) → b ≡ true → option_map (λ k. n + k) (entry_if b rest) ≡ option_map (λ k. n + 1 + k) rest
 more true n None is = refl
 more true n (Some k) is = ap Some (omega arith)
 more false n rest is = absurd cc
@@ -30,7 +30,7 @@ pub one_less : (c : Code) (s : List ℕ) (v : ImageWorld) (n t : ℕ) (ts : List
 one_less c s v n t ts u left works =
     record { ran = left.ran; broken = left.broken ∙ more (can_act (shown u) t) n (image_broken_at c ts (image_event c t u)) works }
 
-here : (b : Bool) (n : ℕ) (rest : Option ℕ) → b ≡ false → option_map (λ k. n + k) (entry_if b rest) ≡ Some n
+pub here : (b : Bool) (n : ℕ) (rest : Option ℕ) → b ≡ false → option_map (λ k. n + k) (entry_if b rest) ≡ Some n
 here true n rest is = absurd cc
 here false n rest is = ap Some (omega arith)
 
@@ -38,11 +38,11 @@ pub broken_here : (c : Code) (s : List ℕ) (v : ImageWorld) (n t : ℕ) (ts : L
     → image_broken_at c s v ≡ Some n
 broken_here c s v n t ts u left idle = left.broken ∙ here (can_act (shown u) t) n (image_broken_at c ts (image_event c t u)) idle
 
-at_end : (b : Bool) (n : ℕ) → b ≡ false → option_map (λ k. n + k) (end_if b) ≡ Some n
+pub at_end : (b : Bool) (n : ℕ) → b ≡ false → option_map (λ k. n + k) (end_if b) ≡ Some n
 at_end true n is = absurd cc
 at_end false n is = ap Some (omega arith)
 
-done_end : (b : Bool) (n : ℕ) → b ≡ true → option_map (λ k. n + k) (end_if b) ≡ None
+pub done_end : (b : Bool) (n : ℕ) → b ≡ true → option_map (λ k. n + k) (end_if b) ≡ None
 done_end true n is = refl
 done_end false n is = absurd cc
 

@@ -4,7 +4,7 @@ use Rattle.lx_ir.specs.declared.module.Module.{Module}
 use Rattle.lx_annot.specs.declared.interface.Interface.{Interface}
 use Rattle.lx_model.specs.declared.program.ProgramModule.{ProgramModule}
 use Rattle.lx_image_texts.specs.Instrumented.{leaves_none, leaves_spared, GuardsBut}
-use Rattle.lx_accepted.specs.Accepted.{IsAcceptedBy, IsImageOfText}
+use Rattle.lx_simulation.specs.Accepted.{IsAcceptedBy, IsImageOfText}
 use Rattle.lx_runs.specs.declared.images.Guarding.{Guarding}
 use Rattle.lx_runs.specs.declared.images.Guarding.TheVariants.{Spared, Full}
 

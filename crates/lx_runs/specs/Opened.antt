@@ -6,8 +6,8 @@ use Rattle.lx_link_texts.specs.WellFormed.{IsWellFormed, FitsCalls}
 use Rattle.lx_model.specs.declared.program.Program.{Program}
 use Rattle.lx_model.specs.declared.program.ScriptCall.{ScriptCall}
 use Rattle.lx_images.specs.ImageWorld.{image_opening}
-use Rattle.lx_core.specs.declared.world.World.{World}
-use Rattle.lx_core.specs.Worlds.{StandsForWorld}
+use Rattle.lx_world.specs.declared.world.World.{World}
+use Rattle.lx_world.specs.Worlds.{StandsForWorld}
 use Rattle.lx_simulation.specs.Images.{code_of, AreImages}
 
 -- the world stands for the opening of a script over images of the modules of a well-formed program; the script has at most sixteen

@@ -4,8 +4,8 @@ use Rattle.lx_caps.specs.History.{History}
 use Rattle.lx_images.specs.Image.{Code}
 use Rattle.lx_images.specs.ImageWorld.{ImageWorld}
 use Rattle.lx_images.specs.Stands.{StandsFor}
-use Rattle.lx_core.specs.declared.world.World.{World as Held}
-use Rattle.lx_core.specs.Worlds.{StandsForWorld}
+use Rattle.lx_world.specs.declared.world.World.{World as Held}
+use Rattle.lx_world.specs.Worlds.{StandsForWorld}
 use Rattle.lx_slot_types.specs.Gets.{below}
 use Rattle.lx_model.specs.declared.account.ImageCount.{ImageCount}
 use Rattle.lx_model.specs.Account.{image_count}

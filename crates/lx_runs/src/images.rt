@@ -9,13 +9,13 @@ ghost use Rattle.lx_link_texts.specs.WellFormed.{IsWellFormed};
 ghost use Rattle.lx_model.specs.declared.program.ProgramModule.{ProgramModule};
 ghost use Rattle.lx_runs.specs.Images.{AreMadeOf, HasPushed, IsInstrumented, IsMadeOf};
 
-use lx_accepted::accepted_laws;
 use lx_annot::interface::Interface;
 use lx_image_check::{Checked, Refusal, check};
 use lx_instrument::{instrument_module, instrument_module_full};
 use lx_ir::module::Module;
 use lx_ir_verify::Verified;
 use lx_model::program::Program;
+use lx_simulation::accepted_laws;
 use lx_slot_types::Annotated;
 use lx_words::Memory;
 use std::alloc::Global;

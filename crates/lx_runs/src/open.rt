@@ -12,7 +12,6 @@ ghost use Rattle.lx_runs.specs.Runs.{images_of};
 use crate::images::{Guarding, images_of_program};
 use lx_annotation_tables::image_counts;
 use lx_caps::CapStore;
-use lx_core::World;
 use lx_image_check::Checked;
 use lx_input::{Besides, Input};
 use lx_model::account::ImageCount;
@@ -20,6 +19,7 @@ use lx_model::program::{Calls, Program};
 use lx_opening::{OpenFault, open_world};
 use lx_slot_types::Annotated;
 use lx_words::{Items, Memory, Schedule};
+use lx_world::World;
 use std::alloc::Global;
 
 /// The images of a program's modules, and what they have beyond the modules.

@@ -2,12 +2,12 @@
 ghost use Rattle.std.specs.Prelude.{◌≡◌, IfOk, None};
 ghost use Rattle.lx_images.specs.Image.{Code};
 ghost use Rattle.lx_images.specs.ImageWorld.{ImageWorld, image_run};
-ghost use Rattle.lx_core.specs.Worlds.{StandsForWorld};
+ghost use Rattle.lx_world.specs.Worlds.{StandsForWorld};
 ghost use Rattle.lx_runs.specs.Replays.{image_broken_at};
 
 use lx_caps::CapStore;
-use lx_core::{EventFault, World};
 use lx_words::Memory;
+use lx_world::{EventFault, World};
 
 /// Runs the threads in the order of a schedule. Where it is not whole, the answer is its first entry, counted from 0,
 /// that names a thread without work, or its length where work remains behind it.

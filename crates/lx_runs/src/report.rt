@@ -2,7 +2,7 @@
 ghost use Rattle.std.specs.Prelude.{◌≡◌, IfOk};
 ghost use Rattle.lx_images.specs.Image.{Code};
 ghost use Rattle.lx_images.specs.ImageWorld.{ImageWorld};
-ghost use Rattle.lx_core.specs.Worlds.{StandsForWorld};
+ghost use Rattle.lx_world.specs.Worlds.{StandsForWorld};
 ghost use Rattle.lx_link_texts.specs.WellFormed.{IsWellFormed};
 ghost use Rattle.lx_report.specs.Laws.{IsSchedule};
 ghost use Rattle.lx_runs.specs.Reports.{is_returned, all_returned};
@@ -10,12 +10,12 @@ ghost use Rattle.lx_runs.specs.Runs.{ReportsOf, images_of};
 
 use crate::told::Told;
 use lx_caps::CapStore;
-use lx_core::World;
 use lx_model::account::{CallOutcome, ImageCount};
 use lx_model::request::Outcome;
 use lx_report::{report, report_laws};
 use lx_simulation::simulation_laws;
 use lx_words::{Items, Memory, Name};
+use lx_world::World;
 use std::alloc::Global;
 
 /// Whether every call returned.

@@ -17,7 +17,6 @@ use crate::images::{Guarding, images_of_program};
 use lx_cap_tables::CapTables;
 use lx_caps::CapStore;
 use lx_certificates::Certs;
-use lx_core::EventFault;
 use lx_input::{Besides, Input};
 use lx_model::program::{Calls, Program};
 use lx_opening::OpenFault;
@@ -25,6 +24,7 @@ use lx_slot_types::Annotated;
 use lx_why::{Logged, WhyRun};
 use lx_why_text::{Certified, why_text};
 use lx_words::{Memory, Name, Schedule};
+use lx_world::EventFault;
 use std::alloc::Global;
 
 /// What is certified of a run under a schedule.

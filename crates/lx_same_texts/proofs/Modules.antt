@@ -2,10 +2,6 @@
 use Rattle.std.proofs.Common.{◌≡◌, Bool, true, ◌&&◌, Option, Some, None, List, [], ◌∷◌, map, refl, sym, ◌∙◌, ap}
 use Rattle.std.specs.Prelude.{bytes_eq}
 use Rattle.lx_ir.specs.declared.types.NamedType.{NamedType}
-use Rattle.lx_ir.specs.declared.module.Blank.{Blank}
-use Rattle.lx_ir.specs.declared.module.Blank.TheVariants.{Undef, Poison, Zero}
-use Rattle.lx_ir.specs.declared.module.Constant.{Constant}
-use Rattle.lx_ir.specs.declared.module.Value.TheVariants as value
 use Rattle.lx_ir.specs.declared.module.Brackets.{Brackets}
 use Rattle.lx_ir.specs.declared.module.Brackets.TheVariants as brackets
 use Rattle.lx_ir.specs.declared.module.GlobalVar.{GlobalVar}
@@ -17,15 +13,18 @@ use Rattle.lx_ir.specs.IrType.{IrType}
 use Rattle.lx_ir.specs.Init.{Init, Plain, Empty, Bytes, Group, Inits, no_more, more}
 use Rattle.lx_ir.specs.TypeNodes.{types_of_list}
 use Rattle.lx_ir.specs.Lawful.{same_scalar}
-use Rattle.lx_ir.specs.Faults.{same_blank, same_constant, same_result, same_type, same_types}
+use Rattle.lx_ir.specs.Faults.{same_result, same_type, same_types}
+use Rattle.lx_ir.proofs.Equality.{scalar_is, scalar_itself, blank_is, blank_itself, constant_is, constant_itself, result_is}
 use Rattle.lx_image_texts.specs.ImageFaults.{same_narrow}
 use Rattle.lx_image_texts.specs.Guards.{BlockText, block_text, FunctionText, function_text, unlined_global}
 use Rattle.std.specs.Prelude.{option_map}
-use Rattle.lx_image_texts.proofs.Values.{false_true, first_of, second_of, both_of, values, value_itself}
-use Rattle.lx_image_texts.proofs.Comparing.{bytes_same, bytes_itself, result_itself}
+use Rattle.std.proofs.lemmas.Bool.{and_from}
+use Rattle.lx_words.proofs.Lists.{same_bytes, bytes_itself}
+use Rattle.lx_words.proofs.Tests.{false_true, first_of, second_of}
+use Rattle.lx_image_texts.proofs.Comparing.{result_itself}
 use Rattle.lx_same_texts.specs.Same.{same_lists, same_op, same_brackets, same_init, same_inits, same_named_type, same_global, same_parameter, same_instr, same_block, same_body, same_function, same_module}
 use Rattle.lx_same_texts.specs.SameText.{SameText}
-use Rattle.lx_same_texts.proofs.Parts.{lists_are, lists_themselves, scalar_is, scalar_itself, truth_is, truth_itself, type_is, type_itself, types_themselves, result_is, op_is, op_itself}
+use Rattle.lx_same_texts.proofs.Parts.{lists_are, lists_themselves, truth_is, truth_itself, type_is, type_itself, types_themselves, op_is, op_itself}
 
 -- lists by what is compared of their elements
 
@@ -40,7 +39,7 @@ lists_meet same f law [] [] e = refl
 lists_meet same f law (x ∷ xs) (y ∷ ys) e =
     let here : f x ≡ f y = cc in
     let rest : map f xs ≡ map f ys = cc in
-    both_of (same x y) (same_lists same xs ys) (law x y here) (lists_meet same f law xs ys rest)
+    and_from (same x y) (same_lists same xs ys) (law x y here) (lists_meet same f law xs ys rest)
 lists_meet same f law [] (y ∷ ys) e = cc
 lists_meet same f law (x ∷ xs) [] e = cc
 
@@ -49,23 +48,6 @@ meets : {A : Type 0} (same : A → A → Bool) → ((x : A) → same x x ≡ tru
 meets same law a b p = ap (λ x. same a x) (sym p) ∙ law a
 
 -- initialisers
-
-constant_is : (c d : Constant) → same_constant c d ≡ true → c ≡ d
-constant_is c d e = let p : value.Constant c ≡ value.Constant d = values (value.Constant c) (value.Constant d) e in cc
-
-constant_itself : (c : Constant) → same_constant c c ≡ true
-constant_itself c = value_itself (value.Constant c)
-
-blank_is : (a b : Blank) → same_blank a b ≡ true → a ≡ b
-blank_is Undef Undef e = refl
-blank_is Poison Poison e = refl
-blank_is Zero Zero e = refl
-blank_is _ _ e = false_true e
-
-blank_itself : (b : Blank) → same_blank b b ≡ true
-blank_itself Undef = refl
-blank_itself Poison = refl
-blank_itself Zero = refl
 
 brackets_are : (a b : Brackets) → same_brackets a b ≡ true → a ≡ b
 brackets_are brackets.Struct brackets.Struct e = refl
@@ -88,7 +70,7 @@ mutual
   init_is : (x y : Init) → same_init x y ≡ true → x ≡ y
   init_is (Plain c) (Plain d) e = ap Plain (constant_is c d e)
   init_is (Empty a) (Empty b) e = ap Empty (blank_is a b e)
-  init_is (Bytes a) (Bytes b) e = ap Bytes (bytes_same a b e)
+  init_is (Bytes a) (Bytes b) e = ap Bytes (same_bytes a b e)
   init_is (Group h ts is) (Group k us js) e =
       let two = first_of (same_brackets h k && same_types (types_of_list ts) (types_of_list us)) (same_inits is js) e in
       λ j. Group (brackets_are h k (first_of (same_brackets h k) (same_types (types_of_list ts) (types_of_list us)) two) j) (list_is ts us (second_of (same_brackets h k) (same_types (types_of_list ts) (types_of_list us)) two) j) (inits_are is js (second_of (same_brackets h k && same_types (types_of_list ts) (types_of_list us)) (same_inits is js) e) j)
@@ -105,50 +87,50 @@ mutual
   init_itself (Plain c) = constant_itself c
   init_itself (Empty a) = blank_itself a
   init_itself (Bytes a) = bytes_itself a
-  init_itself (Group k ts is) = both_of (same_brackets k k && same_types (types_of_list ts) (types_of_list ts)) (same_inits is is) (both_of (same_brackets k k) (same_types (types_of_list ts) (types_of_list ts)) (brackets_themselves k) (types_themselves (types_of_list ts))) (inits_themselves is)
+  init_itself (Group k ts is) = and_from (same_brackets k k && same_types (types_of_list ts) (types_of_list ts)) (same_inits is is) (and_from (same_brackets k k) (same_types (types_of_list ts) (types_of_list ts)) (brackets_themselves k) (types_themselves (types_of_list ts))) (inits_themselves is)
 
   inits_themselves : (xs : Inits) → same_inits xs xs ≡ true
   inits_themselves no_more = refl
-  inits_themselves (more x xs) = both_of (same_init x x) (same_inits xs xs) (init_itself x) (inits_themselves xs)
+  inits_themselves (more x xs) = and_from (same_init x x) (same_inits xs xs) (init_itself x) (inits_themselves xs)
 
 -- the parts of modules
 
 named_type_is : (a b : NamedType) → same_named_type a b ≡ true → a ≡ b
 named_type_is a b e =
     let e1 = first_of (bytes_eq a.name b.name) (same_type a.ty b.ty) e in
-    λ j. record { name = bytes_same a.name b.name e1 j; ty = type_is a.ty b.ty (second_of (bytes_eq a.name b.name) (same_type a.ty b.ty) e) j }
+    λ j. record { name = same_bytes a.name b.name e1 j; ty = type_is a.ty b.ty (second_of (bytes_eq a.name b.name) (same_type a.ty b.ty) e) j }
 
 named_type_itself : (a : NamedType) → same_named_type a a ≡ true
-named_type_itself a = (both_of (bytes_eq a.name a.name) (same_type a.ty a.ty) (bytes_itself a.name) (type_itself a.ty))
+named_type_itself a = (and_from (bytes_eq a.name a.name) (same_type a.ty a.ty) (bytes_itself a.name) (type_itself a.ty))
 
 parameter_is : (a b : Parameter) → same_parameter a b ≡ true → a ≡ b
 parameter_is a b e =
     let e1 = first_of (bytes_eq a.name b.name) (same_scalar a.ty b.ty) e in
-    λ j. record { name = bytes_same a.name b.name e1 j; ty = scalar_is a.ty b.ty (second_of (bytes_eq a.name b.name) (same_scalar a.ty b.ty) e) j }
+    λ j. record { name = same_bytes a.name b.name e1 j; ty = scalar_is a.ty b.ty (second_of (bytes_eq a.name b.name) (same_scalar a.ty b.ty) e) j }
 
 parameter_itself : (a : Parameter) → same_parameter a a ≡ true
-parameter_itself a = (both_of (bytes_eq a.name a.name) (same_scalar a.ty a.ty) (bytes_itself a.name) (scalar_itself a.ty))
+parameter_itself a = (and_from (bytes_eq a.name a.name) (same_scalar a.ty a.ty) (bytes_itself a.name) (scalar_itself a.ty))
 
 global_is : (a b : GlobalVar) → same_global a b ≡ true → unlined_global a ≡ unlined_global b
 global_is a b e =
     let e3 = first_of (bytes_eq a.name b.name && same_narrow a.constant b.constant && same_type a.ty b.ty) (same_init a.init b.init) e in
     let e2 = first_of (bytes_eq a.name b.name && same_narrow a.constant b.constant) (same_type a.ty b.ty) e3 in
     let e1 = first_of (bytes_eq a.name b.name) (same_narrow a.constant b.constant) e2 in
-    λ j. record { name = bytes_same a.name b.name e1 j; constant = truth_is a.constant b.constant (second_of (bytes_eq a.name b.name) (same_narrow a.constant b.constant) e2) j; ty = type_is a.ty b.ty (second_of (bytes_eq a.name b.name && same_narrow a.constant b.constant) (same_type a.ty b.ty) e3) j; init = init_is a.init b.init (second_of (bytes_eq a.name b.name && same_narrow a.constant b.constant && same_type a.ty b.ty) (same_init a.init b.init) e) j; line = 0 }
+    λ j. record { name = same_bytes a.name b.name e1 j; constant = truth_is a.constant b.constant (second_of (bytes_eq a.name b.name) (same_narrow a.constant b.constant) e2) j; ty = type_is a.ty b.ty (second_of (bytes_eq a.name b.name && same_narrow a.constant b.constant) (same_type a.ty b.ty) e3) j; init = init_is a.init b.init (second_of (bytes_eq a.name b.name && same_narrow a.constant b.constant && same_type a.ty b.ty) (same_init a.init b.init) e) j; line = 0 }
 
 global_meets : (a b : GlobalVar) → unlined_global a ≡ unlined_global b → same_global a b ≡ true
-global_meets a b p = (both_of (bytes_eq a.name b.name && same_narrow a.constant b.constant && same_type a.ty b.ty) (same_init a.init b.init) (both_of (bytes_eq a.name b.name && same_narrow a.constant b.constant) (same_type a.ty b.ty) (both_of (bytes_eq a.name b.name) (same_narrow a.constant b.constant) (meets bytes_eq bytes_itself a.name b.name (ap (λ (g : GlobalVar). g.name) p)) (meets same_narrow truth_itself a.constant b.constant (ap (λ (g : GlobalVar). g.constant) p))) (meets same_type type_itself a.ty b.ty (ap (λ (g : GlobalVar). g.ty) p))) (meets same_init init_itself a.init b.init (ap (λ (g : GlobalVar). g.init) p)))
+global_meets a b p = (and_from (bytes_eq a.name b.name && same_narrow a.constant b.constant && same_type a.ty b.ty) (same_init a.init b.init) (and_from (bytes_eq a.name b.name && same_narrow a.constant b.constant) (same_type a.ty b.ty) (and_from (bytes_eq a.name b.name) (same_narrow a.constant b.constant) (meets bytes_eq bytes_itself a.name b.name (ap (λ (g : GlobalVar). g.name) p)) (meets same_narrow truth_itself a.constant b.constant (ap (λ (g : GlobalVar). g.constant) p))) (meets same_type type_itself a.ty b.ty (ap (λ (g : GlobalVar). g.ty) p))) (meets same_init init_itself a.init b.init (ap (λ (g : GlobalVar). g.init) p)))
 
 block_is : (a b : Block) → same_block a b ≡ true → block_text a ≡ block_text b
 block_is a b e =
     λ j. record {
-      name = bytes_same a.name b.name (first_of (bytes_eq a.name b.name) (same_lists same_instr a.instrs b.instrs) e) j;
+      name = same_bytes a.name b.name (first_of (bytes_eq a.name b.name) (same_lists same_instr a.instrs b.instrs) e) j;
       code = lists_alike same_instr (λ i. i.op) (λ x y h. op_is x.op y.op h) a.instrs b.instrs (second_of (bytes_eq a.name b.name) (same_lists same_instr a.instrs b.instrs) e) j;
     }
 
 block_meets : (a b : Block) → block_text a ≡ block_text b → same_block a b ≡ true
 block_meets a b p =
-    both_of (bytes_eq a.name b.name) (same_lists same_instr a.instrs b.instrs)
+    and_from (bytes_eq a.name b.name) (same_lists same_instr a.instrs b.instrs)
     (meets bytes_eq bytes_itself a.name b.name (ap (λ (t : BlockText). t.name) p))
     (lists_meet same_instr (λ i. i.op) (λ x y h. meets same_op op_itself x.op y.op h) a.instrs b.instrs (ap (λ (t : BlockText). t.code) p))
 
@@ -170,10 +152,10 @@ function_is a b e =
     let e3 = first_of (bytes_eq a.name b.name && same_lists same_parameter a.params b.params && same_lists bytes_eq a.locals b.locals) (same_result a.ret b.ret) e4 in
     let e2 = first_of (bytes_eq a.name b.name && same_lists same_parameter a.params b.params) (same_lists bytes_eq a.locals b.locals) e3 in
     let e1 = first_of (bytes_eq a.name b.name) (same_lists same_parameter a.params b.params) e2 in
-    λ j. record { name = bytes_same a.name b.name e1 j; params = lists_are same_parameter parameter_is a.params b.params (second_of (bytes_eq a.name b.name) (same_lists same_parameter a.params b.params) e2) j; locals = lists_are bytes_eq bytes_same a.locals b.locals (second_of (bytes_eq a.name b.name && same_lists same_parameter a.params b.params) (same_lists bytes_eq a.locals b.locals) e3) j; ret = result_is a.ret b.ret (second_of (bytes_eq a.name b.name && same_lists same_parameter a.params b.params && same_lists bytes_eq a.locals b.locals) (same_result a.ret b.ret) e4) j; blocks = body_is a.blocks b.blocks (second_of (bytes_eq a.name b.name && same_lists same_parameter a.params b.params && same_lists bytes_eq a.locals b.locals && same_result a.ret b.ret) (same_body a.blocks b.blocks) e) j }
+    λ j. record { name = same_bytes a.name b.name e1 j; params = lists_are same_parameter parameter_is a.params b.params (second_of (bytes_eq a.name b.name) (same_lists same_parameter a.params b.params) e2) j; locals = lists_are bytes_eq same_bytes a.locals b.locals (second_of (bytes_eq a.name b.name && same_lists same_parameter a.params b.params) (same_lists bytes_eq a.locals b.locals) e3) j; ret = result_is a.ret b.ret (second_of (bytes_eq a.name b.name && same_lists same_parameter a.params b.params && same_lists bytes_eq a.locals b.locals) (same_result a.ret b.ret) e4) j; blocks = body_is a.blocks b.blocks (second_of (bytes_eq a.name b.name && same_lists same_parameter a.params b.params && same_lists bytes_eq a.locals b.locals && same_result a.ret b.ret) (same_body a.blocks b.blocks) e) j }
 
 function_meets : (a b : Function) → function_text a ≡ function_text b → same_function a b ≡ true
-function_meets a b p = (both_of (bytes_eq a.name b.name && same_lists same_parameter a.params b.params && same_lists bytes_eq a.locals b.locals && same_result a.ret b.ret) (same_body a.blocks b.blocks) (both_of (bytes_eq a.name b.name && same_lists same_parameter a.params b.params && same_lists bytes_eq a.locals b.locals) (same_result a.ret b.ret) (both_of (bytes_eq a.name b.name && same_lists same_parameter a.params b.params) (same_lists bytes_eq a.locals b.locals) (both_of (bytes_eq a.name b.name) (same_lists same_parameter a.params b.params) (meets bytes_eq bytes_itself a.name b.name (ap (λ (t : FunctionText). t.name) p)) (meets (same_lists same_parameter) (lists_themselves same_parameter parameter_itself) a.params b.params (ap (λ (t : FunctionText). t.params) p))) (meets (same_lists bytes_eq) (lists_themselves bytes_eq bytes_itself) a.locals b.locals (ap (λ (t : FunctionText). t.locals) p))) (meets same_result result_itself a.ret b.ret (ap (λ (t : FunctionText). t.ret) p))) (body_meets a.blocks b.blocks (ap (λ (t : FunctionText). t.blocks) p)))
+function_meets a b p = (and_from (bytes_eq a.name b.name && same_lists same_parameter a.params b.params && same_lists bytes_eq a.locals b.locals && same_result a.ret b.ret) (same_body a.blocks b.blocks) (and_from (bytes_eq a.name b.name && same_lists same_parameter a.params b.params && same_lists bytes_eq a.locals b.locals) (same_result a.ret b.ret) (and_from (bytes_eq a.name b.name && same_lists same_parameter a.params b.params) (same_lists bytes_eq a.locals b.locals) (and_from (bytes_eq a.name b.name) (same_lists same_parameter a.params b.params) (meets bytes_eq bytes_itself a.name b.name (ap (λ (t : FunctionText). t.name) p)) (meets (same_lists same_parameter) (lists_themselves same_parameter parameter_itself) a.params b.params (ap (λ (t : FunctionText). t.params) p))) (meets (same_lists bytes_eq) (lists_themselves bytes_eq bytes_itself) a.locals b.locals (ap (λ (t : FunctionText). t.locals) p))) (meets same_result result_itself a.ret b.ret (ap (λ (t : FunctionText). t.ret) p))) (body_meets a.blocks b.blocks (ap (λ (t : FunctionText). t.blocks) p)))
 
 -- modules
 
@@ -188,7 +170,7 @@ module_is a b e =
     }
 
 pub module_meets : (a b : Module) → SameText a b → same_module a b ≡ true
-module_meets a b s = (both_of (same_lists same_named_type a.types b.types && same_lists same_global a.globals b.globals) (same_lists same_function a.functions b.functions) (both_of (same_lists same_named_type a.types b.types) (same_lists same_global a.globals b.globals) (meets (same_lists same_named_type) (lists_themselves same_named_type named_type_itself) a.types b.types s.types) (lists_meet same_global unlined_global global_meets a.globals b.globals s.globals)) (lists_meet same_function function_text function_meets a.functions b.functions s.functions))
+module_meets a b s = (and_from (same_lists same_named_type a.types b.types && same_lists same_global a.globals b.globals) (same_lists same_function a.functions b.functions) (and_from (same_lists same_named_type a.types b.types) (same_lists same_global a.globals b.globals) (meets (same_lists same_named_type) (lists_themselves same_named_type named_type_itself) a.types b.types s.types) (lists_meet same_global unlined_global global_meets a.globals b.globals s.globals)) (lists_meet same_function function_text function_meets a.functions b.functions s.functions))
 
 -- what a test says, from what it is
 pub told : (a b : Module) (r : Bool) → r ≡ same_module a b → r ≡ true → SameText a b

@@ -1,4 +1,9 @@
 //! Modules compared as texts. The lines in which their parts stand do not count.
+//!
+//! ```text
+//! // `@g = global i32 0` in line 1 and the same in line 3 are one text; with `i32 1` they are not.
+//! is_same_text(&one, &other);
+//! ```
 #![tactic(auto)]
 
 ghost use Rattle.std.specs.Prelude.{◌≡◌, IsTrue};

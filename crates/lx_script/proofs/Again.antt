@@ -1,8 +1,9 @@
 -- What is in the grammar is read.
 use Rattle.std.proofs.Common.{◌≡◌, ℕ, ◌+◌, ◌<◌, ◌≤◌, List, [], ◌∷◌, ◌++◌, length, Bool, true, false, None, Result, Ok, Err, ◌⊎◌, inl, inr, refl, sym, ap, ◌∙◌, arith}
 use Rattle.std.specs.Prelude.{codes, bytes_eq, position, is_some, not, nat_lt, nat_le, ◌==◌}
-use Rattle.std.proofs.lemmas.Bool.{cond-false, ltb-true, leb-true, eqb-true, false_from_ne_true}
+use Rattle.std.proofs.lemmas.Bool.{cond-false, ltb-true, eqb-true, false_from_ne_true}
 use Rattle.std.proofs.lemmas.Slice.Eq.{bytes_eq-Decides}
+use Rattle.lx_words.proofs.Tests.{not_at_most}
 use Rattle.lx_script.specs.declared.case.Origin.{Origin}
 use Rattle.lx_script.specs.declared.case.Origin.TheVariants as origins
 use Rattle.lx_script.specs.declared.case.CaseArg.{CaseArg}
@@ -44,9 +45,6 @@ interface_in row (origins.File name) = refl
 not_below : (m n : ℕ) → n ≤ m → nat_lt m n ≡ false
 not_below m n h = false_from_ne_true (nat_lt m n) (λ t. omega (arith, ltb-true m n t))
 
-not_up_to : (m n : ℕ) → n < m → nat_le m n ≡ false
-not_up_to m n h = false_from_ne_true (nat_le m n) (λ t. omega (arith, leb-true m n t))
-
 not_zero : (n : ℕ) → 0 < n → (n == 0) ≡ false
 not_zero n h = false_from_ne_true (n == 0) (λ t. omega (arith, eqb-true n 0 t))
 
@@ -55,11 +53,11 @@ module_in : (d : Draft) (row : ℕ) (name file : List ℕ) → d.threads ≡ [] 
 unfolding statement_at statement_by module_at module_named file_of_module word_at end_at
 module_in d row name file none room named first =
     let a : nat_lt 0 (length d.threads) ≡ false = not_below 0 (length d.threads) (omega (arith, ap length none)) in
-    cond-false (nat_lt 0 (length d.threads)) _ _ a ∙ cond-false (nat_le most_modules (length d.modules)) _ _ (not_up_to most_modules (length d.modules) room) ∙ cond-false (not (is_module_name name)) _ _ (ap not named) ∙ cond-false (is_some (position (bytes_eq name) (names_of d.modules))) _ _ (ap is_some first)
+    cond-false (nat_lt 0 (length d.threads)) _ _ a ∙ cond-false (nat_le most_modules (length d.modules)) _ _ (not_at_most most_modules (length d.modules) room) ∙ cond-false (not (is_module_name name)) _ _ (ap not named) ∙ cond-false (is_some (position (bytes_eq name) (names_of d.modules))) _ _ (ap is_some first)
 
 thread_in : (d : Draft) (row : ℕ) → length d.threads < most_threads → statement_at d (left row None (codes "thread" ∷ [])) ≡ Ok (record { modules = d.modules; threads = d.threads ++ [] ∷ [] })
 unfolding statement_at statement_by thread_at word_at end_at
-thread_in d row room = cond-false (nat_le most_threads (length d.threads)) _ _ (not_up_to most_threads (length d.threads) room)
+thread_in d row room = cond-false (nat_le most_threads (length d.threads)) _ _ (not_at_most most_threads (length d.threads) room)
 
 -- arguments
 no_argument : (names : List (List ℕ)) (row : ℕ) (a : CaseArg) → argument_at names row (codes "fuel") ≡ Ok a → ⊥
@@ -93,7 +91,7 @@ call_in_thread : (d : Draft) (row : ℕ) (target fuel : List ℕ) (words : List 
 unfolding statement_at statement_by call_at word_at
 call_in_thread d row target fuel words call some room t a f fits l =
     cond-false (length d.threads == 0) _ _ (not_zero (length d.threads) some)
-    ∙ cond-false (nat_le most_calls (call_count d.threads)) _ _ (not_up_to most_calls (call_count d.threads) room)
+    ∙ cond-false (nat_le most_calls (call_count d.threads)) _ _ (not_at_most most_calls (call_count d.threads) room)
     ∙ ap (λ r. r >>= λ call. Ok (record { modules = d.modules; threads = with_call call d.threads })) (called_in (names_of d.modules) row (fuel_sum d.threads) target fuel words call t a f fits l)
 
 statement_read : (d : Draft) (s : Statement) (e : Draft) → Stands d s e → statement_at d s ≡ Ok e

@@ -2,7 +2,8 @@
 use Rattle.std.proofs.Common.{◌≡◌, ℕ, ◌+◌, List, [], ◌∷◌, ◌++◌, length, Bool, true, false, cond, Option, Some, None, Result, Ok, Err, ◌⊎◌, inl, inr, refl, sym, ap, ◌∙◌, subst, arith}
 use Rattle.std.specs.Prelude.{codes, bytes_eq, position, is_some, not, nat_lt, nat_le, ◌==◌}
 use Rattle.std.proofs.lemmas.Bool.{ltb-false, leb-false, not-false, eqb-false}
-use Rattle.std.proofs.lemmas.Slice.Eq.{bytes_eq-Decides}
+use Rattle.lx_words.proofs.Lists.{same_bytes}
+use Rattle.lx_words.proofs.Options.{no_value}
 use Rattle.lx_script.specs.declared.case.Origin.{Origin}
 use Rattle.lx_script.specs.declared.case.Origin.TheVariants as origins
 use Rattle.lx_script.specs.declared.case.CaseArg.{CaseArg}
@@ -39,9 +40,6 @@ ended_by row (Some b) (w ∷ ws) u e = cc
 ended : (s : Statement) (u : Unit {0}) → end_at s ≡ Ok u → Has s []
 unfolding end_at
 ended s u e = ended_by s.row s.stop s.words u e
-
-same_bytes : (a b : List ℕ) → bytes_eq a b ≡ true → a ≡ b
-same_bytes a b e = (bytes_eq-Decides a b).0 e
 
 -- which way a test went
 abbrev Ways : {A : Type 0} → Bool → Result A Fault → Result A Fault → A → Type 0
@@ -119,11 +117,6 @@ origin_is keyword s o e =
     let p = place_is s.row w.0.0 w.0.1 o w.2 in
     before s a.0 keyword _ (fixed_taken keyword s a.0 a.1) (t.words ∙ p.0, sym t.stop ∙ p.1)
 
--- the statements behind the first three
-is_none : {A : Type 0} (o : Option A) → is_some o ≡ false → o ≡ None
-is_none None e = refl
-is_none (Some x) e = cc
-
 no_threads : (ts : List (List CaseCall)) → nat_lt 0 (length ts) ≡ false → ts ≡ []
 no_threads [] e = refl
 no_threads (t ∷ ts) e = absurd (omega (arith, ltb-false 0 (length (t ∷ ts)) e))
@@ -152,7 +145,7 @@ module_is d s0 s e first h =
       no_thread = no_threads d.threads a.0;
       room = leb-false most_modules (length d.modules) b.0;
       named = not-false (is_module_name name) n.0;
-      first = is_none (position (bytes_eq name) (names_of d.modules)) p.0;
+      first = no_value (position (bytes_eq name) (names_of d.modules)) p.0;
       is = f.2;
     }
 

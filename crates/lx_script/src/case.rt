@@ -4,7 +4,7 @@ use lx_words::{Items, Name};
 use std::marker::Model;
 
 /// Where a text comes from.
-#[derive(Debug, Drop)]
+#[derive(Drop)]
 pub enum Origin {
     /// There is none.
     None,
@@ -15,25 +15,38 @@ pub enum Origin {
 }
 
 /// A module: its name, and the name of its file.
-#[derive(Debug, Drop)]
 pub struct CaseModule {
     pub name: Name,
     pub file: Name,
+}
+
+impl Drop for CaseModule {
+    fn drop(self) {
+        let CaseModule { name: _, file: _ } = self;
+    }
 }
 
 /// The modules of a case, in order.
 pub type CaseModules = Items<CaseModule>;
 
 /// A function that is called.
-#[derive(Debug, Drop)]
 pub struct CaseTarget {
     /// The number of the case's module; none is the kernel.
     pub module: Option<u32>,
     pub function: Name,
 }
 
+impl Drop for CaseTarget {
+    fn drop(self) {
+        let CaseTarget {
+            module: _,
+            function: _,
+        } = self;
+    }
+}
+
 /// An argument of a call.
-#[derive(Debug, Drop)]
+#[derive(Drop)]
 pub enum CaseArg {
     /// A number from -2^63 to 2^64 - 1.
     Number(i128),
@@ -45,12 +58,22 @@ pub enum CaseArg {
 pub type CaseArgs = Items<CaseArg>;
 
 /// A call: whom, with what, with how much fuel, and the line in which it stands.
-#[derive(Debug, Drop)]
 pub struct CaseCall {
     pub target: CaseTarget,
     pub args: CaseArgs,
     pub fuel: u32,
     pub line: u32,
+}
+
+impl Drop for CaseCall {
+    fn drop(self) {
+        let CaseCall {
+            target: _,
+            args: _,
+            fuel: _,
+            line: _,
+        } = self;
+    }
 }
 
 /// The calls of a thread, in order.
@@ -61,12 +84,22 @@ pub type CaseThreads = Items<CaseThread>;
 
 /// A case: where kernel and interface come from, the modules, and the calls of each thread. It has at most 64
 /// modules, 16 threads, 4,096 calls and 1,048,576 units of fuel in all.
-#[derive(Debug, Drop)]
 pub struct Case {
     pub kernel: Origin,
     pub interface: Origin,
     pub modules: CaseModules,
     pub threads: CaseThreads,
+}
+
+impl Drop for Case {
+    fn drop(self) {
+        let Case {
+            kernel: _,
+            interface: _,
+            modules: _,
+            threads: _,
+        } = self;
+    }
 }
 
 impl Model for Case {

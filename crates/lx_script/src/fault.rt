@@ -11,7 +11,7 @@ use std::alloc::{AllocError, AllocFailed, Global};
 use thiserror::Error;
 
 /// What kind of fault a text has.
-#[derive(Clone, Copy, Debug, PartialEq, Eq)]
+#[derive(Clone, Copy)]
 pub enum FaultKind {
     Lexical,
     Statement,
@@ -22,7 +22,7 @@ pub enum FaultKind {
 }
 
 /// A fault that is met in a line, counted from 1, and the words that name it.
-#[derive(Debug, Drop)]
+#[derive(Drop)]
 pub struct Fault {
     pub kind: FaultKind,
     pub line: u32,
@@ -30,7 +30,7 @@ pub struct Fault {
 }
 
 /// Why a part of a text could not be read.
-#[derive(Debug, Drop)]
+#[derive(Drop)]
 pub enum ReadError {
     Fault(Fault),
     Memory,

@@ -17,7 +17,7 @@ use Rattle.lx_model.specs.declared.program.Program.{Program}
 use Rattle.lx_model.specs.declared.request.Reply.TheVariants.{Entered}
 use Rattle.lx_model.specs.declared.request.Way.TheVariants.{Script, Direct}
 use Rattle.lx_model.specs.declared.request.What.TheVariants as what
-use Rattle.lx_model.specs.Program.{Home, home_of, is_home, is_in, is_module_function, annotation_of, no_annotation}
+use Rattle.lx_model.specs.Program.{Home, home_of, is_in, is_module_function, annotation_of, no_annotation}
 use Rattle.lx_model.specs.State.{State}
 use Rattle.lx_model.specs.Enter.{Running, runs_in, runs_by, found_nothing, instance_named, instance_of}
 use Rattle.lx_model.specs.Serve.{entering_as}
@@ -26,6 +26,7 @@ use Rattle.lx_serve.specs.Stands.{Keeps, Gives, Tries}
 use Rattle.lx_serve.specs.declared.halt.Halt.{Halt}
 use Rattle.lx_serve.specs.declared.halt.Halt.TheVariants.{Ended, Memory}
 use Rattle.lx_serve.specs.declared.monitor.Monitor.{Monitor}
+use Rattle.lx_model.proofs.Homes.{kernel_home}
 
 named_by : (names : Namings) (m v : ℕ) (found : Option ℕ) → (instance_of names m v found ≡ record { principal = Inst m (unwrap_or found (instance_count names m)); names = with_name names m v found })
 named_by names m v None = refl
@@ -48,11 +49,6 @@ pub script_halts : {C : Type 0} (stands : C → History → Type 0) (p : Program
     → RunsAs stands p m s (runs_in p s n args (home_of p n)) (Err e) → Tries stands p m s t by (what.Enter (Script n) args) (Err e)
 script_halts stands p m s t by n args (Ended o) run = (ap found_nothing run.1 ∙ ap Some (sym run.2), run.3)
 script_halts stands p m s t by n args Memory run = (ap found_nothing run.1, run.2)
-
-kernel_home : (home : Option Home) → is_home None home ≡ true → home ≡ Some None
-kernel_home None is = absurd cc
-kernel_home (Some None) is = refl
-kernel_home (Some (Some m)) is = absurd cc
 
 kernel_runs : (p : Program) (s : State) (n : ℕ) (args : List Word) → IsTrue (is_in p None n) → runs_in p s n args (home_of p n) ≡ Ok (record { principal = Kernel; names = s.names })
 kernel_runs p s n args is = ap (runs_in p s n args) (kernel_home (home_of p n) is)

@@ -1,5 +1,5 @@
 -- Which ranges lie in memory, and what is decided of writes.
-use Rattle.std.proofs.Common.{◌≡◌, refl, ℕ, ◌+◌, ◌^◌, ◌<◌, ◌≤◌, true, arith}
+use Rattle.std.proofs.Common.{◌≡◌, refl, ℕ, ◌+◌, ◌<◌, ◌≤◌, true, arith}
 use Rattle.std.proofs.lemmas.Bool.Decides.{nat_tests}
 use Rattle.lx_caps.specs.declared.Principal.{Principal}
 use Rattle.lx_caps.specs.declared.Principal.TheVariants.{Kernel, Shared, Global, Inst}
@@ -21,7 +21,3 @@ write_decided s Kernel at size = refl
 write_decided s (Shared m) at size = refl
 write_decided s (Global m) at size = refl
 write_decided s (Inst m k) at size = refl
-
--- a slot that lies in memory ends below the end of the address space
-pub slot_end : (slot : ℕ) → mapped slot 8 ≡ true → slot + 8 ≤ 2 ^ 64
-slot_end slot is = grind (arith, nat_tests)

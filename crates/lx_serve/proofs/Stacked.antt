@@ -1,6 +1,5 @@
 -- What it means for a request that it may be served.
-use Rattle.std.proofs.Common.{◌≡◌, ◌∙◌, ap, sym, ℕ, ◌≤◌, true, arith}
-use Rattle.std.specs.Prelude.{nat_le}
+use Rattle.std.proofs.Common.{◌≡◌, ◌∙◌, ap, sym, ℕ, ◌≤◌, true, arith, leb-true}
 use Rattle.std.proofs.lemmas.Bool.Decides.{nat_tests}
 use Rattle.lx_caps.specs.Regions.{stack_start}
 use Rattle.lx_model.specs.declared.program.Program.{Program}
@@ -9,12 +8,9 @@ use Rattle.lx_model.specs.declared.request.What.TheVariants as what
 use Rattle.lx_model.specs.Fits.{FitsStack}
 use Rattle.lx_run_laws.specs.Servable.{is_on_stack, is_servable_what}
 
-at_least : (x y : ℕ) → nat_le x y ≡ true → x ≤ y
-at_least x y is = grind (arith, nat_tests)
-
 -- bytes of the stack are asked for at or above its start
 pub from_start : (p : Program) (t at size : ℕ) (w : What) → w ≡ what.Alloca at size → is_servable_what p t w ≡ true → stack_start t ≤ at
-from_start p t at size w is servable = at_least (stack_start t) at (ap (is_servable_what p t) (sym is) ∙ servable)
+from_start p t at size w is servable = leb-true (stack_start t) at (ap (is_servable_what p t) (sym is) ∙ servable)
 
 part_of : (t low high : ℕ) → is_on_stack t low high ≡ true → FitsStack t low high
 part_of t low high on = (grind (arith, nat_tests), grind (arith, nat_tests), grind (arith, nat_tests))

@@ -1,7 +1,7 @@
 -- What a lawful caller asks may be served.
-use Rattle.std.proofs.Common.{◌≡◌, ◌∙◌, ℕ, suc, ◌<◌, ◌≤◌, Bool, true, refl, ap, List}
+use Rattle.std.proofs.Common.{◌≡◌, ℕ, true, refl, List, lt-ltb}
 use Rattle.std.specs.Prelude.{◌&&◌, nat_le, nat_lt}
-use Rattle.std.proofs.lemmas.Bool.{le-leb}
+use Rattle.std.proofs.lemmas.Bool.{le-leb, and_from}
 use Rattle.lx_words.specs.Word.{Word}
 use Rattle.lx_caps.specs.Regions.{stack_start, stack_end}
 use Rattle.lx_caps.specs.declared.Principal.{Principal}
@@ -14,15 +14,6 @@ use Rattle.lx_model.specs.declared.request.What.TheVariants as what
 use Rattle.lx_model.specs.Fits.{Fits, FitsWay, FitsWhat}
 use Rattle.lx_run_laws.specs.Servable.{is_servable, is_servable_way, is_servable_what}
 
-both : (a b : Bool) → a ≡ true → b ≡ true → (a && b) ≡ true
-both a b is also = ap (λ c. c && b) is ∙ also
-
-at_most : (m n : ℕ) → m ≤ n → nat_le m n ≡ true
-at_most m n h = le-leb m n h
-
-below : (m n : ℕ) → m < n → nat_lt m n ≡ true
-below m n h = le-leb (suc m) n h
-
 fitting_way : (p : Program) (w : Way) (args : List Word) → FitsWay p w args → is_servable_way p w ≡ true
 fitting_way p (way.Script n) args fits = refl
 fitting_way p (way.Direct n) args fits = fits.0
@@ -34,14 +25,14 @@ fitting_what p t who (what.Load at width) fits = refl
 fitting_what p t who (what.Store at v) fits = refl
 fitting_what p t who (what.Copy to from len) fits = refl
 fitting_what p t who (what.Fill to byte len) fits = refl
-fitting_what p t who (what.Alloca at size) fits = at_most (stack_start t) at fits.0
+fitting_what p t who (what.Alloca at size) fits = le-leb (stack_start t) at fits.0
 fitting_what p t who (what.Return low high) fits =
-    both (nat_le (stack_start t) low) (nat_le low high && nat_le high (stack_end t)) (at_most (stack_start t) low fits.0)
-    (both (nat_le low high) (nat_le high (stack_end t)) (at_most low high fits.1) (at_most high (stack_end t) fits.2))
+    and_from (nat_le (stack_start t) low) (nat_le low high && nat_le high (stack_end t)) (le-leb (stack_start t) low fits.0)
+    (and_from (nat_le low high) (nat_le high (stack_end t)) (le-leb low high fits.1) (le-leb high (stack_end t) fits.2))
 fitting_what p t who (what.Enter w args) fits = fitting_way p w args fits
 fitting_what p t who (what.Perform n post k env source dest) fits = refl
 fitting_what p t who (what.Native k args) fits = refl
 fitting_what p t who (what.Finish o) fits = refl
 
 pub fitting_servable : (p : Program) (t : ℕ) (r : Request) → Fits p t r → is_servable p t r ≡ true
-fitting_servable p t r fits = both (nat_lt t 16) (is_servable_what p t r.what) (below t 16 fits.0) (fitting_what p t r.who r.what fits.2)
+fitting_servable p t r fits = and_from (nat_lt t 16) (is_servable_what p t r.what) (lt-ltb t 16 fits.0) (fitting_what p t r.who r.what fits.2)

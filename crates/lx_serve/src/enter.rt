@@ -24,11 +24,11 @@ use lx_annot::action::{Annotation, Who};
 use lx_annot::expr::Expr;
 use lx_annot::value::value_at_entry;
 use lx_call_targets::{home_of, is_module_function};
-use lx_caps::{CapStore, Memory, Principal};
+use lx_caps::{CapStore, Principal};
 use lx_memory::Space;
 use lx_model::program::Program;
 use lx_model::request::Reply;
-use lx_words::Words;
+use lx_words::{Memory, Words};
 
 fn principal_of(annotation: Option<&Annotation>) -> Option<&Who>
     ensures { option_copied result ≡ (unwrap_or (option_copied annotation.entry) no_annotation).principal }

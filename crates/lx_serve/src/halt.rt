@@ -1,7 +1,6 @@
 //! Why a request is not done.
-use lx_caps::Memory as WantOfCaps;
 use lx_model::request::Outcome;
-use lx_words::Memory as WantOfMemory;
+use lx_words::Memory;
 
 /// Why a request is not done.
 #[derive(Clone, Copy)]
@@ -12,24 +11,13 @@ pub(crate) enum Halt {
     Memory,
 }
 
-impl From<WantOfCaps> for Halt {
+impl From<Memory> for Halt {
     ghost use Rattle.std.specs.Prelude.{◌≡◌};
     ghost use Rattle.lx_serve.specs.declared.halt.Halt.TheVariants.{Memory};
 
     ghost from_gives = { λ _ e. e ≡ Memory };
 
-    fn from(_: WantOfCaps) -> Self {
-        Halt::Memory
-    }
-}
-
-impl From<WantOfMemory> for Halt {
-    ghost use Rattle.std.specs.Prelude.{◌≡◌};
-    ghost use Rattle.lx_serve.specs.declared.halt.Halt.TheVariants.{Memory};
-
-    ghost from_gives = { λ _ e. e ≡ Memory };
-
-    fn from(_: WantOfMemory) -> Self {
+    fn from(_: Memory) -> Self {
         Halt::Memory
     }
 }

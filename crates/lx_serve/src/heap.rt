@@ -4,7 +4,6 @@ ghost use Rattle.lx_caps.specs.Heap.{Blocks, alloc_address, is_live, without_blo
 ghost use Rattle.lx_memory.specs.Heaps.{with_block};
 ghost use Rattle.lx_serve.specs.Blocks.{AreKept};
 
-use lx_caps::Memory as WantOfCaps;
 use lx_memory::{KHeap, NotLive};
 use lx_words::Memory;
 use std::alloc::Global;
@@ -22,7 +21,7 @@ pub(crate) fn no_blocks(alloc: Global) -> Result<KHeap, Memory>
 
 /// Gives out so many bytes, if they fit anywhere.
 #[tactic(auto, unfolding(crate::specs::Blocks::AreKept))]
-pub(crate) fn give_out(heap: &mut KHeap, size: u64) -> Result<u64, WantOfCaps>
+pub(crate) fn give_out(heap: &mut KHeap, size: u64) -> Result<u64, Memory>
     ensures given { IfOk result (λ at. (bs : Blocks) → AreKept heap.old bs → at ≡ alloc_address bs size) }
     ensures live { IfOk result (λ at. (bs : Blocks) → AreKept heap.old bs → AreKept heap.new (with_block at size bs)) }
     ensures err { OnErr result (heap.new ≡ heap.old) }

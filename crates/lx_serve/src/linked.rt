@@ -8,10 +8,15 @@ use std::alloc::Global;
 use std::sync::Arc;
 
 /// A linked program, which the code that runs it shares.
-#[derive(Drop)]
 pub(crate) struct LinkedProgram {
     program: Arc<Program>,
     ghost linked: { IsLinked (arc_value program) },
+}
+
+impl Drop for LinkedProgram {
+    fn drop(self) {
+        let LinkedProgram { program: _ } = self;
+    }
 }
 
 impl LinkedProgram {

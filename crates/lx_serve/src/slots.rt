@@ -74,7 +74,7 @@ impl<C: CapStore + Drop> Monitor<C> {
     }
 
     /// The function that a slot holds, where a call through the slot may enter it.
-    #[tactic(auto, using(crate::proofs::Places::slot_end, crate::proofs::Targeted::slot_unmapped, crate::proofs::Targeted::slot_mapped))]
+    #[tactic(auto, using(lx_caps::proofs::Covering::slot_end, crate::proofs::Targeted::slot_unmapped, crate::proofs::Targeted::slot_mapped))]
     fn in_slot(&self, program: &Program, who: Principal, slot: u64, ty: u32) -> Result<u32, Halt>
         requires { IsLinked program.now }
         ensures { (s : State) → Keeps C.stands program.now self.now s

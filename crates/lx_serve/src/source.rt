@@ -13,7 +13,7 @@ use lx_annot::interface::Interface;
 use lx_model::program::Program;
 
 /// Where the annotation of a function stands in the interface.
-#[derive(Clone, Copy, Debug, PartialEq, Eq)]
+#[derive(Clone, Copy)]
 pub enum Source {
     /// At the slot type with this number.
     Slot(u32),

@@ -10,10 +10,18 @@ use std::alloc::Global;
 
 /// The canonical texts of the annotations of slot types and of exports, in the order of the interface. They are made before
 /// the first call, so that to compare annotations takes no memory.
-#[derive(Drop)]
 pub(crate) struct Texts {
     slots: Names,
     exports: Names,
+}
+
+impl Drop for Texts {
+    fn drop(self) {
+        let Texts {
+            slots: _,
+            exports: _,
+        } = self;
+    }
 }
 
 fn slot_text(alloc: Global, i: &Interface, slot: &Slot) -> Result<Name, Memory>

@@ -1,8 +1,9 @@
 -- A program with the images of its modules is accepted.
-use Rattle.std.proofs.Common.{◌≡◌, ℕ, zero, suc, ◌+◌, ◌<◌, ◌≤◌, Bool, true, false, not, List, [], ◌∷◌, ◌++◌, length, map, take, drop, Option, Some, None, ◌⊎◌, inl, inr, refl, sym, subst, ◌∙◌, ap, arith}
+use Rattle.std.proofs.Common.{◌≡◌, ℕ, zero, suc, ◌+◌, ◌<◌, ◌≤◌, Bool, true, false, not, List, [], ◌∷◌, ◌++◌, length, map, take, drop, Option, Some, None, inl, inr, refl, sym, subst, ◌∙◌, ap, arith}
 use Rattle.std.specs.Prelude.{slice_get, option_map, option_and_then, filter, cond, nat_eq, unwrap_or, codes}
 use Rattle.std.specs.List.{list_all, starts_with}
 use Rattle.std.proofs.lemmas.Option.{slice_get-map, slice_get_past}
+use Rattle.std.proofs.lemmas.Bool.{cases_lt, and_from}
 use Rattle.lx_ir.specs.declared.module.Block.{Block}
 use Rattle.lx_ir.specs.declared.module.Function.{Function}
 use Rattle.lx_ir.specs.declared.module.GlobalVar.{GlobalVar}
@@ -25,13 +26,15 @@ use Rattle.lx_model.specs.declared.program.ProgramFunction.TheVariants.{Of, Nati
 use Rattle.lx_model.specs.Program.{home_of_entry, function_of_entry, kernel_function, module_of, module_or_empty}
 use Rattle.lx_model.specs.Thread.{code_block_of, routine_of, routine_or_none}
 use Rattle.lx_images.specs.Code.{Code, image_routine, image_of_entry, wrapped_name, out_import}
-use Rattle.lx_simulation.proofs.Wrapping.{images_wrap, split_at, guarded_names, joined, front, there_is}
+use Rattle.lx_simulation.proofs.Wrapping.{images_wrap, split_at, guarded_names, front}
 use Rattle.lx_images.specs.Guarded.{bare_of, bare_among, image_block, routine_in_image, guarded_routine, function_spares_well, CallsOutIf, CallsOut, Accepted}
 use Rattle.lx_images.specs.HasImages.{HasImages}
 use Rattle.lx_images.specs.Places.{IsIn}
-use Rattle.lx_simulation.proofs.Elements.{some_is, none_some, true_not, all_in, in_flat, in_got, in_map, in_second}
+use Rattle.lx_simulation.proofs.Elements.{none_some, all_in, in_flat, in_got, in_map, in_second}
 use Rattle.lx_simulation.proofs.Verifying.{sound}
 use Rattle.lx_simulation.proofs.Imaging.{function_shown}
+use Rattle.lx_caps.proofs.Tests.{true_false}
+use Rattle.lx_caps.proofs.Items.{all_at, some_same, there, got_past}
 
 -- the names of the image's functions
 
@@ -62,17 +65,10 @@ got_take (x ∷ xs) zero k h = absurd (omega (arith, h))
 got_take (x ∷ xs) (suc n) zero h = refl
 got_take (x ∷ xs) (suc n) (suc k) h = got_take xs n k (omega (arith, h))
 
-got_past : {A : Type 0} (xs ys : List A) (k : ℕ) → slice_get (xs ++ ys) (length xs + k) ≡ slice_get ys k
-got_past [] ys k = let e : 0 + k ≡ k = omega arith in ap (slice_get ys) e
-got_past (x ∷ xs) ys k = let e : suc (length xs) + k ≡ suc (length xs + k) = omega arith in ap (slice_get (x ∷ (xs ++ ys))) e ∙ got_past xs ys k
-
 got_first : {A : Type 0} (xs ys : List A) (k : ℕ) (x : A) → slice_get xs k ≡ Some x → slice_get (xs ++ ys) k ≡ Some x
 got_first [] ys k x e = cc
 got_first (y ∷ xs) ys zero x e = e
 got_first (y ∷ xs) ys (suc k) x e = got_first xs ys k x e
-
-some_of : {A : Type 0} {x y : A} → ◌≡◌ {A = Option A} (Some x) (Some y) → x ≡ y
-some_of e = cc
 
 -- an import's wrapper stands behind as many as there are before it
 wrapped_cases : (y : Function) (ys : List Function) (k : ℕ) (x : Function) (b : Bool) → is_wrapped y ≡ b →
@@ -86,13 +82,8 @@ first_wrapped y ys x false same t = cc
 
 wrapped_at : (ys : List Function) (k : ℕ) (x : Function) → slice_get ys k ≡ Some x → is_wrapped x ≡ true → slice_get (filter is_wrapped ys) (wrapped_before ys k) ≡ Some x
 wrapped_at [] k x e t = cc
-wrapped_at (y ∷ ys) zero x e t = first_wrapped y ys x (is_wrapped y) (some_of e) (ap is_wrapped (some_of e) ∙ t)
+wrapped_at (y ∷ ys) zero x e t = first_wrapped y ys x (is_wrapped y) (some_same e) (ap is_wrapped (some_same e) ∙ t)
 wrapped_at (y ∷ ys) (suc k) x e t = wrapped_cases y ys k x (is_wrapped y) refl (wrapped_at ys k x e t)
-
-pub all_at : {A : Type 0} (p : A → Bool) (ys : List A) (k : ℕ) (x : A) → list_all p ys ≡ true → slice_get ys k ≡ Some x → p x ≡ true
-all_at p [] k x a e = cc
-all_at p (y ∷ ys) zero x a e = grind (arith, a, some_of e)
-all_at p (y ∷ ys) (suc k) x a e = all_at p ys k x (grind (arith, a)) e
 
 -- names of the parts
 
@@ -130,7 +121,7 @@ not_longer name false e h = refl
 
 all_of : {A : Type 0} (p : A → Bool) (xs : List A) → ((x : A) → IsIn x xs → p x ≡ true) → list_all p xs ≡ true
 all_of p [] h = refl
-all_of p (x ∷ xs) h = joined (p x) (list_all p xs) (h x (inl refl)) (all_of p xs (λ y i. h y (inr i)))
+all_of p (x ∷ xs) h = and_from (p x) (list_all p xs) (h x (inl refl)) (all_of p xs (λ y i. h y (inr i)))
 
 plain_names : (m : Module) → IsPlain m → list_all has_plain_name m.functions ≡ true
 plain_names m p =
@@ -147,7 +138,7 @@ image_got c m i f e = ap (λ (x : Option Module). option_and_then (λ (y : Modul
 
 named_at : (fs : List Function) (k : ℕ) (x : List ℕ) → slice_get (names_of fs) k ≡ Some x → (f : Function) × (slice_get fs k ≡ Some f) × (f.name ≡ x)
 named_at [] k x e = cc
-named_at (f ∷ fs) zero x e = (f, refl, some_of e)
+named_at (f ∷ fs) zero x e = (f, refl, some_same e)
 named_at (f ∷ fs) (suc k) x e = named_at fs k x e
 
 out_named : (fs : List Function) (k : ℕ) (g : Function) → slice_get fs k ≡ Some g → is_wrapped g ≡ true → slice_get (out_names fs) (wrapped_before fs k) ≡ Some (out_prefix ++ g.name)
@@ -207,13 +198,10 @@ calls_out c h m f g false t less e =
 pub no_module : (p : Program) (m f : ℕ) (g : Function) → length p.modules ≤ m → slice_get (module_of p (Some m)).functions f ≡ Some g → ⊥
 no_module p m f g l e = none_some (sym (ap (λ (x : Option ProgramModule). slice_get (module_or_empty x).functions f) (slice_get_past p.modules m l)) ∙ e)
 
-pub below_or_past : (k n : ℕ) → (k < n) ⊎ (n ≤ k)
-below_or_past k n = grind arith
-
 calls_out_at : (c : Code) → HasImages c → (m f : ℕ) (g : Option Function) → slice_get (module_of c.program (Some m)).functions f ≡ g → CallsOut c m f g
 calls_out_at c h m f None e = tt
 calls_out_at c h m f (Some g) e =
-    elim (below_or_past m (length c.program.modules)) [
+    elim (cases_lt m (length c.program.modules)) [
       | inl less ↦ calls_out c h m f g (is_wrapped g) refl less e
       | inr past ↦ absurd (no_module c.program m f g past e)
     ]
@@ -223,7 +211,7 @@ calls_out_at c h m f (Some g) e =
 guarded_at : (m : Module) (fs gs : List Function) (k : ℕ) (f : Function) → AreGuarded m fs gs → slice_get fs k ≡ Some f → (g : Function) × (slice_get gs k ≡ Some g) × IsGuarded m f g
 guarded_at m [] gs k f h e = none_some e
 guarded_at m (x ∷ fs) [] k f h e = absurd h
-guarded_at m (x ∷ fs) (g ∷ gs) zero f h e = (g, refl, subst (λ (y : Function). IsGuarded m y g) (some_is e) h.0)
+guarded_at m (x ∷ fs) (g ∷ gs) zero f h e = (g, refl, subst (λ (y : Function). IsGuarded m y g) (some_same e) h.0)
 guarded_at m (x ∷ fs) (g ∷ gs) (suc k) f h e = guarded_at m fs gs k f h.1 e
 
 -- the image function that runs, and what is shown of it
@@ -253,8 +241,8 @@ runs c h n m k f en ef =
 -- the kernel's text has no marks
 
 plain_op : (o : Op) → not (is_image_line o) ≡ true → text_op None o ≡ o
-plain_op (op.Guard at size narrow) e = true_not (sym e)
-plain_op (op.Check target) e = true_not (sym e)
+plain_op (op.Guard at size narrow) e = true_false (sym e)
+plain_op (op.Check target) e = true_false (sym e)
 plain_op (op.Call to ret x args) e = refl
 plain_op o e = refl
 
@@ -283,7 +271,7 @@ module_routine : (c : Code) → HasImages c → (n m k : ℕ) (f : Option Functi
 module_routine c h n m k (Some f) en ef = (runs c h n m k f en ef).routine
 module_routine c h n m k None en ef =
     let lies = h.linked.table n m k en in
-    none_some (sym ef ∙ (there_is (module_of c.program (Some m)).functions k lies.1).1)
+    none_some (sym ef ∙ (there (module_of c.program (Some m)).functions k lies.1).1)
 
 entry_routine : (c : Code) → HasImages c → (n : ℕ) (e : Option ProgramFunction) → slice_get c.program.functions n ≡ e →
     image_routine c n ≡ guarded_routine c (unwrap_or (home_of_entry e) None) n (routine_or_none (function_of_entry c.program e))

@@ -1,5 +1,5 @@
 -- The laws of the machine of images, from those of the machine that counts.
-use Rattle.std.proofs.Common.{◌≡◌, ℕ, List, map, inl, inr, refl, sym, subst, ap}
+use Rattle.std.proofs.Common.{◌≡◌, ℕ, List, map, refl, sym, subst, ap}
 use Rattle.lx_model.specs.declared.program.ScriptCall.{ScriptCall}
 use Rattle.lx_model.specs.declared.request.What.{What}
 use Rattle.lx_model.specs.declared.request.Request.{Request}
@@ -22,15 +22,10 @@ use Rattle.lx_simulation.proofs.Worded.{Alike, AbsorbAlike as BothAbsorb, StepsA
 use Rattle.lx_simulation.proofs.WordedSteps.{steps_alike}
 use Rattle.lx_simulation.proofs.WordedRuns.{event_alike, run_alike, opening_alike}
 use Rattle.lx_simulation.proofs.Standing.{stands_of, alike_of, all_alike, all_stand}
-use Rattle.lx_simulation.proofs.Runs.{event_agrees}
+use Rattle.lx_simulation.proofs.Runs.{event_agrees, what_alike}
 use Rattle.lx_simulation.proofs.Steps.{step_agrees}
 
 -- a step
-
--- what is asked is the same, but for whom
-same_what : (c : Code) (thread : Thread) (r s : Request) → AskAlike c thread r s → s.what ≡ r.what
-same_what c thread r s (inl e) = ap (λ (x : Request). x.what) e
-same_what c thread r s (inr a) = ap (λ (x : Request). x.what) a.by_kernel
 
 -- a reply is taken in by what was asked
 by_what : (c : Code) (t : ℕ) (v : ImageThread) (r s : Request) (reply : Reply) → s.what ≡ r.what → image_absorb c t v s reply ≡ image_absorb c t v r reply
@@ -56,7 +51,7 @@ absorbs_too c t thread v u r s e h b reply ans =
 steps_joined : (c : Code) (t : ℕ) (a : Step) (i : CountedStep) (j : ImageStep) → CountedStepsAgree c t a i → StepsAlike c i j → StepsAgree c t a j
 steps_joined c t (Goes thread) (CountedGoes v) (ImageGoes u) h b = (h.0, stands_of c thread u (subst (λ (y : CountedThread). Alike c y u) h.1 b))
 steps_joined c t (Asks thread r) (CountedAsks v s) (ImageAsks u q) h b =
-    (subst (AskAlike c thread r) (sym b.0) h.0, h.1, absorbs_too c t thread v u r s (same_what c thread r s h.0) h.2 b.1)
+    (subst (AskAlike c thread r) (sym b.0) h.0, h.1, absorbs_too c t thread v u r s (what_alike c thread r s h.0) h.2 b.1)
 steps_joined c t (Goes thread) (CountedAsks v s) j h b = absurd h
 steps_joined c t (Asks thread r) (CountedGoes v) j h b = absurd h
 steps_joined c t (Goes thread) (CountedGoes v) (ImageAsks u q) h b = absurd b

@@ -15,18 +15,20 @@ use Rattle.lx_images.specs.Stands.{Well, AskAlike, ThreadStands, ThreadsStand}
 use Rattle.lx_simulation.specs.Simulation.{AllGuarded}
 use Rattle.lx_simulation.proofs.Counted.{image_next as counted_next}
 use Rattle.lx_simulation.proofs.CountedStands.{image_of}
-use Rattle.lx_simulation.proofs.Elements.{some_is, none_some, true_not}
+use Rattle.lx_simulation.proofs.Elements.{none_some}
 use Rattle.lx_simulation.proofs.Agreeing.{runs_agree}
 use Rattle.lx_simulation.proofs.Guarded.{none_bare, guarded_run_agrees}
 use Rattle.lx_simulation.proofs.Runs.{next_agrees, each_get}
 use Rattle.lx_simulation.proofs.Standing.{alike_of}
 use Rattle.lx_simulation.proofs.WordedRuns.{next_alike}
+use Rattle.lx_caps.proofs.Tests.{true_false}
+use Rattle.lx_caps.proofs.Items.{some_same}
 
 -- no ask is a spared one
 not_spared : (c : Code) → Accepted c → AllGuarded c → (thread : Thread) (r s : Request) → AskAlike c thread r s → s ≡ r
 not_spared c acc all thread r s (inl e) = e
 not_spared c acc all thread r s (inr a) =
-    true_not (sym a.bare ∙ none_bare c acc all a.frame.run.function a.«module» a.text a.frame.run.label (stores_in a.behind))
+    true_false (sym a.bare ∙ none_bare c acc all a.frame.run.function a.«module» a.text a.frame.run.label (stores_in a.behind))
 
 pub asks_same : ModelLaws → (c : Code) → Accepted c → AllGuarded c → (t : ℕ) (thread : Thread) (v : ImageThread) → Well c.program t thread → ThreadStands c thread v → (image_next c v).request ≡ (next c.program t thread).request
 asks_same laws c acc all t thread v well s =
@@ -38,7 +40,7 @@ stands_at : (c : Code) (threads : List Thread) (vs : List ImageThread) (t : ℕ)
 stands_at c [] vs t thread v s et ev = none_some et
 stands_at c (x ∷ threads) [] t thread v s et ev = absurd s
 stands_at c (x ∷ threads) (y ∷ vs) zero thread v s et ev =
-    subst (λ (z : Thread). ThreadStands c z v) (some_is et) (subst (ThreadStands c x) (some_is ev) s.0)
+    subst (λ (z : Thread). ThreadStands c z v) (some_same et) (subst (ThreadStands c x) (some_same ev) s.0)
 stands_at c (x ∷ threads) (y ∷ vs) (suc t) thread v s et ev = stands_at c threads vs t thread v s.1 et ev
 
 pub asks_in_run : ModelLaws → (c : Code) → Accepted c → AllGuarded c → (script : List (List ScriptCall)) (schedule : List ℕ) (t : ℕ) (thread : Thread) (v : ImageThread) →

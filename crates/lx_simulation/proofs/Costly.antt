@@ -37,10 +37,11 @@ use Rattle.lx_simulation.proofs.CountedStands.{AsksAlike, StepsAgree}
 use Rattle.lx_simulation.proofs.Guarding.{IsCall, effect-guarded, called-guarded}
 use Rattle.lx_simulation.proofs.Absorbing.{thread_of, image_thread, frame_of}
 use Rattle.lx_simulation.proofs.Replies.{direct_alike}
-use Rattle.lx_simulation.proofs.Marking.{marks_for, equal_itself, top_if}
+use Rattle.lx_simulation.proofs.Marking.{marks_for, top_if}
 use Rattle.lx_simulation.proofs.Asked.{IsLawful, lawful}
 use Rattle.lx_simulation.proofs.Targets.{TargetFits, target_fits, past_functions}
 use Rattle.lx_simulation.proofs.Effects.{room-waiting, room_alike, on_top, effect_agrees}
+use Rattle.lx_caps.proofs.Tests.{eq_itself, true_false}
 
 -- the frame on top in its body, and the frames below
 pub record Standing (c : Code) (a : Activation) (q : Principal) (x : Option Crossing) (fs : List Frame) : Type 0 where
@@ -164,9 +165,6 @@ wrapper_named c acc t calls ended fuel old a q x fs m to ret f g args n w ew eh 
     let at : target c.program (text_of c.program a) f ≡ ToImport n = ap (λ (h : Home). target c.program h f) eh ∙ et in
     subst (λ (y : Target). Agrees c t calls ended fuel a q x fs (target_effect y words) (costly c calls ended fuel old a q x fs (Some m) no_marks (op.Call to ret (callee.Symbol (symbol.Function g)) args) w)) (sym at) there
 
-true_false : {A : Type 0} → true ≡ false → A
-true_false e = cc
-
 at_least : (n k : ℕ) → n ≤ n + k
 at_least n k = omega arith
 
@@ -259,7 +257,7 @@ costly_in c acc t calls ended fuel old a q x fs None (op.Call to ret (callee.Reg
     effect_agrees_at c acc t calls ended fuel old a q x fs no_marks (effect c.program a (op.Call to ret (callee.Register r) args)) None eh s (tt, sym kern)
 costly_in c acc t calls ended fuel old a q x fs (Some m) (op.Call to ret (callee.Register r) args) os eh s kern ec =
     effect_agrees_at c acc t calls ended fuel old a q x fs (marks_for c.program a (Some m) (bare_of c a.function a.label (stores_in os)) (op.Call to ret (callee.Register r) args)) (effect c.program a (op.Call to ret (callee.Register r) args)) (Some m) eh s
-    (tt, top_if _ (shadow_of (frame_of a q x ∷ fs)) (equal_itself _) ∙ sym (on_top q a x fs s.called))
+    (tt, top_if _ (shadow_of (frame_of a q x ∷ fs)) (eq_itself _) ∙ sym (on_top q a x fs s.called))
 costly_in c acc t calls ended fuel old a q x fs h o os eh s kern ec =
     other_agrees c acc t calls ended fuel old a q x fs h o os (λ (i : IsCall o). absurd i) eh s kern ec
 

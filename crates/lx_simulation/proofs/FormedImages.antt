@@ -3,6 +3,7 @@ use Rattle.std.proofs.Common.{◌≡◌, ℕ, zero, suc, ◌<◌, Bool, true, fa
 use Rattle.std.specs.Prelude.{slice_get, option_map, option_and_then, position, filter_map, cond, nat_eq, bytes_eq, codes}
 use Rattle.std.specs.List.{list_all, starts_with, cons_option}
 use Rattle.std.proofs.lemmas.Option.{slice_get-map, slice_get_within}
+use Rattle.std.proofs.lemmas.Bool.{and_from}
 use Rattle.lx_ir.specs.declared.module.Block.{Block}
 use Rattle.lx_ir.specs.declared.module.Parameter.{Parameter}
 use Rattle.lx_ir.specs.declared.module.Function.{Function}
@@ -20,9 +21,11 @@ use Rattle.lx_model.specs.Program.{module_of}
 use Rattle.lx_images.specs.Wrappers.{lines_of}
 use Rattle.lx_images.specs.WrapperForm.{is_one_block, is_wrapper, wraps_named, has_name, first_named, is_formed_by, is_formed_as, is_formed, has_formed_wrappers, have_formed_wrappers, unformed_in, first_unformed}
 use Rattle.lx_simulation.specs.Images.{AreImages}
-use Rattle.lx_simulation.proofs.Elements.{some_is, none_some, both_first, both_second}
+use Rattle.lx_simulation.proofs.Elements.{none_some}
 use Rattle.lx_simulation.proofs.Formed.{wrapper_formed}
-use Rattle.lx_simulation.proofs.Wrapping.{is_not, itself, joined, all_at, each_joined, positioned, split_at, front_or_behind, text_lines, lines_of_text, unlined_ops, Each, each_at, front_names, front, From, next_from, first_from, from_start, guarded_names, name_got}
+use Rattle.lx_simulation.proofs.Wrapping.{is_not, all_at, each_joined, positioned, split_at, front_or_behind, text_lines, lines_of_text, unlined_ops, Each, each_at, front_names, front, From, next_from, first_from, from_start, guarded_names, name_got}
+use Rattle.lx_caps.proofs.Tests.{first_true, second_true}
+use Rattle.lx_caps.proofs.Items.{same_bytes, some_same}
 
 -- it is one block, by its text
 abbrev one_text : Option (List BlockText) → Bool
@@ -95,7 +98,7 @@ unnamed name h =
 
 got_front : (xs ys : List Function) (k : ℕ) (x : List ℕ) → slice_get (map (λ (f : Function). f.name) xs) k ≡ Some x → (g : Function) × (slice_get (xs ++ ys) k ≡ Some g) × (g.name ≡ x)
 got_front [] ys k x e = none_some e
-got_front (y ∷ xs) ys zero x e = (y, refl, some_is e)
+got_front (y ∷ xs) ys zero x e = (y, refl, some_same e)
 got_front (y ∷ xs) ys (suc k) x e = got_front xs ys k x e
 
 -- a function of the module stands in its image at its number
@@ -110,10 +113,10 @@ wrapper_is_formed i m x h g w =
     let lines : lines_of (Some g) ≡ wrapper_code w.it w.number w.annotation = lines_of_text g ∙ w.lines in
     let at = named_alike i m x h w.number w.it w.got in
     ap (is_formed_as x g) (ap wraps_named w.name ∙ named_for w.side w.it.name)
-    ∙ joined (is_one_block g.blocks) (is_formed_by x g w.it.name (first_named (lines_of (Some g)))) (one_by g.blocks ∙ w.one)
+    ∙ and_from (is_one_block g.blocks) (is_formed_by x g w.it.name (first_named (lines_of (Some g)))) (one_by g.blocks ∙ w.one)
     (ap (is_formed_by x g w.it.name) (ap first_named lines)
-    ∙ joined (has_name (slice_get x.functions w.number) w.it.name) (is_wrapper w.number (length g.params) (lines_of (Some g)))
-    (ap (λ (o : Option Function). has_name o w.it.name) at.1 ∙ (ap (λ (n : List ℕ). bytes_eq n w.it.name) at.2 ∙ itself w.it.name))
+    ∙ and_from (has_name (slice_get x.functions w.number) w.it.name) (is_wrapper w.number (length g.params) (lines_of (Some g)))
+    (ap (λ (o : Option Function). has_name o w.it.name) at.1 ∙ (ap (λ (n : List ℕ). bytes_eq n w.it.name) at.2 ∙ same_bytes w.it.name))
     (ap (is_wrapper w.number (length g.params)) lines ∙ (ap (λ (n : ℕ). is_wrapper w.number n (wrapper_code w.it w.number w.annotation)) w.params ∙ wrapper_formed w.it w.number w.annotation)))
 
 one_is_formed : (i : Interface) (m x : Module) → Guards i m x → (k : ℕ) (g : Function) → slice_get x.functions k ≡ Some g → is_formed x g ≡ true
@@ -126,7 +129,7 @@ one_is_formed i m x h k g e =
 
 all_by : (p : Function → Bool) (fs : List Function) → ((k : ℕ) (g : Function) → slice_get fs k ≡ Some g → p g ≡ true) → list_all p fs ≡ true
 all_by p [] h = refl
-all_by p (f ∷ fs) h = joined (p f) (list_all p fs) (h 0 f refl) (all_by p fs (λ k g e. h (suc k) g e))
+all_by p (f ∷ fs) h = and_from (p f) (list_all p fs) (h 0 f refl) (all_by p fs (λ k g e. h (suc k) g e))
 
 -- the wrappers of each image have the form of wrappers
 pub images_formed : (i : Interface) (m x : Module) → Guards i m x → has_formed_wrappers x ≡ true
@@ -136,18 +139,18 @@ images_formed i m x h = all_by (is_formed x) x.functions (one_is_formed i m x h)
 
 each_image : (images : List Module) → ((k : ℕ) (x : Module) → slice_get images k ≡ Some x → has_formed_wrappers x ≡ true) → have_formed_wrappers images ≡ true
 each_image [] h = refl
-each_image (x ∷ xs) h = joined (has_formed_wrappers x) (have_formed_wrappers xs) (h 0 x refl) (each_image xs (λ k y e. h (suc k) y e))
+each_image (x ∷ xs) h = and_from (has_formed_wrappers x) (have_formed_wrappers xs) (h 0 x refl) (each_image xs (λ k y e. h (suc k) y e))
 
 pub all_images_formed : (p : Program) (images : List Module) → AreImages p images → length images ≡ length p.modules → have_formed_wrappers images ≡ true
 all_images_formed p images are many =
     each_image images (λ k x e.
     let im = are k (subst (λ (n : ℕ). k < n) many (slice_get_within images k x e)) in
-    ap has_formed_wrappers (some_is (sym e ∙ im.1)) ∙ images_formed p.interface (module_of p (Some k)) im.0 im.2)
+    ap has_formed_wrappers (some_same (sym e ∙ im.1)) ∙ images_formed p.interface (module_of p (Some k)) im.0 im.2)
 
 formed_at : (images : List Module) (k : ℕ) (x : Module) → have_formed_wrappers images ≡ true → slice_get images k ≡ Some x → has_formed_wrappers x ≡ true
 formed_at [] k x h e = none_some e
-formed_at (y ∷ ys) zero x h e = ap has_formed_wrappers (sym (some_is e)) ∙ both_first (has_formed_wrappers y) (have_formed_wrappers ys) h
-formed_at (y ∷ ys) (suc k) x h e = formed_at ys k x (both_second (has_formed_wrappers y) (have_formed_wrappers ys) h) e
+formed_at (y ∷ ys) zero x h e = ap has_formed_wrappers (sym (some_same e)) ∙ first_true (has_formed_wrappers y) (have_formed_wrappers ys) h
+formed_at (y ∷ ys) (suc k) x h e = formed_at ys k x (second_true (has_formed_wrappers y) (have_formed_wrappers ys) h) e
 
 unformed_none : (images : List Module) → have_formed_wrappers images ≡ true → (o : Option ℕ) → position (λ (x : Module). not (has_formed_wrappers x)) images ≡ o → o ≡ None
 unformed_none images h None e = refl

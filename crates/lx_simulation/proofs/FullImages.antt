@@ -2,6 +2,7 @@
 use Rattle.std.proofs.Common.{◌≡◌, ℕ, ◌<◌, Bool, true, false, List, [], ◌∷◌, length, map, take, Option, Some, None, inl, inr, refl, sym, ◌∙◌, ap}
 use Rattle.std.specs.Prelude.{slice_get, option_map, bytes_eq, nat_eq}
 use Rattle.std.proofs.lemmas.Option.{slice_get-map, slice_get_within}
+use Rattle.std.proofs.lemmas.Bool.{cases_lt}
 use Rattle.lx_ir.specs.declared.module.Block.{Block}
 use Rattle.lx_ir.specs.declared.module.Function.{Function}
 use Rattle.lx_ir.specs.declared.module.Module.{Module}
@@ -19,9 +20,10 @@ use Rattle.lx_images.specs.ImageCode.{stores_in, bare_here, bare_in}
 use Rattle.lx_images.specs.Guarded.{code_or_none, bare_among}
 use Rattle.lx_simulation.specs.Images.{code_of, AreFullImages}
 use Rattle.lx_simulation.specs.Simulation.{AllGuarded}
-use Rattle.lx_simulation.proofs.Elements.{some_is, none_some, some_none}
+use Rattle.lx_simulation.proofs.Elements.{none_some, some_none}
 use Rattle.lx_simulation.proofs.Imaging.{other_bare, found_here, found_later}
-use Rattle.lx_simulation.proofs.Accepting.{got_take, image_got, no_module, below_or_past}
+use Rattle.lx_simulation.proofs.Accepting.{got_take, image_got, no_module}
+use Rattle.lx_caps.proofs.Items.{some_same}
 
 -- a block
 
@@ -57,7 +59,7 @@ full_body : (f : Function) (m : Module) (bs cs : Option (List Block)) → option
     bare_among (map code_block_of (blocks_of_option cs)) label k ≡ false
 full_body f m bs None e label k = refl
 full_body f m None (Some cs) e label k = some_none e
-full_body f m (Some bs) (Some cs) e label k = full_blocks f m bs cs (some_is e) label k
+full_body f m (Some bs) (Some cs) e label k = full_blocks f m bs cs (some_same e) label k
 
 -- a function
 
@@ -66,7 +68,7 @@ full_function m f g e label k = full_body f m f.blocks g.blocks (ap (λ (t : Fun
 
 same_text : (m : Module) (f : Function) (found : Option Function) → option_map function_text found ≡ Some (image_function_text leaves_none m f) → (g : Function) × (found ≡ Some g) × (function_text g ≡ image_function_text leaves_none m f)
 same_text m f None e = none_some e
-same_text m f (Some g) e = (g, refl, some_is e)
+same_text m f (Some g) e = (g, refl, some_same e)
 
 -- the function of the image for one of its module
 text_at : (m : Module) (gs : List Function) (k : ℕ) (f : Function) → map function_text gs ≡ map (image_function_text leaves_none m) m.functions → slice_get m.functions k ≡ Some f →
@@ -77,7 +79,7 @@ text_at m gs k f e ef =
 
 module_there : (p : Program) (m k : ℕ) (f : Function) → slice_get (module_of p (Some m)).functions k ≡ Some f → m < length p.modules
 module_there p m k f ef =
-    elim (below_or_past m (length p.modules)) [
+    elim (cases_lt m (length p.modules)) [
       | inl less ↦ less
       | inr past ↦ absurd (no_module p m k f past ef)
     ]

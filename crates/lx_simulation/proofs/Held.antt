@@ -1,7 +1,8 @@
 -- What a store without a guard needs is held.
-use Rattle.std.proofs.Common.{◌≡◌, ℕ, zero, suc, ◌+◌, ◌<◌, ◌≤◌, Bool, true, false, not, ◌&&◌, ◌||◌, List, [], ◌∷◌, length, map, take, drop, Option, Some, None, inl, inr, refl, sym, subst, ◌∙◌, ap, arith}
-use Rattle.std.specs.Prelude.{slice_get, nat_eq, nat_le, unwrap_or}
+use Rattle.std.proofs.Common.{◌≡◌, ℕ, zero, suc, ◌+◌, ◌<◌, ◌≤◌, Bool, true, false, not, ◌&&◌, ◌||◌, List, [], ◌∷◌, length, map, take, drop, Option, Some, None, inl, inr, refl, sym, subst, ◌∙◌, ap, arith, leb-true, eqb-true}
+use Rattle.std.specs.Prelude.{slice_get, nat_eq, unwrap_or}
 use Rattle.std.specs.List.{list_any}
+use Rattle.std.proofs.lemmas.Bool.{or_parts}
 use Rattle.lx_words.specs.declared.word.Width.{Width}
 use Rattle.lx_words.specs.declared.word.Width.TheVariants as width
 use Rattle.lx_words.specs.declared.word.Width.TheVariants.{W64}
@@ -43,16 +44,19 @@ use Rattle.lx_images.specs.Guarded.{Accepted, bare_of, spares_well, block_spares
 use Rattle.lx_simulation.proofs.CountedStands.{StageIsBody, InBodyOf, StoreHeld}
 use Rattle.lx_images.specs.Kept.{is_kernel, within, KeepsAll, LiesIn, FramesKept, Kept}
 use Rattle.lx_images.specs.Places.{IsIn, HoldsPlace}
-use Rattle.lx_simulation.proofs.Elements.{some_is, none_some, true_not, both_first, both_second, all_in, any_in, in_got, in_map, in_second, in_first, same_numbers}
+use Rattle.lx_simulation.proofs.Elements.{none_some, all_in, any_in, in_got, in_map, in_second, in_first}
 use Rattle.lx_simulation.proofs.Verifying.{op_of, Sound, no_parameter}
 use Rattle.lx_simulation.proofs.Walking.{PlaceIf, is_assigned, name_of, RegisteredIn, Registered, here, no_ops}
 use Rattle.lx_simulation.proofs.Sparing.{starts_below}
 use Rattle.lx_simulation.proofs.Frames.{sound_at, StoodBy, StoodIn, StageStood, TopStood, FramesStood, ThreadStood}
+use Rattle.lx_caps.proofs.Tests.{first_true, true_false, second_true, from_zero, bare_spared}
+use Rattle.lx_caps.proofs.Items.{some_same}
+use Rattle.lx_caps.proofs.Bytes.{each_byte-from}
 
 -- bytes that are kept are held, and lie in memory
 
 itself : (q : Principal) → is_kernel q ≡ false → reaches q q ≡ true
-itself Kernel e = true_not e
+itself Kernel e = true_false e
 itself (Shared m) e = grind arith
 itself (Global m) e = grind arith
 itself (Inst m k) e = grind arith
@@ -62,18 +66,13 @@ byte_held laws loans h q b m o = (laws.by_an_owner h q (Byte b)).1 (q, itself q 
 
 each_step : (p : ℕ → Bool) (at n : ℕ) (b : Bool) → p at ≡ b → b ≡ true → each_byte p (suc at) n ≡ true → elim (p at) [ false ↦ false | true ↦ each_byte p (suc at) n ] ≡ true
 each_step p at n true e t h = ap (λ (b : Bool). elim b [ false ↦ false | true ↦ each_byte p (suc at) n ]) e ∙ h
-each_step p at n false e t h = true_not (sym t)
-
-each_true : (p : ℕ → Bool) (at n : ℕ) → ((b : ℕ) → at ≤ b → b < at + n → p b ≡ true) → each_byte p at n ≡ true
-each_true p at zero h = refl
-each_true p at (suc n) h =
-    each_step p at n (p at) refl (h at (omega arith) (omega arith)) (each_true p (suc at) n (λ b l u. h b (omega (arith, l)) (omega (arith, u))))
+each_step p at n false e t h = true_false (sym t)
 
 held_by : HistoryLaws → LoanLaws → (h : History) (q : Principal) (at n : ℕ) → is_kernel q ≡ false → ((b : ℕ) → at ≤ b → b < at + n → keeps h q (Byte b) ≡ true) → holds h q (Write at n) ≡ true
-held_by laws loans h Kernel at n m own = true_not m
-held_by laws loans h (Shared k) at n m own = each_true (λ b. reached h (Shared k) (Byte b)) at n (λ b l u. byte_held laws loans h (Shared k) b m (own b l u))
-held_by laws loans h (Global k) at n m own = each_true (λ b. reached h (Global k) (Byte b)) at n (λ b l u. byte_held laws loans h (Global k) b m (own b l u))
-held_by laws loans h (Inst k i) at n m own = each_true (λ b. reached h (Inst k i) (Byte b)) at n (λ b l u. byte_held laws loans h (Inst k i) b m (own b l u))
+held_by laws loans h Kernel at n m own = true_false m
+held_by laws loans h (Shared k) at n m own = each_byte-from (λ b. reached h (Shared k) (Byte b)) at n (λ b l u. byte_held laws loans h (Shared k) b m (own b l u))
+held_by laws loans h (Global k) at n m own = each_byte-from (λ b. reached h (Global k) (Byte b)) at n (λ b l u. byte_held laws loans h (Global k) b m (own b l u))
+held_by laws loans h (Inst k i) at n m own = each_byte-from (λ b. reached h (Inst k i) (Byte b)) at n (λ b l u. byte_held laws loans h (Inst k i) b m (own b l u))
 
 held_or_kernel : HistoryLaws → LoanLaws → (h : History) (q : Principal) (at n : ℕ) (k : Bool) → is_kernel q ≡ k → mapped at n ≡ true → (is_kernel q ≡ false → (b : ℕ) → at ≤ b → b < at + n → keeps h q (Byte b) ≡ true) → holds h q (Write at n) ≡ true
 held_or_kernel laws loans h Kernel at n k e lies own = lies
@@ -149,16 +148,10 @@ store_is_held laws loans h t q rs x n few k i some fits =
 
 -- what spares a store
 
-at_most : (m n : ℕ) → nat_le m n ≡ true → m ≤ n
-at_most m n e = grind (arith, e)
-
-from_zero : (n : ℕ) → n ≡ 0 + n
-from_zero n = omega arith
-
 -- an instruction that allocates at the register
 allocates_it : (types : List NamedType) (r n : ℕ) (o : Op) → allocates types r n o ≡ true → (ty : IrType) × (o ≡ op.Alloca r ty) × (n ≤ size_of types ty)
-allocates_it types r n (op.Alloca to ty) e = (ty, ap (λ (k : ℕ). op.Alloca k ty) (same_numbers to r (both_first (nat_eq to r) _ e)), at_most n (size_of types ty) (both_second (nat_eq to r) _ e))
-allocates_it types r n _ e = true_not (sym e)
+allocates_it types r n (op.Alloca to ty) e = (ty, ap (λ (k : ℕ). op.Alloca k ty) (eqb-true to r (first_true (nat_eq to r) _ e)), leb-true n (size_of types ty) (second_true (nat_eq to r) _ e))
+allocates_it types r n _ e = true_false (sym e)
 
 -- the register of a spared store's address, and its alloca
 record SparedBy (m : Module) (g : Function) (ty : Scalar) (at : Operand) : Type 0 where
@@ -171,9 +164,9 @@ record SparedBy (m : Module) (g : Function) (ty : Scalar) (at : Operand) : Type 
   fits : byte_count (width_of ty) ≤ size_of m.types allocated
 
 spared_by : (m : Module) (g : Function) (ty : Scalar) (stored at : Operand) → is_spared m g (op.Store ty stored at) ≡ true → SparedBy m g ty at
-spared_by m g ty stored (value.Constant c) e = true_not (sym e)
+spared_by m g ty stored (value.Constant c) e = true_false (sym e)
 spared_by m g ty stored (value.Register r) e =
-    let found = any_in (λ (i : Instr). allocates m.types r (byte_count (width_of ty)) i.op) (instrs_of g) (both_first (list_any (λ (i : Instr). allocates m.types r (byte_count (width_of ty)) i.op) (instrs_of g)) _ e) in
+    let found = any_in (λ (i : Instr). allocates m.types r (byte_count (width_of ty)) i.op) (instrs_of g) (first_true (list_any (λ (i : Instr). allocates m.types r (byte_count (width_of ty)) i.op) (instrs_of g)) _ e) in
     let a = allocates_it m.types r (byte_count (width_of ty)) found.0.op found.2 in
     record { register = r; is = refl; instr = found.0; here = found.1; allocated = a.0; op_is = a.1; fits = a.2 }
 
@@ -181,15 +174,11 @@ spared_by m g ty stored (value.Register r) e =
 spares_rest : (m : Module) (g : Function) (bare : Bare) (is : List Instr) (k : ℕ) → spares_well m g bare (map op_of is) ≡ true → spares_well m g bare (map op_of (drop k is)) ≡ true
 spares_rest m g bare is zero e = e
 spares_rest m g bare [] (suc k) e = e
-spares_rest m g bare (i ∷ is) (suc k) e = spares_rest m g bare is k (both_second (not (is_store i.op && bare (stores_in (map op_of is))) || is_spared m g i.op) (spares_well m g bare (map op_of is)) e)
-
-bare_spared : (a b : Bool) → a ≡ true → (not a || b) ≡ true → b ≡ true
-bare_spared true b e h = h
-bare_spared false b e h = true_not (sym e)
+spares_rest m g bare (i ∷ is) (suc k) e = spares_rest m g bare is k (second_true (not (is_store i.op && bare (stores_in (map op_of is))) || is_spared m g i.op) (spares_well m g bare (map op_of is)) e)
 
 head_spared : (m : Module) (g : Function) (bare : Bare) (ty : Scalar) (stored at : Operand) (os : List Op) → bare (stores_in os) ≡ true → spares_well m g bare (op.Store ty stored at ∷ os) ≡ true → is_spared m g (op.Store ty stored at) ≡ true
 head_spared m g bare ty stored at os eb e =
-    bare_spared (bare (stores_in os)) (is_spared m g (op.Store ty stored at)) eb (both_first (not (true && bare (stores_in os)) || is_spared m g (op.Store ty stored at)) (spares_well m g bare os) e)
+    bare_spared (bare (stores_in os)) (is_spared m g (op.Store ty stored at)) eb (first_true (not (true && bare (stores_in os)) || is_spared m g (op.Store ty stored at)) (spares_well m g bare os) e)
 
 named_block : (g : Function) (bs : List Block) (k j : ℕ) (i : Instr) → slice_get (no_instrs (slice_get bs k)) j ≡ Some i → (b : Block) × (slice_get bs k ≡ Some b)
 named_block g [] k j i e = none_some e
@@ -198,17 +187,17 @@ named_block g (b ∷ bs) (suc k) j i e = named_block g bs k j i e
 
 -- reads of a store's address
 
-read_first : (g : Function) (k p : ℕ) (is : List Instr) (j : ℕ) (i : Instr) (x : Read) → slice_get is j ≡ Some i → IsIn x (reads_of_op g k (p + j) i.line i.op) → IsIn x (reads_from g k p is)
+pub read_first : (g : Function) (k p : ℕ) (is : List Instr) (j : ℕ) (i : Instr) (x : Read) → slice_get is j ≡ Some i → IsIn x (reads_of_op g k (p + j) i.line i.op) → IsIn x (reads_from g k p is)
 read_first g k p [] j i x e r = none_some e
 read_first g k p (y ∷ is) zero i x e r =
     let at : p + 0 ≡ p = omega arith in
     in_first x (reads_of_op g k p y.line y.op) (reads_from g k (suc p) is)
-    (subst (λ (z : Instr). IsIn x (reads_of_op g k p z.line z.op)) (sym (some_is e)) (subst (λ (n : ℕ). IsIn x (reads_of_op g k n i.line i.op)) at r))
+    (subst (λ (z : Instr). IsIn x (reads_of_op g k p z.line z.op)) (sym (some_same e)) (subst (λ (n : ℕ). IsIn x (reads_of_op g k n i.line i.op)) at r))
 read_first g k p (y ∷ is) (suc j) i x e r =
     let at : p + suc j ≡ suc p + j = omega arith in
     in_second x (reads_of_op g k p y.line y.op) (reads_from g k (suc p) is) (read_first g k (suc p) is j i x e (subst (λ (n : ℕ). IsIn x (reads_of_op g k n i.line i.op)) at r))
 
-read_block : (g : Function) (k : ℕ) (bs : List Block) (l j : ℕ) (i : Instr) (x : Read) → slice_get (no_instrs (slice_get bs l)) j ≡ Some i → IsIn x (reads_of_op g (k + l) j i.line i.op) → IsIn x (reads_of_blocks g k bs)
+pub read_block : (g : Function) (k : ℕ) (bs : List Block) (l j : ℕ) (i : Instr) (x : Read) → slice_get (no_instrs (slice_get bs l)) j ≡ Some i → IsIn x (reads_of_op g (k + l) j i.line i.op) → IsIn x (reads_of_blocks g k bs)
 read_block g k [] l j i x e r = none_some e
 read_block g k (b ∷ bs) zero j i x e r =
     let at : k + 0 ≡ k = omega arith in
@@ -227,19 +216,15 @@ store_reads g k j line ty stored r = in_second (the_read k j r line) (read_here 
 
 -- so it is assigned
 
-neither : (a b : Bool) → (a || b) ≡ false → (a ≡ false) × (b ≡ false)
-neither true b e = true_not e
-neither false b e = (refl, e)
-
 assigned_cases : (m : Module) (g : Function) → Sound m g → (walk : List ℕ) (k j r line : ℕ) (b : Bool) → is_assigned g walk k j r ≡ b → length g.params ≤ r → Walk g walk k → IsIn (the_read k j r line) (reads_of g) → b ≡ true
 assigned_cases m g s walk k j r line true e above comes at = refl
 assigned_cases m g s walk k j r line false e above comes at =
-    let none = neither (walk_assigns g walk r) (assigns (take j (instrs_at g k)) r) e in
+    let none = or_parts (walk_assigns g walk r) (assigns (take j (instrs_at g k)) r) e in
     absurd (s.reads (the_read k j r line) at (record { no_parameter = above; walk = walk; comes = comes; not_before = none.0; not_here = none.1 }))
 
 placed_if : (b : Bool) (types : List NamedType) (a : Activation) (r : ℕ) (ty : IrType) → b ≡ true → PlaceIf b types a r ty → HoldsPlace types a r ty
 placed_if true types a r ty e h = h
-placed_if false types a r ty e h = true_not (sym e)
+placed_if false types a r ty e h = true_false (sym e)
 
 -- where the function's number is in the program
 
@@ -248,7 +233,7 @@ entry_of p None m g eh eg = none_some eh
 entry_of p (Some (Native k)) m g eh eg = none_some eh
 entry_of p (Some (Of None k)) m g eh eg = none_some eh
 entry_of p (Some (Of (Some n) k)) m g eh eg =
-    let same : n ≡ m = some_is eh in
+    let same : n ≡ m = some_same eh in
     (k, ap (λ (x : ℕ). Some (Of (Some x) k)) same, ap (λ (x : ℕ). slice_get (module_of p (Some x)).functions k) (sym same) ∙ eg)
 
 live_stood : (p : Program) (a : Activation) (s : Stage) → StageIsBody s → StageStood p a s → StoodIn p a

@@ -21,8 +21,10 @@ use Rattle.lx_model.specs.Thread.{CodeBlock, code_block_of, routine_of}
 use Rattle.lx_model.specs.Effect.{code_block_named}
 use Rattle.lx_images.specs.Guarded.{code_or_none, bare_among, image_block, routine_in_image, spares_well, block_spares_well, function_spares_well}
 use Rattle.lx_images.specs.Places.{IsIn}
-use Rattle.lx_simulation.proofs.Elements.{true_not, both_first, both_second, any_of, in_map}
+use Rattle.lx_simulation.proofs.Elements.{any_of, in_map}
 use Rattle.lx_simulation.proofs.Verifying.{name_of_block}
+use Rattle.lx_caps.proofs.Tests.{eq_itself, first_true, true_false, second_true, more_differs}
+use Rattle.lx_caps.proofs.Items.{same_bytes}
 
 -- The code of a block is the image of its program's, with the guards that it has.
 
@@ -34,12 +36,6 @@ Shown m f bare os is = (image_ops (Some m) bare os ≡ is) × (stores_in is ≡ 
 abbrev Agrees : Bare → List Op → List Op → Type 0
 Agrees bare os is = (k : ℕ) → k < stores_in os → bare k ≡ bare_in false is k
 
-equal_itself : (n : ℕ) → nat_eq n n ≡ true
-equal_itself n = grind arith
-
-not_equal : (n k : ℕ) → k < n → nat_eq n k ≡ false
-not_equal n k h = grind (arith, h)
-
 less_suc : (n : ℕ) → n < suc n
 less_suc n = omega arith
 
@@ -47,10 +43,10 @@ less_more : (k n : ℕ) → k < n → k < suc n
 less_more k n h = omega (arith, h)
 
 here_same : (n : ℕ) (guarded further : Bool) → bare_here (true && nat_eq n n) guarded further ≡ not guarded
-here_same n guarded further = ap (λ (b : Bool). bare_here (true && b) guarded further) (equal_itself n)
+here_same n guarded further = ap (λ (b : Bool). bare_here (true && b) guarded further) (eq_itself n)
 
 here_other : (n k : ℕ) (guarded further : Bool) → k < n → bare_here (true && nat_eq n k) guarded further ≡ further
-here_other n k guarded further h = ap (λ (b : Bool). bare_here (true && b) guarded further) (not_equal n k h)
+here_other n k guarded further h = ap (λ (b : Bool). bare_here (true && b) guarded further) (more_differs n k h)
 
 -- a store, with its guard or spared
 store_shown : (m : Module) (f : Function) (bare : Bare) (ty : Scalar) (x y : Operand) (os is rest : List Op) (b : Bool) → bare (stores_in os) ≡ b → (b ≡ true → is_spared m f (op.Store ty x y) ≡ true) →
@@ -99,7 +95,7 @@ other_spares m f bare o os n = refl
 
 other_spared : (m : Module) (f : Function) (o : Op) → NoStore o → is_spared m f o ≡ true → ⊥
 other_spared m f (op.Store ty x y) n e = n
-other_spared m f o n e = true_not (sym e)
+other_spared m f o n e = true_false (sym e)
 
 other_shown : (m : Module) (f : Function) (bare : Bare) (o : Op) (os is rest : List Op) → NoStore o → is ≡ mark_of o ++ (image_op m o ∷ rest) → Shown m f bare os rest → Shown m f bare (o ∷ os) is
 other_shown m f bare o os is rest n e sh = (
@@ -136,7 +132,7 @@ marked_shown : (m : Module) (f : Function) (os is : List Op) (bare : Bare) → I
 marked_shown m f [] is bare h a = (sym h, ap stores_in h, refl)
 marked_shown m f (op.Store ty x y ∷ os) is bare (rest, inl e, h) a =
     let r = guarded_agrees m f bare ty x y os is rest false e (rest_stores m f os rest h) a in
-    store_shown m f bare ty x y os is rest false r.0 (λ t. true_not (sym t)) e (marked_shown m f os rest bare h r.1)
+    store_shown m f bare ty x y os is rest false r.0 (λ t. true_false (sym t)) e (marked_shown m f os rest bare h r.1)
 marked_shown m f (op.Store ty x y ∷ os) is bare (rest, inr e, h) a =
     let r = guarded_agrees m f bare ty x y os is rest true e.1 (rest_stores m f os rest h) a in
     store_shown m f bare ty x y os is rest true r.0 (λ t. e.0) e.1 (marked_shown m f os rest bare h r.1)
@@ -150,16 +146,12 @@ not_any true true h e = sym e
 not_any true false h e = sym (h refl)
 not_any false b h e = refl
 
-same_bytes : (xs : List ℕ) → bytes_eq xs xs ≡ true
-same_bytes [] = refl
-same_bytes (x ∷ xs) = grind (arith, same_bytes xs)
-
 other_name : (names : List (List ℕ)) (x y : List ℕ) → is_distinct (y ∷ names) ≡ true → IsIn x names → bytes_eq y x ≡ false
-other_name names x y d i = not_any (bytes_eq y x) (list_any (bytes_eq y) names) (λ e. any_of (bytes_eq y) names x i e) (both_first (not (list_any (bytes_eq y) names)) (is_distinct names) d)
+other_name names x y d i = not_any (bytes_eq y x) (list_any (bytes_eq y) names) (λ e. any_of (bytes_eq y) names x i e) (first_true (not (list_any (bytes_eq y) names)) (is_distinct names) d)
 
 pub found_here : (c : Block) (cs : List Block) (label : List ℕ) (b : Bool) → bytes_eq c.name label ≡ b → b ≡ true → code_block_named (map code_block_of (c ∷ cs)) label ≡ Some (code_block_of c)
 found_here c cs label true e t = grind (arith, e)
-found_here c cs label false e t = true_not (sym t)
+found_here c cs label false e t = true_false (sym t)
 
 pub found_later : (c : Block) (cs : List Block) (label : List ℕ) → bytes_eq c.name label ≡ false → code_block_named (map code_block_of (c ∷ cs)) label ≡ code_block_named (map code_block_of cs) label
 found_later c cs label e = grind (arith, e)
@@ -168,7 +160,7 @@ named : (cs : List Block) (c : Block) → is_distinct (map name_of_block cs) ≡
 named [] c d i = absurd i
 named (y ∷ cs) c d (inl e) = subst (λ (z : Block). code_block_named (map code_block_of (y ∷ cs)) z.name ≡ Some (code_block_of z)) e (found_here y cs y.name (bytes_eq y.name y.name) refl (same_bytes y.name))
 named (y ∷ cs) c d (inr i) =
-    found_later y cs c.name (other_name (map name_of_block cs) c.name y.name d (in_map name_of_block c cs i)) ∙ named cs c (both_second (not (list_any (bytes_eq y.name) (map name_of_block cs))) (is_distinct (map name_of_block cs)) d) i
+    found_later y cs c.name (other_name (map name_of_block cs) c.name y.name d (in_map name_of_block c cs i)) ∙ named cs c (second_true (not (list_any (bytes_eq y.name) (map name_of_block cs))) (is_distinct (map name_of_block cs)) d) i
 
 same_labels : (m : Module) (f : Function) (bs cs : List Block) → AreMarked m f bs cs → map name_of_block cs ≡ map name_of_block bs
 same_labels m f [] [] h = refl

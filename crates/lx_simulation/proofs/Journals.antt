@@ -32,10 +32,11 @@ use Rattle.std.specs.Prelude.{slice_get, cond, ◌||◌}
 use Rattle.lx_model.specs.Next.{actions_of, request}
 use Rattle.lx_model.specs.State.{State}
 use Rattle.lx_model.specs.Act.{or_else, unless, unmapped, Acted}
-use Rattle.lx_model.specs.Enter.{text_of_principal, Running, entered_function, runs_by, runs_in, runs_as, found_nothing, nobody, not_annotated, fits_params, has_signature, decide_target, writer_refusal, written_target, by_writers, slot_writers, slot_signature, decide_slot, decide_enter}
+use Rattle.lx_model.specs.Enter.{text_of_principal, Running, runs_by, runs_in, runs_as, found_nothing, nobody, not_annotated, fits_params, has_signature, decide_target, writer_refusal, written_target, by_writers, slot_writers, slot_signature, decide_slot, decide_enter}
 use Rattle.lx_model.specs.Decide.{decide, decide_write, decide_what, decide_native, decide_alias, outcome_of, result_or_none, action_result, arg, unless_mapped}
 use Rattle.lx_model.specs.Serve.{Served, serving, serve, serve_by, with_entry, grant_what, entering, entering_as, after_native, after_try_lock, after_alloc, with_block, after_alias, with_history, history_or}
 use Rattle.lx_simulation.proofs.CountedStands.{seen, SameState}
+use Rattle.lx_model.proofs.Journals.{granted_journal}
 
 -- with another journal
 abbrev pub rejournaled : List Entry → State → State
@@ -186,34 +187,8 @@ serve_by-again p s j t r =
 
 -- nothing but the last entry changes the journal
 
-found-kept : (p : Program) (s : State) (q : Principal) (way : Way) (n : ℕ) (found : Found Running) → (entering_as p s q way n found).state.journal ≡ s.journal
-found-kept p s q way n (Err at) = refl
-found-kept p s q way n (Ok r) = refl
-
-entering-kept : (p : Program) (s : State) (q : Principal) (way : Way) (args : List Word) (n : Option ℕ) → (entering p s q way args n).state.journal ≡ s.journal
-entering-kept p s q way args None = refl
-entering-kept p s q way args (Some n) = found-kept p s q way n (runs_as p s q way n args)
-
-block-kept : (s : State) (at size : ℕ) → (with_block at size s).journal ≡ s.journal
-block-kept s zero size = refl
-block-kept s (suc n) size = refl
-
-lock-kept : (s : State) (at n : ℕ) → (after_try_lock s at n).state.journal ≡ s.journal
-lock-kept s at zero = refl
-lock-kept s at (suc n) = refl
-
-native-kept : (s : State) (t : ℕ) (q : Principal) (n : NativeCall) (args : List Word) → (after_native s t q n args).state.journal ≡ s.journal
-native-kept s t q Alloc args = block-kept s (alloc_address s.blocks (arg args 0)) (arg args 0)
-native-kept s t q TryLock args = lock-kept s (arg args 0) (number_at s.memory (arg args 0) 4)
-native-kept s t q _ args = refl
-
-grant-kept : (p : Program) (s : State) (t : ℕ) (q : Principal) (w : What) → (grant_what p s t q w).state.journal ≡ s.journal
-grant-kept p s t q (what.Enter way args) = entering-kept p s q way args (entered_function p s way)
-grant-kept p s t q (what.Native k args) = native-kept s t q (native_call k) args
-grant-kept p s t q _ = refl
-
 pub by-kept : (p : Program) (s : State) (t : ℕ) (r : Request) (o : Option Outcome) → (serve_by o p s t r).state.journal ≡ s.journal
-by-kept p s t r None = grant-kept p s t r.who r.what
+by-kept p s t r None = granted_journal p s t r.who r.what
 by-kept p s t r (Some o) = refl
 
 -- what is served from states that differ in their journals alone

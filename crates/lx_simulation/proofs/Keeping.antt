@@ -1,6 +1,7 @@
 -- A thread's own steps and requests keep the bytes that its functions have on the stack.
-use Rattle.std.proofs.Common.{◌≡◌, ℕ, zero, suc, ◌+◌, ◌-◌, ◌<◌, ◌≤◌, Bool, true, false, ◌||◌, List, [], ◌∷◌, Option, Some, None, ◌⊎◌, inl, inr, refl, sym, subst, arith}
+use Rattle.std.proofs.Common.{◌≡◌, ℕ, zero, suc, ◌+◌, ◌-◌, ◌<◌, ◌≤◌, Bool, true, false, ◌||◌, List, [], ◌∷◌, Option, Some, None, inl, inr, refl, sym, subst, arith, leb-true}
 use Rattle.std.specs.Prelude.{nat_le, Ok, Err}
+use Rattle.std.proofs.lemmas.Bool.{or_cases}
 use Rattle.lx_words.specs.Word.{Word, word}
 use Rattle.lx_words.specs.declared.word.Width.TheVariants.{W64}
 use Rattle.lx_caps.specs.declared.Principal.{Principal}
@@ -9,7 +10,7 @@ use Rattle.lx_caps.specs.declared.Cap.TheVariants as cap
 use Rattle.lx_caps.specs.declared.Atom.TheVariants.{Byte}
 use Rattle.lx_caps.specs.declared.Act.TheVariants.{Strip, Zero}
 use Rattle.lx_caps.specs.Regions.{covers, stacks_start, region_size, stack_start, stack_end}
-use Rattle.lx_caps.specs.History.{History, keeps, same_principal, with_grant}
+use Rattle.lx_caps.specs.History.{History, keeps, with_grant}
 use Rattle.lx_annot.specs.Value.{Found}
 use Rattle.lx_model.specs.declared.program.Program.{Program}
 use Rattle.lx_model.specs.declared.program.ScriptCall.{ScriptCall}
@@ -30,7 +31,10 @@ use Rattle.lx_model.specs.Decide.{decide, arg, action_result}
 use Rattle.lx_model.specs.Serve.{serve_by, entering, entering_as, with_block, after_try_lock, after_native, grant_what, history_or}
 use Rattle.lx_images.specs.Kept.{is_kernel, within, KeepsAll, LiesIn, Piled, FramesKept, Kept, OnStack, AskKept}
 use Rattle.lx_simulation.proofs.Absorbing.{thread_of, frame_of}
-use Rattle.lx_simulation.proofs.Sparing.{covers_in, spares_strip_above, spares_grant, perform_spares, starts_below, ends_above, frames_spared}
+use Rattle.lx_simulation.proofs.Sparing.{spares_strip_above, spares_grant, perform_spares, starts_below, ends_above, frames_spared}
+use Rattle.lx_model.proofs.Passing.{passed}
+use Rattle.lx_caps.proofs.Covering.{covers_parts}
+use Rattle.lx_caps.proofs.Principals.{same_principal_itself}
 
 -- the frames behind a reply
 
@@ -111,41 +115,23 @@ ret_kept h g p t calls ended fuel due a q None fs old pile k = leaving_kept g t 
 ret_kept h g p t calls ended fuel due a q (Some x) fs old pile k =
     ((pile.0, pile.1, pile.2, no_bytes a.low a.high), no_bytes_kept g q, k)
 
--- an alloca
-pub true_le : (a b : ℕ) → nat_le a b ≡ true → a ≤ b
-true_le a b e = grind (arith, e)
-
-pub unless_none : (b : Bool) (o : Outcome) → unless b o ≡ None → b ≡ true
-unless_none true o e = refl
-unless_none false o e = cc
-
-either : (a b : Bool) → (a || b) ≡ true → (a ≡ true) ⊎ (b ≡ true)
-either true b e = inl refl
-either false b e = inr e
-
-itself : (q : Principal) → same_principal q q ≡ true
-itself Kernel = refl
-itself (Shared m) = grind arith
-itself (Global m) = grind arith
-itself (Inst m k) = grind arith
-
 granted_byte : (q : Principal) (at size b : ℕ) (h : History) → is_kernel q ≡ false → covers at size b ≡ true → keeps (with_grant q (cap.Write at size) h) q (Byte b) ≡ true
 granted_byte Kernel at size b h m e = cc
-granted_byte (Shared n) at size b h m e = grind (arith, itself (Shared n), e)
-granted_byte (Global n) at size b h m e = grind (arith, itself (Global n), e)
-granted_byte (Inst n k) at size b h m e = grind (arith, itself (Inst n k), e)
+granted_byte (Shared n) at size b h m e = grind (arith, same_principal_itself (Shared n), e)
+granted_byte (Global n) at size b h m e = grind (arith, same_principal_itself (Global n), e)
+granted_byte (Inst n k) at size b h m e = grind (arith, same_principal_itself (Inst n k), e)
 
 alloca_lies : (low high at size : ℕ) (rs : List Range) → low ≤ high → high ≤ at → LiesIn low high rs → LiesIn low (at + size) (record { at = at; size = size } ∷ rs)
 alloca_lies low high at size rs lh ha lies b w =
-    elim (either (covers at size b) (within rs b) w) [
-      | inl new ↦ (let c : at ≤ b = (covers_in at size b new).0 in omega (arith, c, lh, ha), (covers_in at size b new).1)
+    elim (or_cases (covers at size b) (within rs b) w) [
+      | inl new ↦ (let c : at ≤ b = (covers_parts at size b new).0 in omega (arith, c, lh, ha), (covers_parts at size b new).1)
       | inr old ↦ ((lies b old).0, (let c : b < high = (lies b old).1 in omega (arith, c, ha)))
     ]
 
 alloca_keeps : (h : History) (q : Principal) (low high at size : ℕ) (rs : List Range) → high ≤ at → LiesIn low high rs → KeepsAll h q rs →
     KeepsAll (with_grant q (cap.Write at size) (Strip (cap.Write at size) ∷ h)) q (record { at = at; size = size } ∷ rs)
 alloca_keeps h q low high at size rs ha lies own b m w =
-    elim (either (covers at size b) (within rs b) w) [
+    elim (or_cases (covers at size b) (within rs b) w) [
       | inl new ↦ granted_byte q at size b (Strip (cap.Write at size) ∷ h) m new
       | inr old ↦ spares_grant low high q (cap.Write at size) h (Strip (cap.Write at size) ∷ h) (spares_strip_above low high at size h ha) q b (lies b old).0 (lies b old).1 (own b m old)
     ]
@@ -185,7 +171,7 @@ alloca_served : (p : Program) (s : State) (t : ℕ) (calls : List ScriptCall) (e
 alloca_served p s t calls ended fuel due [] who at size k fits e = absurd fits
 alloca_served p s t calls ended fuel due (f ∷ fs) who at size k fits e =
     subst (λ (q : Principal). FramesKept (with_grant q (cap.Write at size) (Strip (cap.Write at size) ∷ s.history)) t (frame_of (activation_behind (Some (word W64 at)) (with_alloca at size f.run)) f.principal f.crossing ∷ fs)) fits.1
-    (alloca_kept s.history t f.run f.principal f.crossing fs at size (Some (word W64 at)) fits.0 (true_le _ _ (unless_none _ _ e)) k)
+    (alloca_kept s.history t f.run f.principal f.crossing fs at size (Some (word W64 at)) fits.0 (leb-true _ _ (passed _ _ e)) k)
 
 return_served : (p : Program) (s : State) (t : ℕ) (calls : List ScriptCall) (ended : List Ending) (fuel : ℕ) (due : Option Outcome) (gs : List Frame) (who : Principal) (low high : ℕ) →
     FramesKept s.history t gs → ReturnFits low high gs →

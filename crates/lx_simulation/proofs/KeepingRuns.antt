@@ -1,5 +1,5 @@
 -- Whatever the schedule, each function keeps the bytes that it has on the stack.
-use Rattle.std.proofs.Common.{◌≡◌, ℕ, zero, suc, ◌+◌, ◌-◌, ◌<◌, ◌≤◌, Bool, true, false, List, [], ◌∷◌, Option, Some, None, ◌⊎◌, inl, inr, refl, arith}
+use Rattle.std.proofs.Common.{◌≡◌, ℕ, zero, suc, ◌+◌, ◌-◌, ◌<◌, ◌≤◌, Bool, true, false, List, [], ◌∷◌, Option, Some, None, ◌⊎◌, inl, inr, refl, arith, leb-true}
 use Rattle.std.specs.Prelude.{Ok, Err}
 use Rattle.lx_words.specs.Word.{Word}
 use Rattle.lx_caps.specs.declared.Principal.{Principal}
@@ -32,10 +32,12 @@ use Rattle.lx_model.specs.Next.{Step, Goes, Asks, Asking, step, next_within, nex
 use Rattle.lx_model.specs.World.{World, after_request, event_if, event_of, event, opening, run}
 use Rattle.lx_simulation.proofs.CountedStands.{Each}
 use Rattle.lx_images.specs.Kept.{WorldKept}
-use Rattle.lx_simulation.proofs.Keeping.{true_le, unless_none, served_kept, stacks_from, stacks_to}
+use Rattle.lx_simulation.proofs.Keeping.{served_kept, stacks_from, stacks_to}
 use Rattle.lx_simulation.proofs.KeepingSteps.{step_kept}
 use Rattle.lx_simulation.proofs.Runs.{each_get}
 use Rattle.lx_simulation.proofs.Sparing.{Spares, spares_strip_above, spares_strip_below, spares_grant, perform_spares, same_history, ends_above, frames_spared}
+use Rattle.lx_caps.proofs.Tests.{one_less as suc_same}
+use Rattle.lx_model.proofs.Passing.{passed}
 
 -- up to the next request
 
@@ -95,7 +97,7 @@ others_granted : (k : ℕ) (p : Program) (s : State) (t : ℕ) (who : Principal)
     Spares (stack_start k) (stack_end k) s.history (grant_what p s t who w).state.history
 others_granted k p s t who (what.Alloca at size) low ne on e =
     spares_grant (stack_start k) (stack_end k) who (cap.Write at size) s.history (Strip (cap.Write at size) ∷ s.history)
-    (strip_apart k t at size s.history ne on (true_le _ _ (unless_none _ _ e)))
+    (strip_apart k t at size s.history ne on (leb-true _ _ (passed _ _ e)))
 others_granted k p s t who (what.Return from to) low ne on e = strip_apart k t from (to - from) s.history ne on.0 (return_size from to (stack_end t) on.1 on.2)
 others_granted k p s t who (what.Enter way args) low ne on e = unchanged_enter (stack_start k) (stack_end k) p s who way args (entered_function p s way)
 others_granted k p s t who (what.Perform n post i env source dest) low ne on e =
@@ -134,9 +136,6 @@ zero_suc k e = omega (arith, e)
 
 suc_zero : (k : ℕ) → suc k ≡ zero → ⊥
 suc_zero k e = omega (arith, e)
-
-suc_same : (k t : ℕ) → suc k ≡ suc t → k ≡ t
-suc_same k t e = omega (arith, e)
 
 each_change : (P Q : ℕ → Thread → Type 0) (xs : List Thread) (t : ℕ) (y : Thread) → ((k : ℕ) → (k ≡ t → ⊥) → (x : Thread) → P k x → Q k x) → Q t y → Each P xs → Each Q (slice_set xs t y)
 each_change P Q [] t y h q w = tt

@@ -1,6 +1,6 @@
 -- An action that the wrappers of its function have no line for is never asked for, whatever the code.
-use Rattle.std.proofs.Common.{◌≡◌, ℕ, zero, suc, ◌+◌, ◌*◌, Bool, true, false, not, List, [], ◌∷◌, length, map, Option, Some, None, inl, inr, refl, subst, ◌∙◌, ap, arith}
-use Rattle.std.specs.Prelude.{slice_get, slice_set, nat_eq}
+use Rattle.std.proofs.Common.{◌≡◌, ℕ, zero, suc, ◌+◌, ◌*◌, Bool, true, false, not, List, [], ◌∷◌, length, map, Option, Some, None, inl, inr, refl, subst, ◌∙◌, ap, eq-eqb}
+use Rattle.std.specs.Prelude.{slice_get, slice_set}
 use Rattle.lx_words.specs.Word.{Word}
 use Rattle.lx_caps.specs.declared.Principal.{Principal}
 use Rattle.lx_caps.specs.declared.Principal.TheVariants.{Kernel}
@@ -39,7 +39,9 @@ use Rattle.lx_simulation.specs.Crossing.{is_action, lacks, LacksLine, NotFor}
 use Rattle.lx_simulation.proofs.Journals.{by-kept}
 use Rattle.lx_simulation.proofs.Table.{in_either}
 use Rattle.lx_simulation.proofs.Wrapping.{is_not}
-use Rattle.lx_simulation.proofs.Elements.{some_is, none_some, both_first, both_second}
+use Rattle.lx_simulation.proofs.Elements.{none_some}
+use Rattle.lx_caps.proofs.Tests.{first_true, second_true}
+use Rattle.lx_caps.proofs.Items.{some_same}
 
 -- the wrappers of the function among these frames have no line for the action
 abbrev Free : ℕ → Bool → ℕ → List ImageFrame → Type 0
@@ -167,16 +169,12 @@ leaving_free n post k v x fs [] h = comes_free n post k (Trapped Unreachable) v
 leaving_free n post k v x fs (op.Ret r ∷ lines) h = leaves_free n post k x fs v h
 leaving_free n post k v x fs (o ∷ lines) h = comes_free n post k (Trapped Unreachable) v
 
--- the same number
-same_number : (j k : ℕ) → j ≡ k → nat_eq j k ≡ true
-same_number j k e = grind (arith, e)
-
 is_pre : (s : Symbol) (j k : ℕ) (post : Bool) → false ≡ post → j ≡ k → is_action post k (op.Pre s j) ≡ true
-is_pre s j k false e same = same_number j k same
+is_pre s j k false e same = eq-eqb j k same
 is_pre s j k true e same = cc
 
 is_post : (s : Symbol) (j k : ℕ) (post : Bool) → true ≡ post → j ≡ k → is_action post k (op.Post s j) ≡ true
-is_post s j k true e same = same_number j k same
+is_post s j k true e same = eq-eqb j k same
 is_post s j k false e same = cc
 
 pre_not : (n : ℕ) (post : Bool) (k m j : ℕ) (s : Symbol) (lines : List Op) (env : Env) (source dest : Principal) → (m ≡ n → lacks post k (op.Pre s j ∷ lines) ≡ true) → NotFor n post k (what.Perform m false j env source dest)
@@ -184,14 +182,14 @@ pre_not n post k m j s lines env source dest l env' source' dest' e =
     let function : m ≡ n = cc in
     let side : false ≡ post = cc in
     let number : j ≡ k = cc in
-    is_not (is_action post k (op.Pre s j)) (is_pre s j k post side number) (both_first (not (is_action post k (op.Pre s j))) (lacks post k lines) (l function))
+    is_not (is_action post k (op.Pre s j)) (is_pre s j k post side number) (first_true (not (is_action post k (op.Pre s j))) (lacks post k lines) (l function))
 
 post_not : (n : ℕ) (post : Bool) (k m j : ℕ) (s : Symbol) (lines : List Op) (env : Env) (source dest : Principal) → (m ≡ n → lacks post k (op.Post s j ∷ lines) ≡ true) → NotFor n post k (what.Perform m true j env source dest)
 post_not n post k m j s lines env source dest l env' source' dest' e =
     let function : m ≡ n = cc in
     let side : true ≡ post = cc in
     let number : j ≡ k = cc in
-    is_not (is_action post k (op.Post s j)) (is_post s j k post side number) (both_first (not (is_action post k (op.Post s j))) (lacks post k lines) (l function))
+    is_not (is_action post k (op.Post s j)) (is_post s j k post side number) (first_true (not (is_action post k (op.Post s j))) (lacks post k lines) (l function))
 
 action_free : (n : ℕ) (post : Bool) (k : ℕ) (b : Bool) (v : ImageThread) (fuel m : ℕ) (side : Bool) (j : ℕ) (args : List Word) (x : Option Word) (source dest : Principal) → Free n post k v.frames →
     NotFor n post k (what.Perform m side j (record { args = args; ret = x }) source dest) → FreeStep n post k (action_line b (record v { fuel = fuel }) m side j args x source dest)
@@ -245,7 +243,7 @@ next_free (suc i) n post k c l v h = further_free i n post k c (image_step c v) 
 
 rest_lacks : (post : Bool) (k : ℕ) (lines : List Op) → lacks post k lines ≡ true → lacks post k (behind_head lines) ≡ true
 rest_lacks post k [] h = refl
-rest_lacks post k (o ∷ lines) h = both_second (not (is_action post k o)) (lacks post k lines) h
+rest_lacks post k (o ∷ lines) h = second_true (not (is_action post k o)) (lacks post k lines) h
 
 at_free : (n : ℕ) (post : Bool) (k : ℕ) (c : Code) (t m : ℕ) (args : List Word) (x : Option Word) (fs : List ImageFrame) (lines : List Op) → (m ≡ n → lacks post k lines ≡ true) → Free n post k fs → Free n post k (at_lines c t m args x fs lines)
 at_free n post k c t m args x fs [] l h = (l, h)
@@ -324,7 +322,7 @@ record FreeWorld (n : ℕ) (post : Bool) (k : ℕ) (w : ImageWorld) : Type 0 whe
 
 got_free : (n : ℕ) (post : Bool) (k : ℕ) (vs : List ImageThread) (t : ℕ) (v : ImageThread) → AllFree n post k vs → slice_get vs t ≡ Some v → Free n post k v.frames
 got_free n post k [] t v all e = none_some e
-got_free n post k (x ∷ vs) zero v all e = subst (λ (y : ImageThread). Free n post k y.frames) (some_is e) all.0
+got_free n post k (x ∷ vs) zero v all e = subst (λ (y : ImageThread). Free n post k y.frames) (some_same e) all.0
 got_free n post k (x ∷ vs) (suc t) v all e = got_free n post k vs t v all.1 e
 
 set_free : (n : ℕ) (post : Bool) (k : ℕ) (vs : List ImageThread) (t : ℕ) (v : ImageThread) → AllFree n post k vs → Free n post k v.frames → AllFree n post k (slice_set vs t v)

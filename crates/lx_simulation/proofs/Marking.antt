@@ -14,7 +14,8 @@ use Rattle.lx_model.specs.Thread.{Activation}
 use Rattle.lx_model.specs.Effect.{text_of}
 use Rattle.lx_simulation.proofs.Counted.{Code, ImageFrame, ImageThread, top}
 use Rattle.lx_images.specs.Guarded.{guarded_run, waiting_run}
-use Rattle.std.specs.Prelude.{nat_eq, nat_le, ◌&&◌}
+use Rattle.std.specs.Prelude.{nat_le}
+use Rattle.std.proofs.lemmas.Bool.{and_from}
 use Rattle.lx_words.specs.Width.{byte_count}
 use Rattle.lx_ir.specs.declared.instr.Callee.TheVariants as callee
 use Rattle.lx_ir.specs.declared.instr.Op.{Op}
@@ -75,16 +76,8 @@ marked c v is (Some m) a o os = refl
 le_itself : (n : ℕ) → nat_le n n ≡ true
 le_itself n = grind arith
 
-pub equal_itself : (n : ℕ) → nat_eq n n ≡ true
-equal_itself n = grind arith
-
-both : (a b : Bool) → a ≡ true → b ≡ true → (a && b) ≡ true
-both true true e f = refl
-both true false e f = cc
-both false b e f = cc
-
 pub covered_itself : (at size : ℕ) → covered (Some (at, size)) at size ≡ true
-covered_itself at size = both (nat_le at at) (nat_le (at + size) (at + size)) (le_itself at) (le_itself (at + size))
+covered_itself at size = and_from (nat_le at at) (nat_le (at + size) (at + size)) (le_itself at) (le_itself (at + size))
 
 pub top_if : (b : Bool) (shadow : List Principal) → b ≡ true → principal_if b shadow ≡ top shadow
 top_if true shadow e = refl

@@ -17,6 +17,7 @@ use Rattle.lx_images.specs.ImageWorld.{ImageWorld, image_event, image_opening, i
 use Rattle.lx_images.specs.Shown.{shown, shown_thread, image_is_whole}
 use Rattle.lx_images.specs.Stands.{SameState, StandsFor, Seen, seen, ThreadStands, ThreadsStand}
 use Rattle.lx_simulation.specs.Images.{code_of}
+use Rattle.lx_model.proofs.Turns.{run_more}
 
 -- the threads of what was seen of the journal's entries
 threads_seen : (js : List Entry) → map (λ (e : Entry). e.thread) js ≡ map (λ (x : Seen). x.thread) (map seen js)
@@ -95,11 +96,7 @@ done c w v stands = ap (λ (xs : List Thread). not (list_any has_work xs)) (show
 
 -- schedules
 
-run_further : (p : Program) (s : List ℕ) (t : ℕ) (w : World) → run p (s ++ t ∷ []) w ≡ event p t (run p s w)
-run_further p [] t w = refl
-run_further p (x ∷ s) t w = run_further p s t (event p x w)
-
-image_run_further : (c : Code) (s : List ℕ) (t : ℕ) (v : ImageWorld) → image_run c (s ++ t ∷ []) v ≡ image_event c t (image_run c s v)
+pub image_run_further : (c : Code) (s : List ℕ) (t : ℕ) (v : ImageWorld) → image_run c (s ++ t ∷ []) v ≡ image_event c t (image_run c s v)
 image_run_further c [] t v = refl
 image_run_further c (x ∷ s) t v = image_run_further c s t (image_event c x v)
 
@@ -112,7 +109,7 @@ whole_from c w v all before (t ∷ ts) =
     let rest : image_is_whole c ts (image_event c t (image_run c before v)) ≡ is_whole c.program ts (event c.program t (run c.program before w)) =
     ap (λ (x : ImageWorld). image_is_whole c ts x) (sym (image_run_further c before t v))
     ∙ (whole_from c w v all (before ++ t ∷ []) ts
-    ∙ ap (λ (x : World). is_whole c.program ts x) (run_further c.program before t w)) in
+    ∙ ap (λ (x : World). is_whole c.program ts x) (run_more c.program before t w)) in
     λ k. first k && rest k
 
 pub wholes : (p : Program) (images : List Module) (script : List (List ScriptCall))

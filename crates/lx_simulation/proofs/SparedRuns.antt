@@ -41,13 +41,14 @@ use Rattle.lx_simulation.proofs.CountedStands.{Each, Well, WorldWell, StandsFor,
 use Rattle.lx_images.specs.Kept.{Kept, WorldKept, AskKept}
 use Rattle.lx_images.specs.Places.{PlacesKept, AllPlaces, WorldPlaces, IsLiveAt, IsLive, IsIn, PlaceKept}
 use Rattle.lx_images.specs.Fitting.{ScriptFits}
-use Rattle.lx_simulation.proofs.Elements.{some_is, none_some}
-use Rattle.lx_simulation.proofs.Counting.{CountFits, count_in, map_length, widths_length, entry_counts}
+use Rattle.lx_simulation.proofs.Elements.{none_some}
+use Rattle.lx_simulation.proofs.Counting.{CountFits, count_in, widths_length, entry_counts}
 use Rattle.lx_simulation.proofs.Frames.{AllVerified, AskedWell, CallsFit, StoodBy, StoodIn, StageStood, TopStood, WaitStood, FramesStood, ThreadStood, StepStood, step_stood, ReplyFits, taken_stood}
 use Rattle.lx_simulation.proofs.Walking.{is_assigned, Registered, RegisteredIn, place_kept}
 use Rattle.lx_simulation.proofs.Held.{store_held}
 use Rattle.lx_simulation.proofs.KeepingRuns.{within_kept, event_kept, fresh_kept}
 use Rattle.lx_simulation.proofs.Runs.{each_get, each_set, event_agrees, fresh_well, opening_stands}
+use Rattle.lx_caps.proofs.Items.{some_same, map_length}
 
 -- what is replied fits what was asked
 
@@ -145,7 +146,7 @@ call_fits : (p : Program) (n : ℕ) (args : List Word) → FitsFunction p n args
 call_fits p n args f g e =
     count_in (home_or_kernel p n) g args
     (sym (map_length (λ (w : Word). w.width) args)
-    ∙ (widths_length (widths args) (param_widths f.0) f.2 ∙ (map_length (λ (x : Parameter). width_of x.ty) f.0.params ∙ ap (λ (x : Function). length x.params) (some_is (sym f.1 ∙ e)))))
+    ∙ (widths_length (widths args) (param_widths f.0) f.2 ∙ (map_length (λ (x : Parameter). width_of x.ty) f.0.params ∙ ap (λ (x : Function). length x.params) (some_same (sym f.1 ∙ e)))))
 
 calls_fit : (p : Program) (calls : List ScriptCall) → All (λ (c : ScriptCall). FitsFunction p c.function c.args) calls → CallsFit p calls
 calls_fit p [] a = tt
@@ -186,7 +187,7 @@ place_by : (p : Program) (a : Activation) (m : ℕ) (g : Function) (i : Instr) (
 place_by p a m g i r ty None ef et at ei st = none_some ef
 place_by p a m g i r ty (Some k) ef et at ei st =
     let reg : Registered (types_of p a) k a st.walk st.block st.place = subst (λ (x : Home). RegisteredIn x (types_of p a) k a st.walk st.block st.place) et st.registered in
-    place_kept (is_assigned k st.walk st.block st.place r) (types_of p a) a r ty (reg.1 i r ty (subst (λ (x : Function). IsIn i (instrs_of x)) (sym (some_is ef)) at) ei)
+    place_kept (is_assigned k st.walk st.block st.place r) (types_of p a) a r ty (reg.1 i r ty (subst (λ (x : Function). IsIn i (instrs_of x)) (sym (some_same ef)) at) ei)
 
 frame_places : (p : Program) (f : Frame) → (IsLive f.crossing → StoodIn p f.run) → PlacesKept p f
 frame_places p f st m g i r ty live et ef at ei = place_by p f.run m g i r ty (function_of p f.run.function) ef et at ei (st live)

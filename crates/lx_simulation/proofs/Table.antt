@@ -8,12 +8,14 @@ use Rattle.lx_model.specs.declared.program.Program.{Program}
 use Rattle.lx_model.specs.declared.program.ProgramModule.{ProgramModule}
 use Rattle.lx_model.specs.declared.program.ProgramFunction.{ProgramFunction}
 use Rattle.lx_model.specs.declared.program.ProgramFunction.TheVariants.{Of, Native}
-use Rattle.lx_model.specs.Program.{Home, module_or_empty, module_of}
+use Rattle.lx_model.specs.Program.{Home}
 use Rattle.lx_link_texts.specs.Placing.{natives, entry_if, entries_from, module_entries, functions_of}
 use Rattle.lx_link_texts.specs.WellFormed.{texts_of, IsWellFormed}
 use Rattle.lx_images.specs.Places.{IsIn}
 use Rattle.lx_images.specs.HasImages.{NamesDefined}
-use Rattle.lx_simulation.proofs.Elements.{some_is, in_got}
+use Rattle.lx_simulation.proofs.Elements.{in_got}
+use Rattle.lx_caps.proofs.Items.{some_same}
+use Rattle.lx_model.proofs.Homes.{module_at}
 
 pub in_either : {A : Type 0} (x : A) (xs ys : List A) → IsIn x (xs ++ ys) → IsIn x xs ⊎ IsIn x ys
 in_either x [] ys i = inr i
@@ -51,7 +53,7 @@ modules_in k (x ∷ ms) m f i =
     elim (in_either (Of (Some m) f) (entries_from (Some k) 0 x.«module».functions) (module_entries (k + 1) ms) i) [
       | inl a ↦ (
           let h : OfText (Some k) 0 x.«module».functions (Of (Some m) f) = entries_in (Some k) 0 x.«module».functions (Of (Some m) f) a in
-          let e : m ≡ k = some_is h.0 in
+          let e : m ≡ k = some_same h.0 in
           let n : f ≡ 0 + h.1 = h.3 in
           let same : f ≡ h.1 = omega (arith, n) in
           (0, x, h.2, omega (arith, e), refl, ap (slice_get x.«module».functions) same ∙ h.4, h.5))
@@ -94,9 +96,6 @@ in_table kernel ms m f i =
       ]
     ]
 
-pub module_at : (p : Program) (m : ℕ) (y : ProgramModule) → slice_get p.modules m ≡ Some y → module_of p (Some m) ≡ y.«module»
-module_at p m y e = ap module_or_empty e
-
 -- an entry of the table is a function that its module defines
 pub listed : (p : Program) → IsWellFormed p → (n m f : ℕ) → slice_get p.functions n ≡ Some (Of (Some m) f) →
     (y : ProgramModule) × (g : Function) × (slice_get p.modules m ≡ Some y) × (slice_get y.«module».functions f ≡ Some g) × (is_defined g ≡ true)
@@ -109,5 +108,5 @@ listed p w n m f e =
 pub names_defined : (p : Program) → IsWellFormed p → NamesDefined p
 names_defined p w n m f g e eg =
     let r = listed p w n m f e in
-    let it : r.1 ≡ g = some_is (sym r.3 ∙ (ap (λ (x : Module). slice_get x.functions f) (sym (module_at p m r.0 r.2)) ∙ eg)) in
+    let it : r.1 ≡ g = some_same (sym r.3 ∙ (ap (λ (x : Module). slice_get x.functions f) (sym (module_at p m r.0 r.2)) ∙ eg)) in
     ap is_defined (sym it) ∙ r.4

@@ -27,6 +27,7 @@ use Rattle.lx_images.specs.Wrappers.{in_lines}
 use Rattle.lx_images.specs.Image.{ImageFrame, Runs, Wraps, ImageThread, running, stack_top, has_room, after_leaving, past_instruction, at_lines, entered_frames, fits_site, after_entry, after_reply, image_absorb}
 use Rattle.lx_images.specs.WrapperLines.{Wording, from_post, from_pre, IsWrapperOf, WrapsWell}
 use Rattle.lx_simulation.proofs.Worded.{Worded, Ran, Wrapped, counted, lined, Waiting, Placed, Alike, AbsorbAlike}
+use Rattle.lx_caps.proofs.Tests.{less_none, true_false}
 
 -- threads from their parts
 
@@ -79,20 +80,18 @@ abbrev pub is_more : List Action → Bool
 is_more [] = false
 is_more (a ∷ as') = true
 
-less_none : (k : ℕ) → nat_lt k 0 ≡ false
-less_none k = grind arith
-
 none_less : (n : ℕ) → nat_lt 0 (suc n) ≡ true
 none_less n = grind arith
 
 less_suc : (k n : ℕ) → nat_lt (suc k) (suc n) ≡ nat_lt k n
 less_suc k n = grind arith
 
-has_more : (xs : List Action) (k : ℕ) → nat_lt k (length xs) ≡ is_more (drop k xs)
-has_more [] zero = less_none 0
-has_more [] (suc k) = less_none (suc k)
-has_more (x ∷ xs) zero = none_less (length xs)
-has_more (x ∷ xs) (suc k) = less_suc k (length xs) ∙ has_more xs k
+-- what is left of the actions, by whether there is one of this number
+pub is_left : (xs : List Action) (k : ℕ) → nat_lt k (length xs) ≡ is_more (drop k xs)
+is_left [] zero = less_none 0
+is_left [] (suc k) = less_none (suc k)
+is_left (x ∷ xs) zero = none_less (length xs)
+is_left (x ∷ xs) (suc k) = less_suc k (length xs) ∙ is_left xs k
 
 abbrev pub Steps : List Action → ℕ → List Action → Type 0
 Steps xs k [] = Unit {0}
@@ -106,9 +105,6 @@ goes (x ∷ xs) (suc k) = goes xs k
 
 -- where the next action is none
 
-more_none : {A : Type 0} → true ≡ false → A
-more_none e = cc
-
 -- a wrapper that has come to an action before its body, or to its call
 pub coming : (c : Code) (t n k : ℕ) (args : List Word) (w : Wording) (x : Option Word) (ws : List Worded) (as' : List Action) → drop k (annotation_or_none c.program n).pre ≡ as' → Waiting ws →
     FramesAlike c (at_pre c t k n args (map counted ws)) (at_lines c t n args x (map (lined c) ws) (from_pre w (annotation_or_none c.program n) k as'))
@@ -116,11 +112,11 @@ coming c t n k args w x ws [] e wait =
     record {
       frames = Ran (start_of n (image_routine c n) args (counted_stack_top t (map counted ws))) ∷ Wrapped n args InBody w x ∷ ws;
       placed = wait;
-      counts = ap (λ (b : Bool). before_body c t b k n args (map counted ws)) (has_more (annotation_or_none c.program n).pre k ∙ ap is_more e);
+      counts = ap (λ (b : Bool). before_body c t b k n args (map counted ws)) (is_left (annotation_or_none c.program n).pre k ∙ ap is_more e);
       reads = ap (λ (s : ℕ). Runs (start_of n (image_routine c n) args s) ∷ map (lined c) (Wrapped n args InBody w x ∷ ws)) (same_top c t ws);
     }
 coming c t n k args w x ws (a ∷ as') e wait =
-    let has : has_action c.program n false k ≡ true = has_more (annotation_or_none c.program n).pre k ∙ ap is_more e in
+    let has : has_action c.program n false k ≡ true = is_left (annotation_or_none c.program n).pre k ∙ ap is_more e in
     record {
       frames = Wrapped n args (AtPre k) w x ∷ ws;
       placed = (has, wait);
@@ -131,7 +127,7 @@ coming c t n k args w x ws (a ∷ as') e wait =
 -- one behind an action before its body
 pub behind_pre : (c : Code) (t n k : ℕ) (args : List Word) (w : Wording) (x : Option Word) (ws : List Worded) (as' : List Action) → drop k (annotation_or_none c.program n).pre ≡ as' → Steps (annotation_or_none c.program n).pre k as' → has_action c.program n false k ≡ true → Waiting ws →
     FramesAlike c (at_pre c t (suc k) n args (map counted ws)) (at_lines c t n args x (map (lined c) ws) (behind_head (from_pre w (annotation_or_none c.program n) k as')))
-behind_pre c t n k args w x ws [] e s has wait = more_none (sym has ∙ (has_more (annotation_or_none c.program n).pre k ∙ ap is_more e))
+behind_pre c t n k args w x ws [] e s has wait = true_false (sym has ∙ (is_left (annotation_or_none c.program n).pre k ∙ ap is_more e))
 behind_pre c t n k args w x ws (a ∷ as') e s has wait = coming c t n (suc k) args w x ws as' s wait
 
 -- one behind its body stands before each line
@@ -141,7 +137,7 @@ stands_post c t n k args w x gs (a ∷ as') = refl
 
 pub behind_post : (c : Code) (t n k : ℕ) (args : List Word) (w : Wording) (y old : Option Word) (ws : List Worded) (as' : List Action) → drop k (annotation_or_none c.program n).post ≡ as' → Steps (annotation_or_none c.program n).post k as' → has_action c.program n true k ≡ true → Waiting ws →
     FramesAlike c (CountedWraps n args (AtPost (suc k) y) ∷ map counted ws) (at_lines c t n args y (map (lined c) ws) (behind_head (from_post w k as')))
-behind_post c t n k args w y old ws [] e s has wait = more_none (sym has ∙ (has_more (annotation_or_none c.program n).post k ∙ ap is_more e))
+behind_post c t n k args w y old ws [] e s has wait = true_false (sym has ∙ (is_left (annotation_or_none c.program n).post k ∙ ap is_more e))
 behind_post c t n k args w y old ws (a ∷ as') e s has wait =
     record {
       frames = Wrapped n args (AtPost (suc k) y) w old ∷ ws;
@@ -306,7 +302,3 @@ post_replied c calls ended fuel n args k y w x ws shadow wait has r m post i env
 post_replied c calls ended fuel n args k y w x ws shadow wait has r m post i env source dest e t reply =
     framed c calls ended fuel None (CountedWraps n args (AtPost (suc k) y) ∷ map counted ws) (at_lines c t n args y (map (lined c) ws) (behind_head (from_post w k (drop k (annotation_or_none c.program n).post)))) shadow
     (behind_post c t n k args w y x ws (drop k (annotation_or_none c.program n).post) refl (goes (annotation_or_none c.program n).post k) has wait)
-
--- what is left of the actions, by whether there is one of this number
-pub is_left : (xs : List Action) (k : ℕ) → nat_lt k (length xs) ≡ is_more (drop k xs)
-is_left xs k = has_more xs k

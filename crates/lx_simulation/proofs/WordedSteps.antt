@@ -23,6 +23,7 @@ use Rattle.lx_images.specs.Image.{ImageFrame, ImageThread, ImageStep, Asks, come
 use Rattle.lx_images.specs.WrapperLines.{Wording, from_post, from_pre, IsWrapperOf, WrapsWell}
 use Rattle.lx_simulation.proofs.Worded.{Worded, Ran, Wrapped, counted, lined, line_thread, Waiting, StandsOnTop, Placed, Alike, StepsAlike}
 use Rattle.lx_simulation.proofs.WordedReplies.{counting, reading, made, same_room, leaves, finishes, replied, enter_replied, pre_replied, post_replied, is_more, is_left}
+use Rattle.lx_caps.proofs.Tests.{true_false, false_true}
 
 -- an outcome is due
 comes : (c : Code) (calls : List ScriptCall) (ended : List Ending) (fuel : ℕ) (due : Option Outcome) (fs : List CountedFrame) (gs : List ImageFrame) (shadow : List Principal) (o : Outcome) →
@@ -89,17 +90,11 @@ codes_alike c h calls ended fuel fs gs shadow ws (o ∷ os) wait m a = ones c h 
 
 -- the lines of a wrapper
 
-no_more : {A : Type 0} → false ≡ true → A
-no_more e = cc
-
-one_more : {A : Type 0} → true ≡ false → A
-one_more e = cc
-
 -- an action before the body
 pre_line : (c : Code) (calls : List ScriptCall) (ended : List Ending) (fuel : ℕ) (n : ℕ) (args : List Word) (k : ℕ) (w : Wording) (x : Option Word) (ws : List Worded) (shadow : List Principal) (as' : List Action) (b : Bool) → drop k (annotation_or_none c.program n).pre ≡ as' → has_action c.program n false k ≡ b → has_action c.program n false k ≡ true → Waiting ws →
     StepsAlike c (counted_wrapper_line c (counting calls ended fuel None (map counted (Wrapped n args (AtPre k) w x ∷ ws)) shadow) n args (AtPre k) (map counted ws))
     (wrapper_line c (reading calls ended fuel None (map (lined c) (Wrapped n args (AtPre k) w x ∷ ws)) shadow) n args x (map (lined c) ws) (from_pre w (annotation_or_none c.program n) k as'))
-pre_line c calls ended fuel n args k w x ws shadow [] b e eb has wait = no_more (sym (is_left (annotation_or_none c.program n).pre k ∙ ap is_more e) ∙ has)
+pre_line c calls ended fuel n args k w x ws shadow [] b e eb has wait = false_true (sym (is_left (annotation_or_none c.program n).pre k ∙ ap is_more e) ∙ has)
 pre_line c calls ended fuel n args k w x ws shadow (a ∷ as') b e eb has wait =
     subst (λ (d : Bool). StepsAlike c (counted_wrapper_line c (counting calls ended fuel None (map counted (Wrapped n args (AtPre k) w x ∷ ws)) shadow) n args (AtPre k) (map counted ws))
     (action_line d (reading calls ended fuel None (map (lined c) (Wrapped n args (AtPre k) w x ∷ ws)) shadow) n false k args None (below_top shadow) (top shadow))) (sym has)
@@ -114,8 +109,8 @@ post_line : (c : Code) (calls : List ScriptCall) (ended : List Ending) (fuel : �
     (wrapper_line c (reading calls ended fuel None (map (lined c) (Wrapped n args (AtPost k y) w x ∷ ws)) shadow) n args y (map (lined c) ws) (from_post w k as'))
 post_line c calls ended fuel n args k y w x ws shadow [] false e eb wait =
     leaves c calls ended fuel ws (map counted (Wrapped n args (AtPost k y) w x ∷ ws)) (map (lined c) (Wrapped n args (AtPost k y) w x ∷ ws)) (tail shadow) None y wait
-post_line c calls ended fuel n args k y w x ws shadow [] true e eb wait = no_more (sym (is_left (annotation_or_none c.program n).post k ∙ ap is_more e) ∙ eb)
-post_line c calls ended fuel n args k y w x ws shadow (a ∷ as') false e eb wait = one_more (sym (is_left (annotation_or_none c.program n).post k ∙ ap is_more e) ∙ eb)
+post_line c calls ended fuel n args k y w x ws shadow [] true e eb wait = false_true (sym (is_left (annotation_or_none c.program n).post k ∙ ap is_more e) ∙ eb)
+post_line c calls ended fuel n args k y w x ws shadow (a ∷ as') false e eb wait = true_false (sym (is_left (annotation_or_none c.program n).post k ∙ ap is_more e) ∙ eb)
 post_line c calls ended fuel n args k y w x ws shadow (a ∷ as') true e eb wait =
     subst (λ (d : Bool). StepsAlike c (counted_post_line true (counting calls ended fuel None (map counted (Wrapped n args (AtPost k y) w x ∷ ws)) shadow) n args k y (map counted ws))
     (action_line d (reading calls ended fuel None (map (lined c) (Wrapped n args (AtPost k y) w x ∷ ws)) shadow) n true k args y (top shadow) (below_top shadow))) (sym eb)

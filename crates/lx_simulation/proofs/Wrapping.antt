@@ -1,9 +1,10 @@
 -- The wrappers of a program's images have their right lines.
-use Rattle.std.proofs.Common.{◌≡◌, ℕ, zero, suc, ◌+◌, ◌<◌, Bool, true, false, not, ◌&&◌, ◌||◌, List, [], ◌∷◌, ◌++◌, length, map, take, drop, Option, Some, None, ◌⊎◌, inl, inr, refl, sym, subst, ◌∙◌, ap, arith}
+use Rattle.std.proofs.Common.{◌≡◌, ℕ, zero, suc, ◌+◌, ◌<◌, Bool, true, false, not, ◌&&◌, ◌||◌, List, [], ◌∷◌, ◌++◌, length, map, take, drop, Option, Some, None, ◌⊎◌, inl, inr, refl, sym, subst, ◌∙◌, ap, arith, eqb-true, ltb-true}
 use Rattle.std.specs.Prelude.{slice_get, option_map, option_and_then, option_to_list, filter_map, find, cond, nat_eq, nat_lt, bytes_eq, unwrap_or, codes, position}
 use Rattle.std.specs.List.{list_all, list_any, starts_with, cons_option, position_or_len}
 use Rattle.std.proofs.lemmas.List.Folds.{find_at}
 use Rattle.std.proofs.lemmas.Option.{slice_get-map}
+use Rattle.std.proofs.lemmas.Bool.{not-true, or_parts, and_from}
 use Rattle.lx_ir.specs.declared.module.Block.{Block}
 use Rattle.lx_ir.specs.declared.module.Function.{Function}
 use Rattle.lx_ir.specs.declared.module.GlobalVar.{GlobalVar}
@@ -32,7 +33,9 @@ use Rattle.lx_images.specs.Code.{Code, wrapped_name, out_import, wrapped_import}
 use Rattle.lx_images.specs.HasImages.{HasImages}
 use Rattle.lx_images.specs.Wrappers.{lines_of, function_in_image, called_lines, plain_lines, in_named, lines_or_plain, in_lines_of, in_lines}
 use Rattle.lx_images.specs.WrapperLines.{Wording, from_enter, IsWrapperOf, WrapsWell}
-use Rattle.lx_simulation.proofs.Elements.{some_is, none_some, true_not, both_first, both_second, same_numbers}
+use Rattle.lx_simulation.proofs.Elements.{none_some}
+use Rattle.lx_caps.proofs.Tests.{first_true, true_false, second_true}
+use Rattle.lx_caps.proofs.Items.{same_bytes as itself, bytes_are, some_same, there}
 
 abbrev out_prefix : List ℕ
 out_prefix = codes "lxfi.out."
@@ -45,22 +48,9 @@ names_of fs = map (λ f. f.name) fs
 
 -- lists
 
-not_is : (b : Bool) → not b ≡ true → b ≡ false
-not_is true e = true_not (sym e)
-not_is false e = refl
-
 pub is_not : (b : Bool) → b ≡ true → not b ≡ true → {A : Type 0} → A
-is_not true e h = true_not (sym h)
-is_not false e h = true_not (sym e)
-
-or_false : (a b : Bool) → (a || b) ≡ false → (a ≡ false) × (b ≡ false)
-or_false true b e = true_not e
-or_false false b e = (refl, e)
-
-pub there_is : {A : Type 0} (xs : List A) (k : ℕ) → k < length xs → (x : A) × (slice_get xs k ≡ Some x)
-there_is [] k h = absurd (omega (arith, h))
-there_is (x ∷ xs) zero h = (x, refl)
-there_is (x ∷ xs) (suc k) h = there_is xs k (omega (arith, h))
+is_not true e h = true_false (sym h)
+is_not false e h = true_false (sym e)
 
 pub split_at : {A : Type 0} (n : ℕ) (xs : List A) → take n xs ++ drop n xs ≡ xs
 split_at zero xs = refl
@@ -73,17 +63,6 @@ front_or_behind [] ys k x e = inr (k, e)
 front_or_behind (y ∷ xs) ys zero x e = inl e
 front_or_behind (y ∷ xs) ys (suc k) x e = front_or_behind xs ys k x e
 
--- text is what it is compared with
-same_bytes : (xs ys : List ℕ) → bytes_eq xs ys ≡ true → xs ≡ ys
-same_bytes [] [] e = refl
-same_bytes [] (y ∷ ys) e = true_not (sym e)
-same_bytes (x ∷ xs) [] e = true_not (sym e)
-same_bytes (x ∷ xs) (y ∷ ys) e = λ j. same_numbers x y (both_first (nat_eq x y) (bytes_eq xs ys) e) j ∷ same_bytes xs ys (both_second (nat_eq x y) (bytes_eq xs ys) e) j
-
-pub itself : (xs : List ℕ) → bytes_eq xs xs ≡ true
-itself [] = refl
-itself (x ∷ xs) = grind (arith, itself xs)
-
 -- the first that passes
 
 finds : {A : Type 0} (p : A → Bool) (x : A) (xs : List A) → p x ≡ true → find p (x ∷ xs) ≡ Some x
@@ -93,7 +72,7 @@ passes_over : {A : Type 0} (p : A → Bool) (x : A) (xs : List A) → p x ≡ fa
 passes_over p x xs e = ap (λ (b : Bool). cond b (Some x) (find p xs)) e
 
 found_passes_by : {A : Type 0} (p : A → Bool) (y : A) (xs : List A) (x : A) (b : Bool) → p y ≡ b → cond b (Some y) (find p xs) ≡ Some x → (find p xs ≡ Some x → p x ≡ true) → p x ≡ true
-found_passes_by p y xs x true e h ih = ap p (sym (some_is h)) ∙ e
+found_passes_by p y xs x true e h ih = ap p (sym (some_same h)) ∙ e
 found_passes_by p y xs x false e h ih = ih h
 
 found_passes : {A : Type 0} (p : A → Bool) (xs : List A) (x : A) → find p xs ≡ Some x → p x ≡ true
@@ -114,13 +93,10 @@ pub record At {A : Type 0} (p : A → Bool) (xs : List A) (n : ℕ) : Type 0 whe
   pub got : slice_get xs n ≡ Some it
   pub passes : p it ≡ true
 
-true_less : (m n : ℕ) → nat_lt m n ≡ true → m < n
-true_less m n e = grind (arith, e)
-
 position_by : {A : Type 0} (p : A → Bool) (xs : List A) (n : ℕ) (b : Bool) → nat_lt (position_or_len p xs) (length xs) ≡ b → cond b (Some (position_or_len p xs)) None ≡ Some n → At p xs n
 position_by p xs n true e h =
-    let same : position_or_len p xs ≡ n = some_is h in
-    let x = there_is xs (position_or_len p xs) (true_less (position_or_len p xs) (length xs) e) in
+    let same : position_or_len p xs ≡ n = some_same h in
+    let x = there xs (position_or_len p xs) (ltb-true (position_or_len p xs) (length xs) e) in
     record { it = x.0; got = ap (slice_get xs) (sym same) ∙ x.1; passes = found_passes p xs x.0 (find_at p xs ∙ x.1) }
 position_by p xs n false e h = none_some h
 
@@ -182,7 +158,7 @@ Each P (t ∷ ts) = P t × Each P ts
 
 pub each_at : (P : FunctionText → Type 0) (ts : List FunctionText) (k : ℕ) (t : FunctionText) → Each P ts → slice_get ts k ≡ Some t → P t
 each_at P [] k t a e = none_some e
-each_at P (x ∷ ts) zero t a e = subst P (some_is e) a.0
+each_at P (x ∷ ts) zero t a e = subst P (some_same e) a.0
 each_at P (x ∷ ts) (suc k) t a e = each_at P ts k t a.1 e
 
 pub each_joined : (P : FunctionText → Type 0) (xs ys : List Function) → Each P (map function_text xs) → Each P (map function_text ys) → Each P (map function_text (xs ++ ys))
@@ -199,7 +175,7 @@ outs_named i n (f ∷ fs) = out_named_if i n f (out_wrappers i (suc n) fs) (is_w
 
 in_named_one : (i : Interface) (k : Marked) (o : Option Function) (ws : List Function) → Each (Named i) (map function_text ws) → Each (Named i) (map function_text (cons_option (option_map (λ g. wrapper_of g k.function (slot_annotation i k.slot) In) o) ws))
 in_named_one i k None ws h = h
-in_named_one i k (Some f) ws h = (λ e. true_not (sym e), h)
+in_named_one i k (Some f) ws h = (λ e. true_false (sym e), h)
 
 ins_named : (i : Interface) (y : Module) (ks : List Marked) → Each (Named i) (map function_text (filter_map (in_wrapper i y) ks))
 ins_named i y [] = tt
@@ -212,12 +188,12 @@ wrappers_named i y = each_joined (Named i) (out_wrappers i 0 y.functions) (in_wr
 
 all_second : (xs ys : List (List ℕ)) (p : List ℕ → Bool) → list_all p (xs ++ ys) ≡ true → list_all p ys ≡ true
 all_second [] ys p a = a
-all_second (x ∷ xs) ys p a = all_second xs ys p (both_second (p x) (list_all p (xs ++ ys)) a)
+all_second (x ∷ xs) ys p a = all_second xs ys p (second_true (p x) (list_all p (xs ++ ys)) a)
 
 pub all_at : (p : List ℕ → Bool) (ns : List (List ℕ)) (k : ℕ) (n : List ℕ) → list_all p ns ≡ true → slice_get ns k ≡ Some n → p n ≡ true
 all_at p [] k n a e = none_some e
-all_at p (x ∷ ns) zero n a e = ap p (sym (some_is e)) ∙ both_first (p x) (list_all p ns) a
-all_at p (x ∷ ns) (suc k) n a e = all_at p ns k n (both_second (p x) (list_all p ns) a) e
+all_at p (x ∷ ns) zero n a e = ap p (sym (some_same e)) ∙ first_true (p x) (list_all p ns) a
+all_at p (x ∷ ns) (suc k) n a e = all_at p ns k n (second_true (p x) (list_all p ns) a) e
 
 own_names : (m : Module) → IsPlain m → list_all (λ n. not (is_own_name n)) (names_of m.functions) ≡ true
 own_names m p = all_second (map (λ (g : GlobalVar). g.name) m.globals) (names_of m.functions) (λ n. not (is_own_name n)) p.names
@@ -230,15 +206,10 @@ guarded_names m (f ∷ fs) (g ∷ gs) h = λ j. h.0.name j ∷ guarded_names m f
 pub front_names : (i : Interface) (m x : Module) → Guards i m x → list_all (λ n. not (is_own_name n)) (names_of (take (length m.functions) x.functions)) ≡ true
 front_names i m x g = ap (list_all (λ n. not (is_own_name n))) (guarded_names m m.functions (take (length m.functions) x.functions) g.functions) ∙ own_names m g.plain
 
-pub joined : (a b : Bool) → a ≡ true → b ≡ true → (a && b) ≡ true
-joined true true e h = refl
-joined true false e h = true_not (sym h)
-joined false b e h = true_not (sym e)
-
 pub front : (xs ys name : List ℕ) → starts_with nat_eq name (xs ++ ys) ≡ true → starts_with nat_eq name xs ≡ true
 front [] ys name e = refl
 front (x ∷ xs) ys [] e = e
-front (x ∷ xs) ys (n ∷ name) e = joined (nat_eq x n) (starts_with nat_eq name xs) (both_first (nat_eq x n) (starts_with nat_eq name (xs ++ ys)) e) (front xs ys name (both_second (nat_eq x n) (starts_with nat_eq name (xs ++ ys)) e))
+front (x ∷ xs) ys (n ∷ name) e = and_from (nat_eq x n) (starts_with nat_eq name xs) (first_true (nat_eq x n) (starts_with nat_eq name (xs ++ ys)) e) (front xs ys name (second_true (nat_eq x n) (starts_with nat_eq name (xs ++ ys)) e))
 
 -- a function of an image that is named as a wrapper of an import is one
 out_text : (i : Interface) (m x : Module) → Guards i m x → (k : ℕ) (g : Function) → slice_get x.functions k ≡ Some g → starts_with nat_eq g.name out_prefix ≡ true →
@@ -255,9 +226,9 @@ out_text i m x h k g e named =
 -- the kernel's function with a name
 
 kernel_entry : (k : ℕ) (e : ProgramFunction) → is_entry None k e ≡ true → e ≡ Of None k
-kernel_entry k (Of None f) h = ap (λ (n : ℕ). Of None n) (sym (same_numbers k f h))
-kernel_entry k (Of (Some m) f) h = true_not (sym h)
-kernel_entry k (Native n) h = true_not (sym h)
+kernel_entry k (Of None f) h = ap (λ (n : ℕ). Of None n) (sym (eqb-true k f h))
+kernel_entry k (Of (Some m) f) h = true_false (sym h)
+kernel_entry k (Native n) h = true_false (sym h)
 
 record KernelFunction (p : Program) (name : List ℕ) (n : ℕ) : Type 0 where
   place : ℕ
@@ -276,7 +247,7 @@ kernel_numbered p name n (Some k) e h =
       it = f.it;
       entry = x.got ∙ ap (λ (y : ProgramFunction). Some y) (kernel_entry k x.it x.passes);
       got = f.got;
-      named = same_bytes f.it.name name (both_second (is_defined f.it) (bytes_eq f.it.name name) f.passes);
+      named = bytes_are f.it.name name (second_true (is_defined f.it) (bytes_eq f.it.name name) f.passes);
     }
 
 kernel_named : (p : Program) (name : List ℕ) (n : ℕ) → kernel_function p name ≡ Some n → KernelFunction p name n
@@ -318,7 +289,7 @@ module_below : (c : Code) → HasImages c → (n m : ℕ) (e : Option ProgramFun
 module_below c h n m None e u = none_some u
 module_below c h n m (Some (Native k)) e u = none_some u
 module_below c h n m (Some (Of None k)) e u = none_some u
-module_below c h n m (Some (Of (Some j) k)) e u = (h.linked.table n m k (e ∙ ap (λ (a : ℕ). Some (Of (Some a) k)) (some_is u))).0
+module_below c h n m (Some (Of (Some j) k)) e u = (h.linked.table n m k (e ∙ ap (λ (a : ℕ). Some (Of (Some a) k)) (some_same u))).0
 
 call_lines : (c : Code) → HasImages c → (j : ℕ) (home : Home) (f n : ℕ) → home_or_kernel c.program j ≡ home → out_import c home f ≡ Some n → IsWrapperOf c n (lines_of (function_in_image c home f))
 call_lines c h j None f n eh e = none_some e
@@ -355,7 +326,7 @@ is_in name f = bytes_eq f.name (in_prefix ++ name)
 
 -- no function of the module itself is named so
 plain_not_by : (n name : List ℕ) (b : Bool) → bytes_eq n (in_prefix ++ name) ≡ b → not (is_own_name n) ≡ true → b ≡ false
-plain_not_by n name true e h = is_not (is_own_name n) (ap is_own_name (same_bytes n (in_prefix ++ name) e)) h
+plain_not_by n name true e h = is_not (is_own_name n) (ap is_own_name (bytes_are n (in_prefix ++ name) e)) h
 plain_not_by n name false e h = refl
 
 plain_not : (n name : List ℕ) → not (is_own_name n) ≡ true → bytes_eq n (in_prefix ++ name) ≡ false
@@ -364,8 +335,8 @@ plain_not n name h = plain_not_by n name (bytes_eq n (in_prefix ++ name)) refl h
 none_plain : (name : List ℕ) (fs : List Function) → list_all (λ n. not (is_own_name n)) (names_of fs) ≡ true → find (is_in name) fs ≡ None
 none_plain name [] a = refl
 none_plain name (f ∷ fs) a =
-    passes_over (is_in name) f fs (plain_not f.name name (both_first (not (is_own_name f.name)) (list_all (λ n. not (is_own_name n)) (names_of fs)) a))
-    ∙ none_plain name fs (both_second (not (is_own_name f.name)) (list_all (λ n. not (is_own_name n)) (names_of fs)) a)
+    passes_over (is_in name) f fs (plain_not f.name name (first_true (not (is_own_name f.name)) (list_all (λ n. not (is_own_name n)) (names_of fs)) a))
+    ∙ none_plain name fs (second_true (not (is_own_name f.name)) (list_all (λ n. not (is_own_name n)) (names_of fs)) a)
 
 -- nor a wrapper of an import
 none_out_if : (name : List ℕ) (i : Interface) (n : ℕ) (f : Function) (ws : List Function) (b : Bool) → find (is_in name) ws ≡ None → find (is_in name) (out_if b i n f ++ ws) ≡ None
@@ -413,13 +384,13 @@ pub first_from : (m : Module) (n : ℕ) (f : Function) (fs : List Function) → 
 first_from m n f fs h = let e : n ≡ n + 0 = omega arith in ap (slice_get m.functions) e ∙ sym (h 0)
 
 turned : (a b : List ℕ) (d : Bool) → bytes_eq b a ≡ d → bytes_eq a b ≡ false → d ≡ false
-turned a b true e h = true_not (sym (ap (bytes_eq a) (same_bytes b a e) ∙ itself a) ∙ h)
+turned a b true e h = true_false (sym (ap (bytes_eq a) (bytes_are b a e) ∙ itself a) ∙ h)
 turned a b false e h = refl
 
 none_later : (i : Interface) (m : Module) (name : List ℕ) (n : ℕ) (fs : List Function) → From m n fs → list_any (bytes_eq name) (names_of fs) ≡ false → find (is_in name) (filter_map (in_wrapper i m) (annotated_from i m n fs)) ≡ None
 none_later i m name n [] h a = refl
 none_later i m name n (f ∷ fs) h a =
-    let apart = or_false (bytes_eq name f.name) (list_any (bytes_eq name) (names_of fs)) a in
+    let apart = or_parts (bytes_eq name f.name) (list_any (bytes_eq name) (names_of fs)) a in
     ap (find (is_in name)) (marks_wrap i m n f (is_defined f) (slot_of i m n) (annotated_from i m (suc n) fs) (first_from m n f fs h))
     ∙ (other_over i n f name (slot_if (is_defined f) (slot_of i m n)) (filter_map (in_wrapper i m) (annotated_from i m (suc n) fs)) (turned name f.name (bytes_eq f.name name) refl apart.0)
     ∙ none_later i m name (suc n) fs (next_from m n f fs h) apart.1)
@@ -430,8 +401,8 @@ here_found i n f (Some t) ws h = finds (is_in f.name) (wrapper_of f n (slot_anno
 
 not_here : (n : List ℕ) (ns : List (List ℕ)) (k : ℕ) (b : List ℕ) → list_any (bytes_eq n) ns ≡ false → slice_get ns k ≡ Some b → bytes_eq n b ≡ false
 not_here n [] k b a e = none_some e
-not_here n (x ∷ ns) zero b a e = ap (bytes_eq n) (sym (some_is e)) ∙ (or_false (bytes_eq n x) (list_any (bytes_eq n) ns) a).0
-not_here n (x ∷ ns) (suc k) b a e = not_here n ns k b (or_false (bytes_eq n x) (list_any (bytes_eq n) ns) a).1 e
+not_here n (x ∷ ns) zero b a e = ap (bytes_eq n) (sym (some_same e)) ∙ (or_parts (bytes_eq n x) (list_any (bytes_eq n) ns) a).0
+not_here n (x ∷ ns) (suc k) b a e = not_here n ns k b (or_parts (bytes_eq n x) (list_any (bytes_eq n) ns) a).1 e
 
 pub name_got : (fs : List Function) (k : ℕ) (g : Function) → slice_get fs k ≡ Some g → slice_get (names_of fs) k ≡ Some g.name
 name_got fs k g e = slice_get-map (λ (f : Function). f.name) fs k ∙ ap (option_map (λ (f : Function). f.name)) e
@@ -441,25 +412,25 @@ in_found : (i : Interface) (m : Module) (n : ℕ) (fs : List Function) (k num : 
 in_found i m n [] k num g en h d e = none_some e
 in_found i m n (f ∷ fs) zero num g en h d e =
     let same : n ≡ num = omega (arith, en) in
-    let one : f ≡ g = some_is e in
+    let one : f ≡ g = some_same e in
     subst (λ (y : Function). find (is_in y.name) (filter_map (in_wrapper i m) (annotated_from i m n (f ∷ fs))) ≡ wrapper_if i num y (slot_if (is_defined y) (slot_of i m num))) one
     (ap (find (is_in f.name)) (marks_wrap i m n f (is_defined f) (slot_of i m n) (annotated_from i m (suc n) fs) (first_from m n f fs h))
     ∙ (here_found i n f (slot_if (is_defined f) (slot_of i m n)) (filter_map (in_wrapper i m) (annotated_from i m (suc n) fs))
-    (none_later i m f.name (suc n) fs (next_from m n f fs h) (not_is (list_any (bytes_eq f.name) (names_of fs)) (both_first (not (list_any (bytes_eq f.name) (names_of fs))) (is_distinct (names_of fs)) d)))
+    (none_later i m f.name (suc n) fs (next_from m n f fs h) (not-true (list_any (bytes_eq f.name) (names_of fs)) (first_true (not (list_any (bytes_eq f.name) (names_of fs))) (is_distinct (names_of fs)) d)))
     ∙ ap (λ (a : ℕ). wrapper_if i a f (slot_if (is_defined f) (slot_of i m a))) same))
 in_found i m n (f ∷ fs) (suc k) num g en h d e =
     let next : num ≡ suc n + k = omega (arith, en) in
     ap (find (is_in g.name)) (marks_wrap i m n f (is_defined f) (slot_of i m n) (annotated_from i m (suc n) fs) (first_from m n f fs h))
     ∙ (other_over i n f g.name (slot_if (is_defined f) (slot_of i m n)) (filter_map (in_wrapper i m) (annotated_from i m (suc n) fs))
-    (not_here f.name (names_of fs) k g.name (not_is (list_any (bytes_eq f.name) (names_of fs)) (both_first (not (list_any (bytes_eq f.name) (names_of fs))) (is_distinct (names_of fs)) d)) (name_got fs k g e))
-    ∙ in_found i m (suc n) fs k num g next (next_from m n f fs h) (both_second (not (list_any (bytes_eq f.name) (names_of fs))) (is_distinct (names_of fs)) d) e)
+    (not_here f.name (names_of fs) k g.name (not-true (list_any (bytes_eq f.name) (names_of fs)) (first_true (not (list_any (bytes_eq f.name) (names_of fs))) (is_distinct (names_of fs)) d)) (name_got fs k g e))
+    ∙ in_found i m (suc n) fs k num g next (next_from m n f fs h) (second_true (not (list_any (bytes_eq f.name) (names_of fs))) (is_distinct (names_of fs)) d) e)
 
 pub from_start : (m : Module) → From m 0 m.functions
 from_start m j = let e : j ≡ 0 + j = omega arith in ap (slice_get m.functions) e
 
 distinct_second : (xs ys : List (List ℕ)) → is_distinct (xs ++ ys) ≡ true → is_distinct ys ≡ true
 distinct_second [] ys d = d
-distinct_second (x ∷ xs) ys d = distinct_second xs ys (both_second (not (list_any (bytes_eq x) (xs ++ ys))) (is_distinct (xs ++ ys)) d)
+distinct_second (x ∷ xs) ys d = distinct_second xs ys (second_true (not (list_any (bytes_eq x) (xs ++ ys))) (is_distinct (xs ++ ys)) d)
 
 -- among the functions of an image
 image_found : (i : Interface) (m x : Module) → Guards i m x → is_distinct (names_of m.functions) ≡ true → (k : ℕ) (g : Function) → slice_get m.functions k ≡ Some g → is_defined g ≡ true →
@@ -504,7 +475,7 @@ entry_lines c h n (Some (Native k)) en g eg = (plain_wording, refl)
 entry_lines c h n (Some (Of None k)) en None eg = (plain_wording, refl)
 entry_lines c h n (Some (Of None k)) en (Some g) eg = (wording_of g k, refl)
 entry_lines c h n (Some (Of (Some m) k)) en (Some g) eg = module_lines c h n m k g en eg
-entry_lines c h n (Some (Of (Some m) k)) en None eg = none_some (sym eg ∙ (there_is (module_of c.program (Some m)).functions k (h.linked.table n m k en).1).1)
+entry_lines c h n (Some (Of (Some m) k)) en None eg = none_some (sym eg ∙ (there (module_of c.program (Some m)).functions k (h.linked.table n m k en).1).1)
 
 entered_right : (c : Code) → HasImages c → (n : ℕ) → IsWrapperOf c n (in_lines c n)
 entered_right c h n = entry_lines c h n (slice_get c.program.functions n) refl (function_of c.program n) refl

@@ -4,6 +4,7 @@ use Rattle.std.specs.Option.{option_flatten}
 use Rattle.std.proofs.lemmas.Bool.Decides.{nat_tests}
 use Rattle.std.proofs.lemmas.List.{length_push, take-append-le, take_all}
 use Rattle.std.proofs.lemmas.Option.{slice_get_past, slice_get_within}
+use Rattle.lx_words.proofs.Tests.{true_eq}
 use Rattle.lx_slot_types.specs.Sites.{FieldName, fields_of_global, global_fields_at}
 use Rattle.lx_slot_sums.specs.declared.spread.Said.{Said}
 use Rattle.lx_slot_sums.specs.declared.spread.Said.TheVariants as saying
@@ -147,12 +148,9 @@ pub known_made : (t : Typing) (xs : List Spread) (named ns : List (Option ℕ)) 
 unfolding AreNamed
 known_made t xs named ns n k q e h = record { kept = keeps_same xs; right = h; made = h n k (ap (λ l. known l n) (sym q) ∙ sym e) }
 
-number_is : (a b : ℕ) → nat_eq a b ≡ true → a ≡ b
-number_is a b e = grind (arith, nat_tests, e)
-
 -- what is kept is the spread of its own type
 kept_by : (P : ℕ → Option ℕ → Type 0) (n k : ℕ) (w : Option ℕ) (m : ℕ) (b c : Bool) (old : Option ℕ) → P n w → nat_eq n k ≡ b → (if b && c then w else old) ≡ Some m → (old ≡ Some m → P k (Some m)) → P k (Some m)
-kept_by P n k w m true true old p e h rest = subst (λ v. P k v) h (subst (λ l. P l w) (number_is n k e) p)
+kept_by P n k w m true true old p e h rest = subst (λ v. P k v) h (subst (λ l. P l w) (true_eq n k e) p)
 kept_by P n k w m true false old p e h rest = rest h
 kept_by P n k w m false c old p e h rest = rest h
 

@@ -1,54 +1,17 @@
 -- Texts are the same exactly where their first places are.
-use Rattle.std.proofs.Common.{◌≡◌, ◌∙◌, refl, sym, ap, ℕ, zero, suc, ◌<◌, ◌≤◌, Bool, true, false, not, ◌&&◌, cond, Option, Some, None, List, [], ◌∷◌, length, drop, map, bytes_eq, nat_eq, nat_lt, arith, option_map}
+use Rattle.std.proofs.Common.{◌≡◌, ◌∙◌, refl, sym, ap, ℕ, zero, suc, ◌<◌, Bool, true, false, not, cond, Option, Some, None, List, [], ◌∷◌, length, map, bytes_eq, nat_eq, arith, option_map}
 use Rattle.std.specs.Prelude.{position, find, slice_get}
-use Rattle.std.specs.List.{position_from, position_or_len}
 use Rattle.std.specs.Borrow.{Bor}
-use Rattle.std.proofs.lemmas.Bool.Decides.{nat_tests}
-use Rattle.std.proofs.lemmas.Iterator.Adapters.{position_from-zero}
-use Rattle.std.proofs.lemmas.List.Folds.{find_at}
-use Rattle.std.proofs.lemmas.Option.{slice_get_past, slice_get-map}
-use Rattle.std.proofs.lemmas.Slice.Eq.{bytes_eq-Decides}
+use Rattle.std.proofs.lemmas.Option.{slice_get-map}
+use Rattle.lx_words.proofs.Lists.{found_place, none_found, same_bytes, bytes_itself}
+use Rattle.lx_words.proofs.Tests.{eq_true, true_eq}
 use Rattle.lx_annot.specs.Canonical.{Text, canonical}
 use Rattle.lx_annot.specs.declared.interface.Interface.{Interface}
 use Rattle.lx_annot.specs.declared.interface.Slot.{Slot}
 use Rattle.lx_slot_types.specs.Texts.{slot_text, text_of_slot}
 use Rattle.lx_slot_sums.specs.Classes.{HasTexts, IsClassed, at_text, class_among, place_or_none}
 
--- the first of the whole list
-pub first_all : {A : Type 0} (t : A → Bool) (xs : List A) (k : ℕ) (found : Option ℕ) → k ≤ 0 → found ≡ position_from t k (drop k xs) → found ≡ position t xs
-first_all t xs k found none is =
-    let zero_is : k ≡ 0 = omega (arith, none) in
-    is ∙ ap (λ n. position_from t n (drop n xs)) zero_is ∙ sym (position_from-zero t xs)
-
--- what stands at the first place is what is found
-
-by_test : (b : Bool) (n k : ℕ) → cond b (Some n) None ≡ Some k → n ≡ k
-by_test true n k e = cc
-by_test false n k e = absurd (cc)
-
-failed : (b : Bool) (n : ℕ) → cond b (Some n) None ≡ None → b ≡ false
-failed true n e = absurd (cc)
-failed false n e = refl
-
-pub found_at : {A : Type 0} (t : A → Bool) (xs : List A) (k : ℕ) → position t xs ≡ Some k → slice_get xs k ≡ find t xs
-found_at t xs k p = ap (slice_get xs) (sym (by_test (nat_lt (position_or_len t xs) (length xs)) (position_or_len t xs) k p)) ∙ sym (find_at t xs)
-
-past : (n m : ℕ) → nat_lt n m ≡ false → m ≤ n
-past n m h = grind (arith, nat_tests, h)
-
-not_found : {A : Type 0} (t : A → Bool) (xs : List A) → position t xs ≡ None → None ≡ find t xs
-not_found t xs p =
-    let far = past (position_or_len t xs) (length xs) (failed (nat_lt (position_or_len t xs) (length xs)) (position_or_len t xs) p) in
-    sym (find_at t xs ∙ slice_get_past xs (position_or_len t xs) far)
-
 -- a text of a list is found there
-
-pub same_bytes : (xs ys : List ℕ) → bytes_eq xs ys ≡ true → xs ≡ ys
-same_bytes xs ys h = (bytes_eq-Decides xs ys).0 h
-
-pub own_bytes : (xs : List ℕ) → bytes_eq xs xs ≡ true
-own_bytes [] = refl
-own_bytes (x ∷ xs) = let e : nat_eq x x ≡ true = grind (arith, nat_tests) in (λ j. e j && own_bytes xs j)
 
 found_by : (b : Bool) (x t : Text) (rest : Option Text) → (b ≡ true → x ≡ t) → rest ≡ Some t → cond b (Some x) rest ≡ Some t
 found_by true x t rest same h = ap Some (same refl)
@@ -61,13 +24,13 @@ finds_text : (xs : List Text) (s : ℕ) (t : Text) → slice_get xs s ≡ Some t
 finds_text [] s t e = absurd (cc)
 finds_text (x ∷ xs) zero t e =
     let q : x ≡ t = some_same x t e in
-    ap (λ b. cond b (Some x) (find (λ u. bytes_eq u t) xs)) (ap (λ y. bytes_eq y t) q ∙ own_bytes t) ∙ ap Some q
+    ap (λ b. cond b (Some x) (find (λ u. bytes_eq u t) xs)) (ap (λ y. bytes_eq y t) q ∙ bytes_itself t) ∙ ap Some q
 finds_text (x ∷ xs) (suc s) t e = found_by (bytes_eq x t) x t (find (λ u. bytes_eq u t) xs) (same_bytes x t) (finds_text xs s t e)
 
 -- the text at its first place is the text
 stands_by : (xs : List Text) (t : Text) (o : Option ℕ) → position (λ u. bytes_eq u t) xs ≡ o → find (λ u. bytes_eq u t) xs ≡ Some t → slice_get xs (place_or_none o) ≡ Some t
-stands_by xs t None p f = let n : None ≡ find (λ u. bytes_eq u t) xs = not_found (λ u. bytes_eq u t) xs p in absurd (cc (n, f))
-stands_by xs t (Some k) p f = found_at (λ u. bytes_eq u t) xs k p ∙ f
+stands_by xs t None p f = let n : None ≡ find (λ u. bytes_eq u t) xs = none_found (λ u. bytes_eq u t) xs p in absurd (cc (n, f))
+stands_by xs t (Some k) p f = found_place (λ u. bytes_eq u t) xs k p ∙ f
 
 pub stands : (xs : List Text) (s : ℕ) (t : Text) → slice_get xs s ≡ Some t → slice_get xs (place_or_none (position (λ u. bytes_eq u t) xs)) ≡ Some t
 stands xs s t e = stands_by xs t (position (λ u. bytes_eq u t) xs) refl (finds_text xs s t e)
@@ -87,12 +50,6 @@ pub first_among : (texts : List Text) (table : List (Bor (List ℕ) × ℕ)) (cl
 unfolding HasTexts
 first_among texts table classes has e = e ∙ (λ j. map (λ t. place_or_none (has t j)) texts)
 
-number_same : (a b : ℕ) → a ≡ b → nat_eq a b ≡ true
-number_same a b e = grind (arith, nat_tests, e)
-
-number_is : (a b : ℕ) → nat_eq a b ≡ true → a ≡ b
-number_is a b e = grind (arith, nat_tests, e)
-
 decided : (b c : Bool) → (b ≡ true → c ≡ true) → (c ≡ true → b ≡ true) → not b ≡ not c
 decided true c h k = ap not (sym (h refl))
 decided false true h k = let e : false ≡ true = k refl in absurd (cc)
@@ -109,11 +66,11 @@ classed i texts classes e c s t hs ht =
     let y : slice_get texts (class_among classes t) ≡ Some (slot_text i t) = ap (slice_get texts) q ∙ stands texts t (slot_text i t) b in
     decided (nat_eq (class_among classes s) (class_among classes t)) (bytes_eq (slot_text i s) (slot_text i t))
     (λ h.
-    let same : slot_text i s ≡ slot_text i t = some_same (slot_text i s) (slot_text i t) (sym x ∙ ap (slice_get texts) (number_is (class_among classes s) (class_among classes t) h) ∙ y) in
-    ap (bytes_eq (slot_text i s)) (sym same) ∙ own_bytes (slot_text i s))
+    let same : slot_text i s ≡ slot_text i t = some_same (slot_text i s) (slot_text i t) (sym x ∙ ap (slice_get texts) (true_eq (class_among classes s) (class_among classes t) h) ∙ y) in
+    ap (bytes_eq (slot_text i s)) (sym same) ∙ bytes_itself (slot_text i s))
     (λ h.
     let same : slot_text i s ≡ slot_text i t = same_bytes (slot_text i s) (slot_text i t) h in
-    number_same (class_among classes s) (class_among classes t) (p ∙ ap (λ u. place_or_none (position (λ v. bytes_eq v u) texts)) same ∙ sym q))
+    eq_true (class_among classes s) (class_among classes t) (p ∙ ap (λ u. place_or_none (position (λ v. bytes_eq v u) texts)) same ∙ sym q))
 
 pub has_texts : (texts : List Text) (table : List (Bor (List ℕ) × ℕ)) → ((bytes : List ℕ) → at_text table bytes ≡ position (λ t. bytes_eq t bytes) texts) → HasTexts texts table
 unfolding HasTexts

@@ -3,6 +3,7 @@ use Rattle.std.proofs.Common.{◌≡◌, ◌∙◌, refl, sym, ap, subst, ℕ, z
 use Rattle.std.specs.Option.{option_or}
 use Rattle.std.specs.List.Sorted.{IsPartitionPoint, IsPartitionedBy}
 use Rattle.std.proofs.lemmas.Bool.Decides.{nat_tests}
+use Rattle.lx_words.proofs.Tests.{true_le, le_true, not_at_most}
 use Rattle.lx_slot_sums.specs.declared.rows.Edge.{Edge}
 use Rattle.lx_slot_sums.specs.Rows.{AreRising, Counts, RiseFrom, edge_at, offset_at}
 
@@ -38,17 +39,8 @@ rising_one e = (omega arith, tt)
 
 -- by how many are not past the offset
 
-is_upto : (a o : ℕ) → nat_le a o ≡ true → a ≤ o
-is_upto a o e = grind (arith, nat_tests, e)
-
 is_past : (a o : ℕ) → nat_le a o ≡ false → o < a
 is_past a o e = grind (arith, nat_tests, e)
-
-upto : (a o : ℕ) → a ≤ o → nat_le a o ≡ true
-upto a o h = grind (arith, nat_tests, h)
-
-past : (a o : ℕ) → o < a → nat_le a o ≡ false
-past a o h = grind (arith, nat_tests, h)
 
 rises : (n : ℕ) (es : List Edge) (i j : ℕ) (d : Edge) → RiseFrom n es → i ≤ j → j < length es → (n ≤ offset_at es i d) × (offset_at es i d ≤ offset_at es j d)
 rises n [] i j d r up h = absurd (omega (arith, h))
@@ -73,21 +65,21 @@ parted es o r i j d up h e = upto_too (offset_at es i d) (offset_at es j d) o (r
 pub counts : (es : List Edge) (o n : ℕ) → n ≤ length es → IsPartitionPoint (λ (e : Edge). nat_le e.offset o ≡ true) (λ (e : Edge). nat_le e.offset o ≡ false) es n → Counts o es n
 counts es o n l p = record {
   within = l;
-  before = λ k d less. is_upto (offset_at es k d) o (p.0 k d (omega arith) less);
+  before = λ k d less. true_le (offset_at es k d) o (p.0 k d (omega arith) less);
   behind = λ k d from less. is_past (offset_at es k d) o (p.1 k d from less);
 }
 
 none_at : (es : List Edge) (o : ℕ) → ((k : ℕ) (d : Edge) → k < length es → o < offset_at es k d) → edge_at es o ≡ None
 none_at [] o h = refl
 none_at (e ∷ es) o h =
-    let b : nat_le e.offset o ≡ false = past e.offset o (h 0 e (omega arith)) in
+    let b : nat_le e.offset o ≡ false = not_at_most e.offset o (h 0 e (omega arith)) in
     let r : edge_at es o ≡ None = none_at es o (λ k d l. h (suc k) d (omega (arith, l))) in
     λ j. option_or (r j) (if b j then Some e else None)
 
 some_at : (es : List Edge) (n o : ℕ) (d : Edge) → suc n ≤ length es → ((k : ℕ) (x : Edge) → k < suc n → offset_at es k x ≤ o) → ((k : ℕ) (x : Edge) → suc n ≤ k → k < length es → o < offset_at es k x) → edge_at es o ≡ Some (get_or es n d)
 some_at [] n o d l h g = absurd (omega (arith, l))
 some_at (e ∷ es) zero o d l h g =
-    let b : nat_le e.offset o ≡ true = upto e.offset o (h 0 e (omega arith)) in
+    let b : nat_le e.offset o ≡ true = le_true e.offset o (h 0 e (omega arith)) in
     let r : edge_at es o ≡ None = none_at es o (λ k x m. g (suc k) x (omega arith) (omega (arith, m))) in
     λ j. option_or (r j) (if b j then Some e else None)
 some_at (e ∷ es) (suc n) o d l h g =
@@ -106,7 +98,7 @@ some_counted es o n d h p =
 
 found_by : (x e : Edge) (o : ℕ) (r : Option Edge) (b : Bool) → nat_le x.offset o ≡ b → (r ≡ Some e → e.offset ≤ o) → option_or r (if b then Some x else None) ≡ Some e → e.offset ≤ o
 found_by x e o (Some y) b q h k = h k
-found_by x e o None true q h k = let s : x ≡ e = cc in subst (λ (z : Edge). z.offset ≤ o) s (is_upto x.offset o q)
+found_by x e o None true q h k = let s : x ≡ e = cc in subst (λ (z : Edge). z.offset ≤ o) s (true_le x.offset o q)
 found_by x e o None false q h k = absurd (cc)
 
 pub found_upto : (es : List Edge) (o : ℕ) (e : Edge) → edge_at es o ≡ Some e → e.offset ≤ o

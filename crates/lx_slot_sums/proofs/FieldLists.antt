@@ -6,8 +6,9 @@ use Rattle.lx_ir.specs.declared.types.NamedType.{NamedType}
 use Rattle.lx_ir.specs.IrType.{IrType}
 use Rattle.lx_ir.specs.Layout.{Layout, layout, beside, layout_of, named_layouts, fields_in, laid_fields, field_start, align_of, size_of}
 use Rattle.std.specs.Int.{next_multiple_of}
+use Rattle.lx_words.proofs.Tests.{next_above}
 use Rattle.lx_ir.specs.TypeNodes.{types_of_list}
-use Rattle.lx_ir.proofs.Layouts.{fields_more, front_le, next_le, start_within}
+use Rattle.lx_ir.proofs.Layouts.{fields_more, front_le, start_within}
 use Rattle.lx_slot_types.specs.Sites.{FieldName, names_of, start_of, field_here, fields_at, struct_fields_at, array_fields_at}
 
 -- an array, by whether its elements have bytes
@@ -113,4 +114,4 @@ end_fits types packed xs i n e w =
 -- a field begins at the end of the fields before it or behind it
 pub start_behind : (types : List NamedType) (packed : Bool) (t : IrType) (n start : ℕ) → start ≡ start_of types packed t (layout n 1) → n ≤ start
 start_behind types true t n start e = omega (arith, e)
-start_behind types false t n start e = let l : n ≤ next_multiple_of n (align_of types t) = next_le n (align_of types t) in omega (arith, e, l)
+start_behind types false t n start e = let l : n ≤ next_multiple_of n (align_of types t) = next_above n (align_of types t) in omega (arith, e, l)

@@ -6,6 +6,8 @@ use Rattle.std.specs.Option.{option_or}
 use Rattle.std.proofs.lemmas.List.Folds.{find-append}
 use Rattle.std.proofs.lemmas.Bool.Decides.{nat_tests}
 use Rattle.std.proofs.lemmas.Slice.Eq.{bytes_eq-Decides}
+use Rattle.lx_words.proofs.Lists.{bytes_itself}
+use Rattle.lx_words.proofs.Tests.{true_eq}
 use Rattle.lx_annot.specs.declared.interface.Interface.{Interface}
 use Rattle.lx_ir.specs.declared.module.Module.{Module}
 use Rattle.lx_slot_types.specs.Sites.{FieldName}
@@ -13,7 +15,6 @@ use Rattle.lx_slot_types.specs.Gets.{below, types_field}
 use Rattle.lx_slot_types.specs.Texts.{differ, slot_text}
 use Rattle.lx_slot_sums.specs.Classes.{IsClassed, class_differs}
 use Rattle.lx_slot_sums.specs.Sums.{no_sum, single, typed_among, first_by, other_by, sum_by, sum_of, lesser, other_for, joined_by, joined}
-use Rattle.lx_slot_sums.proofs.Classed.{own_bytes}
 
 -- one number more
 
@@ -207,14 +208,11 @@ no_fields i p h =
 pub no_list : (i : Interface) (m : Module) → no_sum ≡ sum_of i m []
 no_list i m = no_fields i (typed_among i m []) (λ t. refl)
 
-number_is : (a b : ℕ) → nat_eq a b ≡ true → a ≡ b
-number_is a b e = grind (arith, nat_tests, e)
-
 -- the number itself is found
 
 beyond : (s n : ℕ) (b c : Bool) → nat_lt s n ≡ b → nat_eq s n ≡ c → option_or (if b then Some s else None) (if c then Some n else None) ≡ (if nat_lt s (suc n) then Some s else None)
 beyond s n true c h k = let e : true ≡ nat_lt s (suc n) = grind (arith, nat_tests, h) in ap (λ b. if b then Some s else None) e
-beyond s n false true h k = let e : true ≡ nat_lt s (suc n) = grind (arith, nat_tests, h, k) in ap Some (sym (number_is s n k)) ∙ ap (λ b. if b then Some s else None) e
+beyond s n false true h k = let e : true ≡ nat_lt s (suc n) = grind (arith, nat_tests, h, k) in ap Some (sym (true_eq s n k)) ∙ ap (λ b. if b then Some s else None) e
 beyond s n false false h k = let e : false ≡ nat_lt s (suc n) = grind (arith, nat_tests, h, k) in ap (λ b. if b then Some s else None) e
 
 none_below : (s : ℕ) → false ≡ nat_lt s 0
@@ -230,7 +228,7 @@ finds_number s (suc n) =
 module _ (i : Interface) (s : ℕ) where
   differs_not : (t : ℕ) (b : Bool) → nat_eq s t ≡ b → (b && differ i s t) ≡ false
   differs_not t false e = refl
-  differs_not t true e = ap (λ u. differ i s u) (sym (number_is s t e)) ∙ ap not (own_bytes (slot_text i s))
+  differs_not t true e = ap (λ u. differ i s u) (sym (true_eq s t e)) ∙ ap not (bytes_itself (slot_text i s))
 
   no_other : (o : Option ℕ) → o ≡ first_by i (nat_eq s) → None ≡ option_and_then (other_by i (nat_eq s)) o
   no_other None e = refl

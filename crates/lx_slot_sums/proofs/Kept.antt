@@ -5,6 +5,7 @@ use Rattle.std.proofs.lemmas.List.{get_or_default}
 use Rattle.std.proofs.lemmas.Option.{slice_get-map}
 use Rattle.std.specs.List.{list_any}
 use Rattle.std.specs.Option.{option_flatten}
+use Rattle.lx_words.proofs.Tests.{with_false}
 use Rattle.lx_annot.specs.declared.interface.Field.{Field}
 use Rattle.lx_annot.specs.declared.interface.Interface.{Interface}
 use Rattle.lx_ir.specs.declared.module.Module.{Module}
@@ -25,10 +26,6 @@ join_step t classes cs a b r classed e is xs ys ea eb = is ∙ (λ j. joined (cl
 
 -- a field of a struct that has a name
 
-or_none : (a : Bool) → a ≡ (a || false)
-or_none true = refl
-or_none false = refl
-
 module _ (i : Interface) (m : Module) (n k : ℕ) (name : List ℕ) where
   typed_by_name : (o : Option NamedType) → Some name ≡ option_map (λ (x : NamedType). x.name) o → (s : ℕ) → typed_by i.fields name k s ≡ list_any (λ (g : Field). has_name o g.name && (nat_eq g.index k && nat_eq g.slot s)) i.fields
   typed_by_name None e s = absurd (cc)
@@ -37,7 +34,7 @@ module _ (i : Interface) (m : Module) (n k : ℕ) (name : List ℕ) where
   pub field_some : (r : SlotSum) (f : FieldName) → Some name ≡ option_map (λ (x : NamedType). x.name) (slice_get m.types n) → r ≡ sum_by i (typed_by i.fields name k) → field_name n k ≡ f → r ≡ sum_of i m (f ∷ [])
   field_some r f e is q =
       is
-      ∙ ap (sum_by i) (λ j s. (typed_by_name (slice_get m.types n) e s ∙ or_none (types_field i m (field_name n k) s)) j)
+      ∙ ap (sum_by i) (λ j s. (typed_by_name (slice_get m.types n) e s ∙ with_false (types_field i m (field_name n k) s)) j)
       ∙ ap (λ g. sum_of i m (g ∷ [])) q
 
 never : (fs : List Field) (p : Field → Bool) → list_any (λ (g : Field). false && p g) fs ≡ false

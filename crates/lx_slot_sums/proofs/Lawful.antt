@@ -1,7 +1,5 @@
 -- Named types and globals within the limits.
-use Rattle.std.proofs.Common.{◌≡◌, ◌∙◌, refl, sym, ap, subst, ℕ, zero, suc, ◌<◌, Bool, true, Option, Some, None, List, [], ◌∷◌, length, get_or, IsTrue, option_map, slice_get}
-use Rattle.std.specs.List.{list_all}
-use Rattle.std.proofs.lemmas.Bool.{and_parts}
+use Rattle.std.proofs.Common.{◌≡◌, ◌∙◌, refl, sym, ap, subst, ℕ, ◌<◌, true, Option, Some, None, List, [], length, get_or, IsTrue, option_map, slice_get}
 use Rattle.lx_ir.specs.declared.types.NamedType.{NamedType}
 use Rattle.lx_ir.specs.declared.module.GlobalVar.{GlobalVar}
 use Rattle.lx_ir.specs.declared.module.Module.{Module}
@@ -9,26 +7,19 @@ use Rattle.lx_ir.specs.declared.types.TypeNode.{TypeNode}
 use Rattle.lx_ir.specs.declared.types.TypeNode.TheVariants as node
 use Rattle.lx_ir.specs.TypeNodes.{type_of_node}
 use Rattle.std.proofs.lemmas.Option.{slice_get_read}
+use Rattle.lx_words.proofs.Lists.{all_at}
 use Rattle.lx_ir.specs.IrType.{IrType}
 use Rattle.lx_ir.specs.Layout.{is_lawful_type}
 use Rattle.lx_slot_types.specs.Sites.{FieldName, entry_fields, fields_at, fields_of_global, global_fields_at, named_fields_at}
 use Rattle.lx_slot_sums.specs.Within.{HasLawfulTypes}
 use Rattle.lx_slot_sums.proofs.Names.{deep_enough}
 
-found : {A : Type 0} (p : A → Bool) (xs : List A) (k : ℕ) (x : A) → list_all p xs ≡ true → slice_get xs k ≡ Some x → p x ≡ true
-found p [] k x h e = absurd (cc)
-found p (y ∷ ys) zero x h e =
-    let a = and_parts (p y) (list_all p ys) h in
-    let q : y ≡ x = cc in
-    subst (λ z. p z ≡ true) q a.0
-found p (y ∷ ys) (suc k) x h e = found p ys k x (and_parts (p y) (list_all p ys) h).1 e
-
 -- globals
 
 global_found : (m : Module) (k : ℕ) (t : IrType) (g : Option GlobalVar) → HasLawfulTypes m → Some t ≡ option_map (λ (x : GlobalVar). x.ty) g → slice_get m.globals k ≡ g → IsTrue (is_lawful_type m.types t)
 global_found m k t None h p s = absurd (cc)
 global_found m k t (Some g) h p s =
-    let a : is_lawful_type m.types g.ty ≡ true = found (λ (x : GlobalVar). is_lawful_type m.types x.ty) m.globals k g h.globals s in
+    let a : is_lawful_type m.types g.ty ≡ true = all_at (λ (x : GlobalVar). is_lawful_type m.types x.ty) m.globals k g h.globals s in
     let q : g.ty ≡ t = cc in
     subst (λ u. IsTrue (is_lawful_type m.types u)) q a
 

@@ -5,6 +5,7 @@ use Rattle.std.specs.Prelude.{◌⊎◌}
 use Rattle.std.proofs.lemmas.Bool.{and_parts, and_from}
 use Rattle.std.proofs.lemmas.Bool.Decides.{nat_tests}
 use Rattle.std.proofs.lemmas.Option.{slice_get_past}
+use Rattle.lx_words.proofs.Tests.{true_less}
 use Rattle.lx_ir.specs.declared.types.NamedType.{NamedType}
 use Rattle.lx_ir.specs.IrType.{IrType, One, Array, Struct, Packed, Named, IrTypes, none, also}
 use Rattle.lx_ir.specs.Layout.{Layout, layout, beside, layout_of, size_of, entry_or, list_of_types, fields_of, is_struct, is_type_within, is_lawful_type}
@@ -88,9 +89,6 @@ same_last : (k n : ℕ) (b : Bool) → nat_lt k n ≡ b → k < suc n → b ≡ 
 same_last k n true e h f = absurd (cc)
 same_last k n false e h f = grind (arith, nat_tests, e, h)
 
-less_by : (k n : ℕ) → nat_lt k n ≡ true → k < n
-less_by k n e = grind (arith, nat_tests, e)
-
 one_only : (b : Bool) → 1 ≤ (if b then 1 else 0) → b ≡ true
 one_only true h = refl
 one_only false h = absurd (omega (arith, h))
@@ -101,7 +99,7 @@ full p zero h k l = absurd (omega (arith, l))
 full p (suc n) h k l = by (nat_lt k n) refl (λ a b. full p n a k b)
   where
     by : (b : Bool) → nat_lt k n ≡ b → (n ≤ count p n → k < n → p k ≡ true) → p k ≡ true
-    by true e before = let b = one_le (p n) in before (omega (arith, h, b)) (less_by k n e)
+    by true e before = let b = one_le (p n) in before (omega (arith, h, b)) (true_less k n e)
     by false e before = let c = count_le p n in subst (λ j. p j ≡ true) (same_last k n false e l refl) (one_only (p n) (omega (arith, h, c)))
 
 -- a weaker test passes more numbers, or the same ones
@@ -127,7 +125,7 @@ grows_or p q h (suc n) = by (p n) (q n) refl refl (grows_or p q h n)
     last b e g back k l qk = at (nat_lt k n) refl
       where
         at : (c : Bool) → nat_lt k n ≡ c → p k ≡ true
-        at true f = back k (less_by k n f) qk
+        at true f = back k (true_less k n f) qk
         at false f =
             let s : n ≡ k = same_last k n false f l refl in
             subst (λ j. p j ≡ true) s (e ∙ g (subst (λ j. q j ≡ true) (sym s) qk))
@@ -170,7 +168,7 @@ module _ (types : List NamedType) where
   all_back d back k g = by (nat_lt k (length types)) refl
     where
       by : (b : Bool) → nat_lt k (length types) ≡ b → through types d k ≡ true
-      by true e = back k (less_by k (length types) e) g
+      by true e = back k (true_less k (length types) e) g
       by false e =
           let p : length types ≤ k = grind (arith, nat_tests, e) in
           let f = beyond types (suc d) k p in
@@ -193,7 +191,7 @@ module _ (types : List NamedType) where
   enough k g = by (enough_or (length types))
     where
       there : length types ≤ count (through types (length types)) (length types) → (b : Bool) → nat_lt k (length types) ≡ b → through types (length types) k ≡ true
-      there a true e = full (through types (length types)) (length types) a k (less_by k (length types) e)
+      there a true e = full (through types (length types)) (length types) a k (true_less k (length types) e)
       there a false e =
           let p : length types ≤ k = grind (arith, nat_tests, e) in
           let f = beyond types 64 k p in

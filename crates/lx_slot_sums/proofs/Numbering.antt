@@ -3,22 +3,14 @@ use Rattle.std.proofs.Common.{◌≡◌, ◌∙◌, refl, sym, ap, ℕ, zero, su
 use Rattle.std.specs.Prelude.{position, find, slice_get}
 use Rattle.std.specs.List.{position_from}
 use Rattle.std.specs.Borrow.{Bor}
-use Rattle.std.proofs.lemmas.Bool.Decides.{nat_tests}
 use Rattle.std.proofs.lemmas.Iterator.Adapters.{position_from-zero}
+use Rattle.lx_words.proofs.Lists.{found_place, same_bytes, bytes_itself, flipped}
+use Rattle.lx_words.proofs.Tests.{same_tests, true_eq, eq_true}
 use Rattle.lx_annot.specs.Canonical.{Text}
 use Rattle.lx_annot.specs.declared.interface.Field.{Field}
 use Rattle.lx_slot_sums.specs.Classes.{at_text, place_or_none}
 use Rattle.lx_slot_sums.specs.Fields.{AreShort, HasNames, number_among, typed_by}
-use Rattle.lx_slot_sums.proofs.Classed.{found_at, own_bytes, same_bytes, stands}
-
-number_turned : (a b : ℕ) → nat_eq a b ≡ nat_eq b a
-number_turned a b = grind (arith, nat_tests)
-
-pub turned : (xs ys : List ℕ) → bytes_eq xs ys ≡ bytes_eq ys xs
-turned [] [] = refl
-turned [] (y ∷ ys) = refl
-turned (x ∷ xs) [] = refl
-turned (x ∷ xs) (y ∷ ys) = λ j. number_turned x y j && turned xs ys j
+use Rattle.lx_slot_sums.proofs.Classed.{stands}
 
 abbrev names : List Field → List Text
 names fs = map (λ (f : Field). f.name) fs
@@ -49,7 +41,7 @@ found_text (x ∷ xs) t u e = by (bytes_eq x t) refl e (found_text xs t u)
 same_place : (fs : List Field) (a b : Text) (j n : ℕ) → slice_get (names fs) j ≡ Some a → place_or_none (number_among fs a) ≡ n → number_among fs b ≡ Some n → a ≡ b
 same_place fs a b j n at p q =
     let x : slice_get (names fs) n ≡ Some a = ap (slice_get (names fs)) (sym p ∙ ap place_or_none (among_names fs a)) ∙ stands (names fs) j a at in
-    let y : slice_get (names fs) n ≡ find (λ u. bytes_eq u b) (names fs) = found_at (λ u. bytes_eq u b) (names fs) n (sym (among_names fs b) ∙ q) in
+    let y : slice_get (names fs) n ≡ find (λ u. bytes_eq u b) (names fs) = found_place (λ u. bytes_eq u b) (names fs) n (sym (among_names fs b) ∙ q) in
     found_text (names fs) b a (sym y ∙ x)
 
 named_at : (fs : List Field) (j : ℕ) (f : Field) → j < length fs → f ≡ get_or fs j f → slice_get (names fs) j ≡ Some f.name
@@ -57,27 +49,16 @@ named_at [] j f l e = absurd (omega (arith, l))
 named_at (x ∷ xs) zero f l e = let q : f ≡ x = e in ap (λ (y : Field). Some y.name) (sym q)
 named_at (x ∷ xs) (suc j) f l e = named_at xs j f (omega (arith, l)) e
 
-alike : (b c : Bool) → (b ≡ true → c ≡ true) → (c ≡ true → b ≡ true) → b ≡ c
-alike true c h k = sym (h refl)
-alike false true h k = let e : false ≡ true = k refl in absurd (cc)
-alike false false h k = refl
-
-equal : (a b : ℕ) → nat_eq a b ≡ true → a ≡ b
-equal a b e = grind (arith, nat_tests, e)
-
-equal_back : (a b : ℕ) → a ≡ b → nat_eq a b ≡ true
-equal_back a b e = grind (arith, nat_tests, e)
-
 -- a statement's name has the number of another name exactly where they are the same
 pub same_number : (fs : List Field) (f : Field) (j n : ℕ) (name : Text) → j < length fs → f ≡ get_or fs j f → number_among fs name ≡ Some n → nat_eq (place_or_none (number_among fs f.name)) n ≡ bytes_eq f.name name
 same_number fs f j n name within e q =
-    alike (nat_eq (place_or_none (number_among fs f.name)) n) (bytes_eq f.name name)
+    same_tests (nat_eq (place_or_none (number_among fs f.name)) n) (bytes_eq f.name name)
     (λ h.
-    let s : f.name ≡ name = same_place fs f.name name j n (named_at fs j f within e) (equal (place_or_none (number_among fs f.name)) n h) q in
-    ap (bytes_eq f.name) (sym s) ∙ own_bytes f.name)
+    let s : f.name ≡ name = same_place fs f.name name j n (named_at fs j f within e) (true_eq (place_or_none (number_among fs f.name)) n h) q in
+    ap (bytes_eq f.name) (sym s) ∙ bytes_itself f.name)
     (λ h.
     let s : f.name ≡ name = same_bytes f.name name h in
-    equal_back (place_or_none (number_among fs f.name)) n (ap (λ u. place_or_none (number_among fs u)) s ∙ ap place_or_none q))
+    eq_true (place_or_none (number_among fs f.name)) n (ap (λ u. place_or_none (number_among fs u)) s ∙ ap place_or_none q))
 
 -- a name without a number
 
@@ -88,7 +69,7 @@ unnamed_from (f ∷ fs) from name k s e = by (bytes_eq f.name name) refl e (unna
     by : (b : Bool) → bytes_eq f.name name ≡ b → cond b (Some from) (position_from (has name) (from + 1) fs) ≡ None → (position_from (has name) (from + 1) fs ≡ None → typed_by fs name k s ≡ false) → typed_by (f ∷ fs) name k s ≡ false
     by true q h rest = absurd (cc)
     by false q h rest =
-        let t : bytes_eq name f.name ≡ false = turned name f.name ∙ q in
+        let t : bytes_eq name f.name ≡ false = flipped name f.name ∙ q in
         let r : typed_by fs name k s ≡ false = rest h in
         λ j. (t j && (nat_eq f.index k && nat_eq f.slot s)) || r j
 

@@ -1,21 +1,18 @@
 -- The sum of a field with one statement more.
-use Rattle.std.proofs.Common.{◌≡◌, ◌∙◌, refl, sym, ap, subst, ℕ, ◌+◌, ◌<◌, ◌≤◌, Bool, true, false, ◌&&◌, ◌||◌, cond, Some, List, [], ◌∷◌, ◌++◌, length, take, get_or, bytes_eq, nat_eq, arith}
+use Rattle.std.proofs.Common.{◌≡◌, ◌∙◌, refl, sym, ap, subst, ℕ, ◌+◌, ◌<◌, ◌≤◌, Bool, true, false, ◌&&◌, ◌||◌, cond, Some, List, [], ◌∷◌, ◌++◌, length, take, get_or, bytes_eq, nat_eq}
 use Rattle.std.proofs.Math.Bool.{and_assoc}
 use Rattle.std.proofs.lemmas.Bool.{and_parts}
-use Rattle.std.proofs.lemmas.Bool.Decides.{nat_tests}
 use Rattle.std.proofs.lemmas.List.{take_more, take_all}
+use Rattle.lx_words.proofs.Lists.{same_bytes, flipped}
+use Rattle.lx_words.proofs.Tests.{true_eq}
 use Rattle.lx_annot.specs.declared.interface.Field.{Field}
 use Rattle.lx_annot.specs.declared.interface.Interface.{Interface}
 use Rattle.lx_slot_sums.specs.declared.sums.SlotSum.{SlotSum}
 use Rattle.lx_slot_sums.specs.Classes.{IsClassed, class_differs, place_or_none}
 use Rattle.lx_slot_sums.specs.Sums.{joined, single, sum_by, sum_or_none}
 use Rattle.lx_slot_sums.specs.Fields.{Table, HasFields, at_field, is_key, number_among, sum_at, typed_by}
-use Rattle.lx_slot_sums.proofs.Classed.{same_bytes}
 use Rattle.lx_slot_sums.proofs.Joining.{any_append, join_by_classes, no_fields, one_slot}
-use Rattle.lx_slot_sums.proofs.Numbering.{same_number, turned}
-
-number_is : (a b : ℕ) → nat_eq a b ≡ true → a ≡ b
-number_is a b e = grind (arith, nat_tests, e)
+use Rattle.lx_slot_sums.proofs.Numbering.{same_number}
 
 abbrev Sums : Interface → List Field → Table → Type 0
 Sums i fields table = (name : List ℕ) → (n k : ℕ) → number_among i.fields name ≡ Some n → sum_at table n k ≡ sum_by i (typed_by fields name k)
@@ -36,7 +33,7 @@ or_last false false = refl
 module _ (i : Interface) (classes : List ℕ) (classed : IsClassed i classes) (before : List Field) (f : Field) (old : Table) (name : List ℕ) (n k : ℕ) (q : number_among i.fields name ≡ Some n) where
   -- the statement types the field with the slot type, by whether it types the field
   types_by : (b : Bool) → is_of f name k ≡ b → (s : ℕ) → (bytes_eq name f.name && (nat_eq f.index k && nat_eq f.slot s)) ≡ (b && nat_eq f.slot s)
-  types_by b e s = sym (and_assoc (bytes_eq name f.name) (nat_eq f.index k) (nat_eq f.slot s)) ∙ ap (λ c. (c && nat_eq f.index k) && nat_eq f.slot s) (turned name f.name) ∙ ap (λ c. c && nat_eq f.slot s) e
+  types_by b e s = sym (and_assoc (bytes_eq name f.name) (nat_eq f.index k) (nat_eq f.slot s)) ∙ ap (λ c. (c && nat_eq f.index k) && nat_eq f.slot s) (flipped name f.name) ∙ ap (λ c. c && nat_eq f.slot s) e
 
   more : (s : ℕ) → typed_by (before ++ f ∷ []) name k s ≡ (typed_by before name k s || ((bytes_eq name f.name && (nat_eq f.index k && nat_eq f.slot s)) || false))
   more s = any_append i (λ (g : Field). bytes_eq name g.name && (nat_eq g.index k && nat_eq g.slot s)) before (f ∷ [])
@@ -48,7 +45,7 @@ module _ (i : Interface) (classes : List ℕ) (classed : IsClassed i classes) (b
       let p = and_parts (bytes_eq f.name name) (nat_eq f.index k) e in
       let same : f.name ≡ name = same_bytes f.name name p.0 in
       let u : number ≡ n = w ∙ ap (λ t. place_or_none (number_among i.fields t)) same ∙ ap place_or_none q in
-      let m : f.index ≡ k = number_is f.index k p.1 in
+      let m : f.index ≡ k = true_eq f.index k p.1 in
       is
       ∙ (λ j. joined (class_differs classes) (sum_at old (u j) (m j)) (one_slot i f.slot j))
       ∙ ap (λ x. joined (class_differs classes) x (sum_by i (nat_eq f.slot))) (h name n k q)

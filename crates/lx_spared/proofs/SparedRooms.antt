@@ -1,8 +1,10 @@
 -- Rooms spare just the stores that may lack their guard, and instructions of lawful functions have their forms.
-use Rattle.std.proofs.Common.{◌≡◌, ℕ, zero, suc, ◌<◌, Bool, true, ◌&&◌, Option, Some, None, List, [], ◌∷◌, length, get_or, refl, ap, ◌∙◌, arith}
+use Rattle.std.proofs.Common.{◌≡◌, ℕ, ◌<◌, Bool, true, ◌&&◌, Option, Some, None, List, [], ◌∷◌, refl, ap, ◌∙◌, arith}
 use Rattle.std.specs.Prelude.{nat_le, flat_map}
 use Rattle.std.specs.List.{list_all}
+use Rattle.std.proofs.lemmas.Bool.{and_from}
 use Rattle.lx_words.specs.declared.word.Width.TheVariants.{W1, W8, W16, W32, W64}
+use Rattle.lx_words.proofs.Tests.{first_of, second_of}
 use Rattle.lx_ir.specs.declared.types.Scalar.{Scalar}
 use Rattle.lx_ir.specs.declared.types.Scalar.TheVariants.{Int, Ptr}
 use Rattle.lx_ir.specs.declared.types.NamedType.{NamedType}
@@ -18,7 +20,6 @@ use Rattle.lx_ir.specs.Layout.{scalar_size}
 use Rattle.lx_ir.specs.Lookup.{blocks_of, blocks_of_option}
 use Rattle.lx_ir.specs.Operands.{operands_of}
 use Rattle.lx_ir.specs.Lawful.{has_form, is_label, ends_once, is_lawful_value, is_lawful_op, is_lawful_block, is_lawful_function}
-use Rattle.lx_image_texts.proofs.Values.{first_of, second_of, both_of}
 use Rattle.lx_image_texts.proofs.Erasing.{lawful_blocks}
 use Rattle.lx_image_texts.specs.Spared.{is_spared_at, is_spared_in}
 use Rattle.lx_spared.specs.Rooms.{room_at, has_room, spared_by}
@@ -87,7 +88,7 @@ formed : (m : Module) (f : Function) (is : List Instr) → list_all (λ i. is_la
 formed m f [] h = refl
 formed m f (i ∷ is) h =
     let here = first_of (is_lawful_op m f i.op) _ h in
-    both_of (has_form m i.op) (list_all (λ j. has_form m j.op) is)
+    and_from (has_form m i.op) (list_all (λ j. has_form m j.op) is)
     (first_of (has_form m i.op) (list_all (λ a. is_lawful_value m f a.ty a.value) (operands_of i.op)) (first_of (has_form m i.op && list_all (λ a. is_lawful_value m f a.ty a.value) (operands_of i.op)) _ here))
     (formed m f is (second_of (is_lawful_op m f i.op) _ h))
 
@@ -95,7 +96,7 @@ pub formed_blocks : (m : Module) (f : Function) (bs : List Block) → list_all (
 formed_blocks m f [] h = refl
 formed_blocks m f (b ∷ bs) h =
     let here = first_of (is_lawful_block m f b) _ h in
-    both_of (has_forms m b) (list_all (has_forms m) bs)
+    and_from (has_forms m b) (list_all (has_forms m) bs)
     (formed m f b.instrs (second_of (is_label b.name && ends_once b.instrs) (list_all (λ i. is_lawful_op m f i.op) b.instrs) here))
     (formed_blocks m f bs (second_of (is_lawful_block m f b) _ h))
 
@@ -105,9 +106,3 @@ body_formed m f (Some bs) e h = formed_blocks m f bs (lawful_blocks m f bs e h)
 
 pub function_formed : (m : Module) (f : Function) → is_lawful_function m f ≡ true → list_all (has_forms m) (blocks_of f) ≡ true
 function_formed m f h = body_formed m f f.blocks refl h
-
--- an element of a list of which all pass
-pub one_of : {A : Type 0} (p : A → Bool) (xs : List A) (k : ℕ) (x : A) → k < length xs → x ≡ get_or xs k x → list_all p xs ≡ true → p x ≡ true
-one_of p [] k x h e a = absurd (omega (arith, h))
-one_of p (y ∷ ys) zero x h e a = ap p e ∙ first_of (p y) (list_all p ys) a
-one_of p (y ∷ ys) (suc k) x h e a = one_of p ys k x (omega (arith, h)) e (second_of (p y) (list_all p ys) a)

@@ -4,6 +4,8 @@ use Rattle.std.specs.Prelude.{unwrap_or, flat_map, nat_le}
 use Rattle.std.specs.List.{list_all, list_any}
 use Rattle.std.proofs.lemmas.Bool.Decides.{nat_tests}
 use Rattle.std.proofs.lemmas.List.{drop_all, drop_more}
+use Rattle.std.proofs.lemmas.List.Folds.{list_all-append}
+use Rattle.lx_words.proofs.Tests.{with_false, both_turned, or_joined}
 use Rattle.lx_ir.specs.declared.types.NamedType.{NamedType}
 use Rattle.lx_ir.specs.declared.module.Block.{Block}
 use Rattle.lx_ir.specs.declared.instr.Argument.{Argument}
@@ -57,27 +59,9 @@ turned false n = refl
 
 -- lists that go on with another
 
-and_assoc : (a b c : Bool) → (a && (b && c)) ≡ ((a && b) && c)
-and_assoc true b c = refl
-and_assoc false b c = refl
-
-or_false : (a : Bool) → a ≡ (a || false)
-or_false true = refl
-or_false false = refl
-
-and_turned : (a b : Bool) → (a && b) ≡ (b && a)
-and_turned true true = refl
-and_turned true false = refl
-and_turned false true = refl
-and_turned false false = refl
-
-all_join : {A : Type 0} (p : A → Bool) (xs ys : List A) → list_all p (xs ++ ys) ≡ (list_all p xs && list_all p ys)
-all_join p [] ys = refl
-all_join p (x ∷ xs) ys = ap (λ (b : Bool). p x && b) (all_join p xs ys) ∙ and_assoc (p x) (list_all p xs) (list_all p ys)
-
 pub kept_join : (r : ℕ) (xs ys : List Instr) (n : ℕ) → kept_room r (xs ++ ys) n ≡ kept_room r ys (kept_room r xs n)
 kept_join r xs ys n =
-    ap (λ (b : Bool). cond b n 0) (all_join (λ (i : Instr). uses_as_address r i.op) xs ys)
+    ap (λ (b : Bool). cond b n 0) (list_all-append (λ (i : Instr). uses_as_address r i.op) xs ys)
     ∙ both (list_all (λ (i : Instr). uses_as_address r i.op) xs) (list_all (λ (i : Instr). uses_as_address r i.op) ys) n
 
 pub widest_join : (types : List NamedType) (r n : ℕ) (xs ys : List Instr) → widest types r n (xs ++ ys) ≡ widest types r (widest types r n xs) ys
@@ -127,16 +111,12 @@ allocates_is types r size h (op.Pre f k) = never size h
 allocates_is types r size h (op.Post f k) = never size h
 allocates_is types r size h (op.Leave f) = never size h
 
-or_or : (a b c : Bool) → ((a || b) || c) ≡ (a || (b || c))
-or_or true b c = refl
-or_or false b c = refl
-
 wide_is : (types : List NamedType) (r size : ℕ) → 0 < size → (n : ℕ) (is : List Instr) → nat_le size (widest types r n is) ≡ (nat_le size n || list_any (λ i. allocates types r size i.op) is)
-wide_is types r size h n [] = or_false (nat_le size n)
+wide_is types r size h n [] = with_false (nat_le size n)
 wide_is types r size h n (i ∷ is) =
     wide_is types r size h (max n (allocated types r i.op)) is
     ∙ ap (λ (b : Bool). b || list_any (λ (j : Instr). allocates types r size j.op) is) (le_max size n (allocated types r i.op) ∙ ap (λ (b : Bool). nat_le size n || b) (allocates_is types r size h i.op))
-    ∙ or_or (nat_le size n) (allocates types r size i.op) (list_any (λ (j : Instr). allocates types r size j.op) is)
+    ∙ or_joined (nat_le size n) (allocates types r size i.op) (list_any (λ (j : Instr). allocates types r size j.op) is)
 
 pub room_is : (types : List NamedType) (r size : ℕ) (is : List Instr) → 0 < size → nat_le size (kept_room r is (widest types r 0 is)) ≡ keeps_address types is size r
 room_is types r size is h =
@@ -144,16 +124,13 @@ room_is types r size is h =
     let any : Bool = list_any (λ (i : Instr). allocates types r size i.op) is in
     given all size (widest types r 0 is) h
     ∙ ap (λ (b : Bool). all && b) (wide_is types r size h 0 is ∙ ap (λ (b : Bool). b || any) (never size h))
-    ∙ and_turned all any
+    ∙ both_turned all any
 
 -- loops
 
-left : {A : Type 0} (xs : List A) (k : ℕ) (d : A) → k < length xs → drop k xs ≡ get_or xs k d ∷ drop (k + 1) xs
-left xs k d h = drop_more xs k d h
-
 pub read_step : (r : ℕ) (xs : List Argument) (k : ℕ) (x : Argument) (old new : ℕ) → k < length xs → x ≡ get_or xs k x → new ≡ cond (is_register r x.value) 0 old → cond (reads r (drop k xs)) 0 old ≡ cond (reads r (drop (k + 1) xs)) 0 new
 read_step r xs k x old new h at e =
-    ap (λ ys. cond (reads r ys) 0 old) (left xs k x h ∙ ap (λ y. y ∷ drop (k + 1) xs) (sym at))
+    ap (λ ys. cond (reads r ys) 0 old) (drop_more xs k x h ∙ ap (λ y. y ∷ drop (k + 1) xs) (sym at))
     ∙ either (is_register r x.value) (reads r (drop (k + 1) xs)) old
     ∙ ap (λ n. cond (reads r (drop (k + 1) xs)) 0 n) (sym e)
 
@@ -162,7 +139,7 @@ read_end r xs k old h = ap (λ ys. cond (reads r ys) 0 old) (drop_all k xs h)
 
 pub kept_step : (r : ℕ) (is : List Instr) (k : ℕ) (i : Instr) (old new : ℕ) → k < length is → i ≡ get_or is k i → new ≡ cond (uses_as_address r i.op) old 0 → kept_room r (drop k is) old ≡ kept_room r (drop (k + 1) is) new
 kept_step r is k i old new h at e =
-    ap (λ js. kept_room r js old) (left is k i h ∙ ap (λ j. j ∷ drop (k + 1) is) (sym at))
+    ap (λ js. kept_room r js old) (drop_more is k i h ∙ ap (λ j. j ∷ drop (k + 1) is) (sym at))
     ∙ both (uses_as_address r i.op) (list_all (λ j. uses_as_address r j.op) (drop (k + 1) is)) old
     ∙ ap (kept_room r (drop (k + 1) is)) (sym e)
 
@@ -175,7 +152,7 @@ instrs_in bs = flat_map (λ b. b.instrs) bs
 
 pub kept_block : (r : ℕ) (bs : List Block) (k : ℕ) (b : Block) (old new : ℕ) → k < length bs → b ≡ get_or bs k b → new ≡ kept_room r b.instrs old → kept_room r (instrs_in (drop k bs)) old ≡ kept_room r (instrs_in (drop (k + 1) bs)) new
 kept_block r bs k b old new h at e =
-    ap (λ cs. kept_room r (instrs_in cs) old) (left bs k b h ∙ ap (λ c. c ∷ drop (k + 1) bs) (sym at))
+    ap (λ cs. kept_room r (instrs_in cs) old) (drop_more bs k b h ∙ ap (λ c. c ∷ drop (k + 1) bs) (sym at))
     ∙ kept_join r b.instrs (instrs_in (drop (k + 1) bs)) old
     ∙ ap (kept_room r (instrs_in (drop (k + 1) bs))) (sym e)
 
@@ -184,7 +161,7 @@ kept_blocks r bs k old h = ap (λ cs. kept_room r (instrs_in cs) old) (drop_all 
 
 pub wide_step : (types : List NamedType) (r : ℕ) (is : List Instr) (k : ℕ) (i : Instr) (old new : ℕ) → k < length is → i ≡ get_or is k i → new ≡ max old (allocated types r i.op) → widest types r old (drop k is) ≡ widest types r new (drop (k + 1) is)
 wide_step types r is k i old new h at e =
-    ap (widest types r old) (left is k i h ∙ ap (λ j. j ∷ drop (k + 1) is) (sym at))
+    ap (widest types r old) (drop_more is k i h ∙ ap (λ j. j ∷ drop (k + 1) is) (sym at))
     ∙ ap (λ n. widest types r n (drop (k + 1) is)) (sym e)
 
 pub wide_end : (types : List NamedType) (r : ℕ) (is : List Instr) (k : ℕ) (old : ℕ) → length is ≤ k → widest types r old (drop k is) ≡ old
@@ -192,7 +169,7 @@ wide_end types r is k old h = ap (widest types r old) (drop_all k is h)
 
 pub wide_block : (types : List NamedType) (r : ℕ) (bs : List Block) (k : ℕ) (b : Block) (old new : ℕ) → k < length bs → b ≡ get_or bs k b → new ≡ widest types r old b.instrs → widest types r old (instrs_in (drop k bs)) ≡ widest types r new (instrs_in (drop (k + 1) bs))
 wide_block types r bs k b old new h at e =
-    ap (λ cs. widest types r old (instrs_in cs)) (left bs k b h ∙ ap (λ c. c ∷ drop (k + 1) bs) (sym at))
+    ap (λ cs. widest types r old (instrs_in cs)) (drop_more bs k b h ∙ ap (λ c. c ∷ drop (k + 1) bs) (sym at))
     ∙ widest_join types r old b.instrs (instrs_in (drop (k + 1) bs))
     ∙ ap (λ n. widest types r n (instrs_in (drop (k + 1) bs))) (sym e)
 

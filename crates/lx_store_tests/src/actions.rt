@@ -101,7 +101,7 @@ fn action(kind: Kind, named: Named) -> Action {
 }
 
 /// An action behind a condition that is 0.
-fn not_done(alloc: Global, kind: Kind, named: Named) -> Result<Action, lx_caps::Memory> {
+fn not_done(alloc: Global, kind: Kind, named: Named) -> Result<Action, Memory> {
     match Box::new(alloc, action(kind, named)) {
         Ok(action) => Ok(Action {
             node: ActionNode::If(number(0), action),
@@ -269,7 +269,7 @@ enum Deed {
     End(u32),
 }
 
-fn action_of(alloc: Global, deed: Deed) -> Result<Action, lx_caps::Memory> {
+fn action_of(alloc: Global, deed: Deed) -> Result<Action, Memory> {
     match deed {
         Deed::Do(kind, named) => Ok(action(kind, named)),
         Deed::NotDone(kind, named) => not_done(alloc, kind, named),
@@ -283,7 +283,7 @@ fn ends_so(
     deed: Deed,
     between: (Principal, Principal),
     want: Ending,
-) -> Result<bool, lx_caps::Memory> {
+) -> Result<bool, Memory> {
     let action = action_of(bench.alloc, deed)?;
     let ending = ending_of(bench, &action, between);
     drop(action);
@@ -304,7 +304,7 @@ fn count_named(bench: &Bench, a: &Action) -> Option<usize> {
 }
 
 /// Whether the action of a deed names so many capabilities.
-fn names_so_many(bench: &Bench, deed: Deed, count: usize) -> Result<bool, lx_caps::Memory> {
+fn names_so_many(bench: &Bench, deed: Deed, count: usize) -> Result<bool, Memory> {
     let action = action_of(bench.alloc, deed)?;
     let named = count_named(bench, &action);
     drop(action);
@@ -312,7 +312,7 @@ fn names_so_many(bench: &Bench, deed: Deed, count: usize) -> Result<bool, lx_cap
 }
 
 /// Takes a step, and says whether it went as it has to.
-fn goes_so(bench: &mut Bench, step: Step) -> Result<bool, lx_caps::Memory> {
+fn goes_so(bench: &mut Bench, step: Step) -> Result<bool, Memory> {
     match step {
         Step::Grant(to, at, size) => {
             common::goes_so(&mut bench.caps, common::Step::GrantBytes(to, at, size))

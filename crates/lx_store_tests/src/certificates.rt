@@ -464,9 +464,6 @@ static WRITTEN: [Act; 4] = [
 fn what_changes_nothing_is_not_told(rt: HostRuntime) -> Result<(), Fail> {
     assert!(rt; !is_told(Act::Lend(0, SHARED, EMPTY)));
     let told = told_acts(rt.alloc(), &WRITTEN)?;
-    assert_eq!(rt;
-        told.as_slice(),
-        [Act::Grant(SHARED, STACK), Act::ShutAll(0)].as_slice()
-    );
+    assert!(rt; told.as_slice() == [Act::Grant(SHARED, STACK), Act::ShutAll(0)].as_slice());
     Ok(())
 }

@@ -2,7 +2,8 @@
 ghost use Rattle.std.specs.Prelude.{◌≡◌};
 ghost use Rattle.lx_caps.specs.Placed.{is_placed};
 
-use lx_caps::{Atom, Cap, CapStore, Memory, Principal, cells, mapped, owns_byte};
+use lx_caps::{Atom, Cap, CapStore, Principal, cells, mapped, owns_byte};
+use lx_words::Memory;
 
 pub const SHARED: Principal = Principal::Shared(0);
 

@@ -1,4 +1,11 @@
 //! Tests of the stores of capabilities and their nodes, of memory, names and writers, and of actions over them.
+//!
+//! ```text
+//! // `rt test` proves and runs them. Rows of `caps`: what is done to a store in turn, and what it answers.
+//! Step::GrantBytes(SHARED, 0x1000000, 16),
+//! Step::StripBytes(0x1000008, 8),
+//! Step::HoldsBytes(SHARED, 0x1000000, 9, false),
+//! ```
 #![tactic(auto)]
 
 #[cfg(test)]

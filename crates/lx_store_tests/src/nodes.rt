@@ -2,7 +2,8 @@
 ghost use Rattle.std.specs.Prelude.{◌≡◌, ◌<◌, ◌≤◌, length, OnOk};
 ghost use Rattle.lx_cap_nodes.specs.Words.{IsInUse};
 
-use lx_cap_nodes::{Family, ListName, Memory, NodePool};
+use lx_cap_nodes::{Family, ListName, NodePool};
+use lx_words::Memory;
 use std::alloc::Global;
 use std::test::Fail;
 

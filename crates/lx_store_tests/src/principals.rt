@@ -1,7 +1,8 @@
 //! Names as they are told: by whom, in which module, and in which order.
 use crate::common::{FIRST, GLOBAL, SECOND, goes_between_threads};
-use lx_caps::{Memory, Principal};
+use lx_caps::Principal;
 use lx_principals::{AliasFault, Principals};
+use lx_words::Memory;
 use std::alloc::Global;
 use std::process::Abort;
 use std::test::Fail;

@@ -3,9 +3,10 @@ ghost use Rattle.std.specs.Prelude.{◌+◌, ◌*◌, ◌^◌, ◌<◌, IfOk};
 ghost use Rattle.std.specs.List.{All};
 
 use crate::common::{FIRST, LoanAct, SHARED, STRANGER, Step, goes_so};
-use lx_byte_ranges::{PartBytes, ranges_of};
+use lx_cap_lists::{PartBytes, ranges_of};
 use lx_cap_tables::CapTables;
-use lx_caps::{Cap, CapStore, Memory, PlainCaps, Principal};
+use lx_caps::{Cap, CapStore, PlainCaps, Principal};
+use lx_words::Memory;
 use lx_writer_sets::Recorded;
 use std::alloc::Global;
 use std::test::Fail;

@@ -1,6 +1,7 @@
 //! Room that is asked for beside what there is and then taken is never gathered, however often that is done.
 use crate::common::{FIRST, STRANGER, is_in_memory};
-use lx_caps::{Cap, CapStore, Memory, PlainCaps, Principal, cells, mapped};
+use lx_caps::{Cap, CapStore, PlainCaps, Principal, cells, mapped};
+use lx_words::Memory;
 use lx_writer_sets::{Recorded, WriterSets};
 use std::process::Abort;
 use std::test::Fail;

@@ -3,7 +3,8 @@ ghost use Rattle.std.specs.Prelude.{◌≡◌, ◌<◌};
 ghost use Rattle.lx_caps.specs.Placed.{is_placed};
 
 use lx_cap_tables::CapTables;
-use lx_caps::{Act, Atom, Cap, CapStore, Memory, PlainCaps, Principal, cells, mapped};
+use lx_caps::{Act, Atom, Cap, CapStore, PlainCaps, Principal, cells, mapped};
+use lx_words::Memory;
 use std::alloc::Global;
 use std::process::Abort;
 use std::test::Fail;

@@ -1,6 +1,7 @@
 //! Writers of slots, as ranges are noted and zeroed.
 use crate::common::{FIRST, SECOND, SHARED, STRANGER, Step, goes_so};
-use lx_caps::{Cap, Memory, PlainCaps, Principal, cells, mapped};
+use lx_caps::{Cap, PlainCaps, Principal, cells, mapped};
+use lx_words::Memory;
 use lx_writer_sets::WriterSets;
 use std::process::Abort;
 use std::test::Fail;

@@ -1,6 +1,7 @@
 //! Writers of a slot, as owners come and go and bytes are zeroed.
 use crate::common::{FIRST, SHARED, Step, goes_so};
-use lx_caps::{Atom, Memory, PlainCaps, Principal, mapped};
+use lx_caps::{Atom, PlainCaps, Principal, mapped};
+use lx_words::Memory;
 use lx_writer_sets::Recorded;
 use std::process::Abort;
 use std::test::Fail;

@@ -1,3 +1,3 @@
 -- What a bound allows.
-pub use Rattle.lx_reach_bound.specs.declared.limits.Bound.{Bound}
-pub use Rattle.lx_reach_bound.specs.Bound.{IsExact, allows}
+pub use Rattle.lx_surface.specs.declared.limits.Bound.{Bound}
+pub use Rattle.lx_surface.specs.ExactBound.{IsExact, allows}

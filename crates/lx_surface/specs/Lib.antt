@@ -1,2 +1,15 @@
+pub mod Begun
 pub mod Bound
+pub mod ExactBound
+pub mod Given
+pub mod Laws
+pub mod Marks
+pub mod Names
+pub mod Naming
+pub mod Other
+pub mod Pairs
+pub mod Reach
+pub mod Right
 pub mod Text
+pub mod Waits
+pub mod Work

@@ -6,9 +6,9 @@ use Rattle.lx_model.specs.declared.program.Program.{Program}
 use Rattle.lx_model.specs.declared.program.ProgramModule.{ProgramModule}
 use Rattle.lx_model.specs.declared.program.ProgramFunction.{ProgramFunction}
 use Rattle.lx_model.specs.declared.program.ProgramFunction.TheVariants.{Of}
-use Rattle.lx_static_reach.specs.declared.Thing.TheVariants.{RefType, Function}
-use Rattle.lx_reach_bound.specs.declared.limits.Bound.{Bound}
-use Rattle.lx_reach_bound.specs.Bound.{allows}
+use Rattle.lx_surface.specs.declared.Thing.TheVariants.{RefType, Function}
+use Rattle.lx_surface.specs.declared.limits.Bound.{Bound}
+use Rattle.lx_surface.specs.ExactBound.{allows}
 
 -- a module can come to hold references of a type
 unfoldable pub ref_line : List ℕ → List ℕ → List ℕ

@@ -3,10 +3,9 @@ ghost use Rattle.std.specs.Prelude.{◌≡◌, ◌++◌, IfOk, OnOk, flat_map, o
 ghost use Rattle.std.specs.List.{enumerate_from};
 ghost use Rattle.lx_surface.specs.Text.{bound_text, call_line, entry_line, function_line, module_lines, named_line, ref_line, type_line};
 
+use crate::{Bound, Thing};
 use lx_ir::module::Function;
 use lx_model::program::{Program, ProgramFunction, ProgramModule};
-use lx_reach_bound::Bound;
-use lx_static_reach::Thing;
 use lx_words::{Memory, Name, number_of};
 use std::alloc::Global;
 

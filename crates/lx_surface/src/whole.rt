@@ -4,15 +4,15 @@ ghost use Rattle.lx_annotation_tables.specs.Entries.{all_annotated};
 ghost use Rattle.lx_ir.specs.Lawful.{IsLawful};
 ghost use Rattle.lx_link_texts.specs.WellFormed.{IsWellFormed};
 ghost use Rattle.lx_propagate.specs.Slots.{annotated_of};
-ghost use Rattle.lx_reach_bound.specs.Bound.{IsExact};
+ghost use Rattle.lx_surface.specs.ExactBound.{IsExact};
 
+use crate::{Bound, bound_of};
 use lx_annot::interface::Interface;
 use lx_annotation_tables::sources_of;
 use lx_ir::module::Module;
 use lx_link::Linked;
 use lx_model::program::Program;
 use lx_propagate::annotated;
-use lx_reach_bound::{Bound, bound_of};
 use lx_slot_types::Annotated;
 use lx_words::Memory;
 use std::alloc::Global;
@@ -27,7 +27,7 @@ fn annotated_in(alloc: Global, i: &Interface, text: &Module) -> Result<Annotated
 }
 
 /// The functions of each module that get a slot type.
-#[tactic(auto, using(crate::proofs::Marks::lawful_at))]
+#[tactic(auto, using(crate::proofs::MarkLemmas::lawful_at))]
 fn all_annotated(alloc: Global, program: &Program) -> Result<Vec<Annotated>, Memory>
     requires { IsWellFormed program.now }
     ensures { IfOk result (λ lists. lists.items ≡ all_annotated program.now) }
@@ -44,7 +44,7 @@ fn all_annotated(alloc: Global, program: &Program) -> Result<Vec<Annotated>, Mem
 ///
 /// # Errors
 /// Want of memory.
-#[tactic(auto, using(crate::proofs::Marks::few))]
+#[tactic(auto, using(crate::proofs::MarkLemmas::few))]
 pub fn bound_by(alloc: Global, program: &Program, annotated: &[Annotated]) -> Result<Bound, Memory>
     requires well_formed { IsWellFormed program.now }
     requires annotated { annotated.now ≡ all_annotated program.now }

@@ -259,7 +259,7 @@ static UP_TO_LINE_4: [Row; 1] = [Row(
 fn tokens_up_to_the_first_bad_byte(rt: HostRuntime) -> Result<(), Fail> {
     let found = tokens_found(rt.alloc(), b"\nret\n\n!0 \x01 void", &UP_TO_LINE_4)?;
     assert_eq!(rt; found.wrong, None);
-    assert!(rt; found.stop == Some(Stop { line: 4, byte: 1 }));
+    assert!(rt; matches!(found.stop, Some(Stop { line: 4, byte: 1 })));
     assert!(rt; found.last_line == 4 && found.names == 1 && found.first == Some(0));
     Ok(())
 }

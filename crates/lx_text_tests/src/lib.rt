@@ -1,4 +1,9 @@
 //! Tests of words, the outside world, cases, schedules, interfaces and the tokens of a module's text.
+//!
+//! ```text
+//! // `rt test` proves and runs them. A row of `words`: an operator at a width, its operands, and its result.
+//! Row(BinOp::SDiv, Width::W8, 0x80, 0xff, None)
+//! ```
 #![tactic(auto)]
 
 #[cfg(test)]

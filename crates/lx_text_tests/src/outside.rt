@@ -23,7 +23,7 @@ fn reads<S: Shelf>(
 fn cannot_read<S: Shelf>(alloc: Global, shelf: &mut S, name: &str) -> bool {
     match shelf.read(alloc, name) {
         Ok(_) => false,
-        Err(fault) => fault == ShelfFault::Failed,
+        Err(fault) => matches!(fault, ShelfFault::Failed),
     }
 }
 
@@ -63,7 +63,7 @@ fn a_sink_takes_what_room_leaves(rt: HostRuntime) -> Result<(), Fail> {
     let alloc = rt.alloc();
     let mut sink = MemSink::new(alloc, Vec::new(alloc), 10)?;
     let failed = put_all(&mut sink, b"schedule 0*4\n").err();
-    assert_eq!(rt; failed, Some(SinkFault::Failed));
+    assert!(rt; matches!(failed, Some(SinkFault::Failed)));
     assert_eq!(rt; sink.bytes.as_slice(), b"schedule 0".as_slice());
     Ok(())
 }

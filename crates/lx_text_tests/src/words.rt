@@ -242,14 +242,8 @@ fn stops_so(alloc: Global, row: &Stopped) -> bool {
         return false;
     }
     match split(alloc, row.0, row.1) {
-        Ok(_) => false,
-        Err(fault) => {
-            fault
-                == LexFault::Byte {
-                    line: row.2,
-                    byte: row.3,
-                }
-        }
+        Err(LexFault::Byte { line, byte }) => line == row.2 && byte == row.3,
+        _ => false,
     }
 }
 

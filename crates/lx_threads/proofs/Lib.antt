@@ -1,3 +1,10 @@
-pub mod Schedules
-mod Worlds
 mod Crossing
+mod Dealing
+mod Gathering
+pub mod Journals
+pub mod Runs
+pub mod Schedules
+mod Together
+mod Turning
+pub mod WorkerSchedules
+mod Worlds

@@ -1,7 +1,8 @@
 -- Events of the threads of images are a run of images.
-use Rattle.std.proofs.Common.{◌≡◌, ◌∙◌, sym, ap, ℕ, Bool, true, Some, List, [], ◌∷◌, map}
-use Rattle.std.specs.Prelude.{option_map, slice_get, slice_set, ◌&&◌}
+use Rattle.std.proofs.Common.{◌≡◌, ◌∙◌, sym, ap, ℕ, true, Some, List, [], ◌∷◌, map}
+use Rattle.std.specs.Prelude.{option_map, slice_get, slice_set}
 use Rattle.std.proofs.lemmas.Option.{slice_get-map}
+use Rattle.std.proofs.lemmas.Bool.{and_from}
 use Rattle.lx_model.specs.declared.request.Request.{Request}
 use Rattle.lx_model.specs.Serve.{serve}
 use Rattle.lx_model.specs.State.{State}
@@ -11,9 +12,9 @@ use Rattle.lx_images.specs.ImageWorld.{ImageWorld, image_event, image_event_of, 
 use Rattle.lx_images.specs.Shown.{shown, shown_thread, image_is_whole}
 use Rattle.lx_caplock.specs.declared.knowledge.Entry.{Entry}
 use Rattle.lx_caplock.specs.Serving.{served_by, state_after}
-use Rattle.lx_workers.specs.Machines.{IsEvent, AreEvents}
-use Rattle.lx_workers.specs.Monitor.{threads_of}
-use Rattle.lx_workers.proofs.Journals.{schedule_after}
+use Rattle.lx_threads.specs.Machines.{IsEvent, AreEvents}
+use Rattle.lx_threads.specs.Monitor.{threads_of}
+use Rattle.lx_threads.proofs.Journals.{schedule_after}
 use Rattle.lx_threads.specs.Imaged.{imaged, IsImageRun, ImageMonitorLaws}
 
 abbrev world : State → List ImageThread → ImageWorld
@@ -22,9 +23,6 @@ world s vs = record { state = s; threads = vs }
 -- what is shown of a thread that is there
 shown_at : (vs : List ImageThread) (t : ℕ) (v : ImageThread) → slice_get vs t ≡ Some v → slice_get (map shown_thread vs) t ≡ Some (shown_thread v)
 shown_at vs t v there = slice_get-map shown_thread vs t ∙ ap (option_map shown_thread) there
-
-both_true : (a b : Bool) → a ≡ true → b ≡ true → (a && b) ≡ true
-both_true a b is also = ap (λ x. x && b) is ∙ also
 
 module _ (c : Code) where
   -- the thread behind the reply of an entry
@@ -54,7 +52,7 @@ module _ (c : Code) where
       → image_is_whole c (threads_of history) (world s vs) ≡ true
   whole s vs ws [] all done = ap (λ us. is_done (shown (world s us))) all ∙ done
   whole s vs ws (e ∷ es) all done =
-      both_true (can_act (shown (world s vs)) e.thread) (image_is_whole c (threads_of es) (image_event c e.thread (world s vs)))
+      and_from (can_act (shown (world s vs)) e.thread) (image_is_whole c (threads_of es) (image_event c e.thread (world s vs)))
       (ap works (shown_at vs e.thread all.0 all.1.there) ∙ all.1.next.work)
       (ap (image_is_whole c (threads_of es)) (event_is s vs e all.0 all.1)
       ∙ whole (served_by c.program s e).state (slice_set vs e.thread (absorbed e all.0)) ws es all.2 done)

@@ -11,12 +11,12 @@ use Rattle.lx_serve.specs.Stands.{StandsForState, program_of}
 use Rattle.lx_serve.specs.declared.shared.SharedPart.{SharedPart}
 use Rattle.lx_caplock.specs.declared.knowledge.Entry.{Entry}
 use Rattle.lx_caplock.specs.Serving.{state_after}
-use Rattle.lx_workers.specs.Machines.{AreEvents}
-use Rattle.lx_workers.specs.Working.{AllStand as AllRun}
-use Rattle.lx_core.specs.declared.runners.Runners.{Runners}
-use Rattle.lx_core.specs.declared.world.World.{World}
-use Rattle.lx_core.specs.Parts.{list_of, AreParts}
-use Rattle.lx_core.specs.Worlds.{StandsFor, AllStand, StandsForWorld}
+use Rattle.lx_threads.specs.Machines.{AreEvents}
+use Rattle.lx_threads.specs.Working.{AllStand as AllRun}
+use Rattle.lx_world.specs.declared.runners.Runners.{Runners}
+use Rattle.lx_world.specs.declared.world.World.{World}
+use Rattle.lx_world.specs.Parts.{list_of, AreParts}
+use Rattle.lx_world.specs.Worlds.{StandsFor, AllStand, StandsForWorld}
 use Rattle.lx_threads.specs.declared.runner.ThreadCode.{ThreadCode}
 use Rattle.lx_threads.specs.Imaged.{imaged, images_behind, ImageMonitorLaws}
 use Rattle.lx_threads.specs.Running.{HasRun}

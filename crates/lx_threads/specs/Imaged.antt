@@ -8,8 +8,8 @@ use Rattle.lx_images.specs.ImageWorld.{ImageWorld, image_run}
 use Rattle.lx_images.specs.Shown.{shown, image_is_whole}
 use Rattle.lx_caplock.specs.declared.knowledge.Entry.{Entry}
 use Rattle.lx_caplock.specs.Serving.{state_after}
-use Rattle.lx_workers.specs.Machines.{Machine, AreEvents}
-use Rattle.lx_workers.specs.Monitor.{threads_of}
+use Rattle.lx_threads.specs.Machines.{Machine, AreEvents}
+use Rattle.lx_threads.specs.Monitor.{threads_of}
 
 -- a thread of the code's images: it works while it has a call left, and asks its next request
 abbrev pub imaged : Code → Machine ImageThread

@@ -5,9 +5,9 @@ use Rattle.lx_images.specs.Image.{Code}
 use Rattle.lx_images.specs.ImageWorld.{ImageWorld}
 use Rattle.lx_images.specs.Shown.{image_is_whole}
 use Rattle.lx_caplock.specs.declared.knowledge.Entry.{Entry}
-use Rattle.lx_workers.specs.Monitor.{threads_of}
-use Rattle.lx_core.specs.declared.world.World.{World}
-use Rattle.lx_core.specs.Worlds.{StandsForWorld}
+use Rattle.lx_threads.specs.Monitor.{threads_of}
+use Rattle.lx_world.specs.declared.world.World.{World}
+use Rattle.lx_world.specs.Worlds.{StandsForWorld}
 use Rattle.lx_threads.specs.Imaged.{IsImageRun}
 
 -- the world stands for what the history leaves of the one before: the run of images under the threads of its entries, an event

@@ -1,9 +1,9 @@
 //! The runners of threads of images, as what asks through the seats of a lock.
-use lx_core::{image_answer_laws, image_request_laws};
+use crate::Asker;
 use lx_interp::{Code, Runner};
 use lx_model::request::{Reply, Request};
 use lx_words::Memory;
-use lx_workers::Asker;
+use lx_world::{image_answer_laws, image_request_laws};
 
 /// The code that the threads of a world run.
 #[derive(Drop)]
@@ -15,7 +15,7 @@ impl Asker<ThreadCode> for Runner {
     ghost use Rattle.std.specs.Prelude.{◌≡◌, true};
     ghost use Rattle.lx_images.specs.Image.{ImageThread};
     ghost use Rattle.lx_run_laws.specs.Servable.{is_servable};
-    ghost use Rattle.lx_core.specs.Worlds.{StandsFor};
+    ghost use Rattle.lx_world.specs.Worlds.{StandsFor};
     ghost use Rattle.lx_threads.specs.Imaged.{imaged};
     ghost use Rattle.lx_threads.specs.Threads.{AsksOf};
 

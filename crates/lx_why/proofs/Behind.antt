@@ -24,12 +24,12 @@ use Rattle.lx_model.specs.State.{State}
 use Rattle.lx_model.specs.Thread.{Thread}
 use Rattle.lx_model.specs.World.{World, event, opening, run}
 use Rattle.lx_images.specs.Image.{Code, ImageThread, image_next}
-use Rattle.lx_images.specs.ImageWorld.{ImageWorld, image_event, image_opening, image_run}
+use Rattle.lx_images.specs.ImageWorld.{image_opening, image_run}
 use Rattle.lx_images.specs.Guarded.{Accepted}
 use Rattle.lx_images.specs.Stands.{SameState, ThreadsStand}
 use Rattle.lx_simulation.specs.Simulation.{AllGuarded, SimulationLaws}
-use Rattle.lx_core.specs.Wants.{image_asks}
-use Rattle.lx_refusals.specs.Needs.{all_needs, needs_of}
+use Rattle.lx_world.specs.Wants.{image_asks}
+use Rattle.lx_run_laws.specs.Needs.{all_needs, needs_of}
 use Rattle.lx_act_index.specs.Standing.{StandsForActs}
 use Rattle.lx_why.specs.Certified.{CertifiesNext, acts_so_far, asks_next, needs_if}
 use Rattle.lx_why.specs.Noted.{HasNoted}
@@ -38,14 +38,6 @@ use Rattle.lx_why.specs.declared.noted.Noted.{Noted}
 use Rattle.lx_why.proofs.Growing.{event_grows}
 
 -- one event more
-
-pub run_more : (p : Program) (s : List ℕ) (t : ℕ) (w : World) → run p (s ++ t ∷ []) w ≡ event p t (run p s w)
-run_more p [] t w = refl
-run_more p (u ∷ s) t w = run_more p s t (event p u w)
-
-pub image_run_more : (c : Code) (s : List ℕ) (t : ℕ) (v : ImageWorld) → image_run c (s ++ t ∷ []) v ≡ image_event c t (image_run c s v)
-image_run_more c [] t v = refl
-image_run_more c (u ∷ s) t v = image_run_more c s t (image_event c u v)
 
 -- acts
 

@@ -1,19 +1,16 @@
 -- Acts are never taken back.
 use Rattle.std.proofs.Common.{◌∙◌, refl, sym, ap, ℕ, zero, suc, Bool, true, false, Option, Some, None, Ok, Err, List, [], ◌∷◌, ◌++◌, append_assoc}
-use Rattle.std.specs.Prelude.{slice_get, if◌then◌else◌, ⊤}
+use Rattle.std.specs.Prelude.{slice_get}
 use Rattle.lx_words.specs.Word.{Word}
 use Rattle.lx_caps.specs.declared.Principal.{Principal}
 use Rattle.lx_caps.specs.declared.Principal.TheVariants.{Kernel, Shared, Global, Inst}
 use Rattle.lx_caps.specs.declared.Cap.{Cap}
 use Rattle.lx_caps.specs.declared.Act.{Act}
-use Rattle.lx_caps.specs.declared.Act.TheVariants.{Strip, Loan}
+use Rattle.lx_caps.specs.declared.Act.TheVariants.{Strip, Loan, Shut}
 use Rattle.lx_caps.specs.History.{History, with_grant, with_lend}
-use Rattle.lx_caps.specs.Memory.{Memory, load64}
 use Rattle.lx_annot.specs.declared.expr.Env.{Env}
-use Rattle.lx_annot.specs.declared.interface.Interface.{Interface}
-use Rattle.lx_annot.specs.Action.{Action, Copy, Transfer, Check, Lend as Lends, End, If, is_lend}
-use Rattle.lx_annot.specs.Value.{Found, value}
-use Rattle.lx_annot.specs.Items.{caps_of}
+use Rattle.lx_annot.specs.Action.{Action}
+use Rattle.lx_annot.specs.Value.{Found}
 use Rattle.lx_model.specs.declared.program.Program.{Program}
 use Rattle.lx_model.specs.declared.request.Outcome.{Outcome}
 use Rattle.lx_model.specs.declared.request.Request.{Request}
@@ -21,8 +18,7 @@ use Rattle.lx_model.specs.declared.request.Way.{Way}
 use Rattle.lx_model.specs.declared.request.What.{What}
 use Rattle.lx_model.specs.declared.request.What.TheVariants as what
 use Rattle.lx_model.specs.Program.{NativeCall, Alloc, Free, ZeroBytes, TryLock, NoteValue, AliasPrincipal, native_call}
-use Rattle.lx_model.specs.Act.{Acted, act, result_unless, first_refusal, with_grants, with_strips, with_lends, copied, transferred, checked, lent, not_done, on_condition}
-use Rattle.lx_model.specs.Decide.{decide, action_result, result_or_none}
+use Rattle.lx_model.specs.Decide.{decide, result_or_none}
 use Rattle.lx_model.specs.Enter.{Running, entered_function, runs_as}
 use Rattle.lx_model.specs.Next.{actions_of, next}
 use Rattle.lx_model.specs.Serve.{serve_by, grant_what, history_or, entering, entering_as, after_native, after_alloc, after_try_lock}
@@ -30,6 +26,7 @@ use Rattle.lx_model.specs.State.{State}
 use Rattle.lx_model.specs.Thread.{Thread, has_work}
 use Rattle.lx_model.specs.World.{World, event, event_if, event_of}
 use Rattle.lx_why.specs.Laws.{Grows}
+use Rattle.lx_model.proofs.ActKeeps.{Keeps, Any, action_keeps}
 
 -- a history and itself, with an act more, and one behind the other
 pub same : (h : History) → Grows h h
@@ -55,83 +52,18 @@ lent_one t (Shared m) c h = one_more _ h h (same h)
 lent_one t (Global m) c h = one_more _ h h (same h)
 lent_one t (Inst m k) c h = one_more _ h h (same h)
 
-all_granted : (dest : Principal) (cs : List Cap) (h : History) → Grows h (with_grants dest cs h)
-all_granted dest [] h = same h
-all_granted dest (c ∷ cs) h = onward h (with_grant dest c h) _ (granted dest c h) (all_granted dest cs (with_grant dest c h))
-
-all_stripped : (cs : List Cap) (h : History) → Grows h (with_strips cs h)
-all_stripped [] h = same h
-all_stripped (c ∷ cs) h = onward h (Strip c ∷ h) _ (one_more (Strip c) h h (same h)) (all_stripped cs (Strip c ∷ h))
-
-all_lent : (t : ℕ) (dest : Principal) (cs : List Cap) (h : History) → Grows h (with_lends t dest cs h)
-all_lent t dest [] h = same h
-all_lent t dest (c ∷ cs) h = onward h (with_lend t dest c h) _ (lent_one t dest c h) (all_lent t dest cs (with_lend t dest c h))
-
--- what an action leaves, if it leaves anything
-GrowsIf : History → Acted → Type 0
-GrowsIf h (Ok new) = Grows h new
-GrowsIf h (Err o) = ⊤
-
-unless_refused : (o : Option Outcome) (h new : History) → Grows h new → GrowsIf h (result_unless o new)
-unfolding GrowsIf
-unless_refused None h new g = g
-unless_refused (Some o) h new g = tt
-
-copies : (source dest : Principal) (h : History) (found : Found (List Cap)) → GrowsIf h (copied source dest h found)
-unfolding GrowsIf
-copies source dest h (Err at) = tt
-copies source dest h (Ok caps) = unless_refused (first_refusal h false true source caps) h (with_grants dest caps h) (all_granted dest caps h)
-
-transfers : (source dest : Principal) (h : History) (found : Found (List Cap)) → GrowsIf h (transferred source dest h found)
-unfolding GrowsIf
-transfers source dest h (Err at) = tt
-transfers source dest h (Ok caps) =
-    unless_refused (first_refusal h true true source caps) h (with_grants dest caps (with_strips caps h))
-    (onward h (with_strips caps h) _ (all_stripped caps h) (all_granted dest caps (with_strips caps h)))
-
-checks : (source : Principal) (h : History) (found : Found (List Cap)) → GrowsIf h (checked source h found)
-unfolding GrowsIf
-checks source h (Err at) = tt
-checks source h (Ok caps) = unless_refused (first_refusal h false false source caps) h h (same h)
-
-lends : (t : ℕ) (source dest : Principal) (h : History) (found : Found (List Cap)) → GrowsIf h (lent t source dest h found)
-unfolding GrowsIf
-lends t source dest h (Err at) = tt
-lends t source dest h (Ok caps) =
-    unless_refused (first_refusal h false true source caps) h (with_lends t dest caps (Loan t ∷ h))
-    (onward h (Loan t ∷ h) _ (one_more (Loan t) h h (same h)) (all_lent t dest caps (Loan t ∷ h)))
-
-skipped : (b : Bool) (t : ℕ) (h : History) → Grows h (if b then Loan t ∷ h else h)
-skipped true t h = one_more (Loan t) h h (same h)
-skipped false t h = same h
-
-on_test : (found : Found ℕ) (h skip : History) (done : Acted) → Grows h skip → GrowsIf h done → GrowsIf h (on_condition found skip done)
-unfolding GrowsIf
-on_test (Err at) h skip done s d = tt
-on_test (Ok zero) h skip done s d = s
-on_test (Ok (suc n)) h skip done s d = d
-
-acts : (i : Interface) (a : Action) (env : Env) (t : ℕ) (source dest : Principal) (memory : Memory) (h : History) → GrowsIf h (act i a env t source dest memory h)
-unfolding GrowsIf
-acts i (Copy list) env t source dest memory h = copies source dest h (caps_of i (load64 memory) env list)
-acts i (Transfer list) env t source dest memory h = transfers source dest h (caps_of i (load64 memory) env list)
-acts i (Check list) env t source dest memory h = checks source h (caps_of i (load64 memory) env list)
-acts i (Lends list) env t source dest memory h = lends t source dest h (caps_of i (load64 memory) env list)
-acts i (End k) env t source dest memory h = one_more _ h h (same h)
-acts i (If e a) env t source dest memory h =
-    on_test (value (load64 memory) env e) h (not_done t a h) (act i a env t source dest memory h) (skipped (is_lend a) t h) (acts i a env t source dest memory h)
-
 -- requests
 
-left : (x : Acted) (h : History) → GrowsIf h x → Grows h (history_or x h)
-unfolding GrowsIf
-left (Ok new) h g = g
-left (Err o) h g = same h
-
-performed : (p : Program) (s : State) (t : ℕ) (a : Option Action) (env : Env) (source dest : Principal) → GrowsIf s.history (result_or_none p s t a env source dest)
-unfolding GrowsIf
-performed p s t None env source dest = same s.history
-performed p s t (Some a) env source dest = acts p.interface a env t source dest s.memory s.history
+performed : (p : Program) (s : State) (t : ℕ) (a : Option Action) (env : Env) (source dest : Principal) → Grows s.history (history_or (result_or_none p s t a env source dest) s.history)
+performed p s t a env source dest = action_keeps (Grows s.history) p s t a env source dest keeps (same s.history) where
+  keeps : Keeps (Grows s.history) t source dest s.history Any
+  keeps = record {
+    grant = λ transfers c h passes named grown. onward s.history h (with_grant dest c h) grown (granted dest c h);
+    strip = λ c h passes grown. one_more (Strip c) s.history h grown;
+    loan = λ h grown. one_more (Loan t) s.history h grown;
+    lend = λ c h passes named grown. onward s.history h (with_lend t dest c h) grown (lent_one t dest c h);
+    shut = λ k h grown. one_more (Shut t k) s.history h grown;
+  }
 
 entered_as : (p : Program) (s : State) (caller : Principal) (way : Way) (n : ℕ) (found : Found Running) → Grows s.history (entering_as p s caller way n found).state.history
 entered_as p s caller way n (Err at) = same s.history
@@ -165,7 +97,7 @@ grants p s t caller (what.Fill to byte len) = same s.history
 grants p s t caller (what.Alloca at size) = onward s.history _ _ (one_more _ s.history s.history (same s.history)) (granted caller _ _)
 grants p s t caller (what.Enter way args) = enters p s caller way args (entered_function p s way)
 grants p s t caller (what.Perform n post k env source dest) =
-    left (action_result p s t n post k env source dest) s.history (performed p s t (slice_get (actions_of p n post) k) env source dest)
+    performed p s t (slice_get (actions_of p n post) k) env source dest
 grants p s t caller (what.Return low high) = one_more _ s.history s.history (same s.history)
 grants p s t caller (what.Native k args) = natives s t caller (native_call k) args
 grants p s t caller (what.Finish o) = one_more _ s.history _ (one_more _ s.history s.history (same s.history))

@@ -1,5 +1,7 @@
-pub mod Growing
-pub mod Certifying
+pub mod Allowing
 pub mod Behind
+pub mod Certifying
+pub mod Growing
 pub mod Placed
 pub mod Standing
+pub mod True

@@ -11,15 +11,17 @@ use Rattle.lx_images.specs.Image.{Code}
 use Rattle.lx_images.specs.ImageWorld.{ImageWorld, image_event, image_opening, image_run}
 use Rattle.lx_images.specs.Stands.{SameState}
 use Rattle.lx_simulation.specs.Images.{code_of}
-use Rattle.lx_core.specs.declared.world.World.{World as Held}
-use Rattle.lx_core.specs.Worlds.{StandsForWorld}
+use Rattle.lx_world.specs.declared.world.World.{World as Held}
+use Rattle.lx_world.specs.Worlds.{StandsForWorld}
 use Rattle.lx_why.specs.declared.logged.Logged.{Logged}
 use Rattle.lx_why.specs.declared.noted.Noted.{Noted}
 use Rattle.lx_why.specs.declared.run.WhyRun.{WhyRun}
 use Rattle.lx_why.specs.Noted.{HasNoted}
 use Rattle.lx_why.specs.Run.{StandsForWhy, acts_of}
 use Rattle.lx_why.specs.Why.{behind}
-use Rattle.lx_why.proofs.Behind.{image_run_more, run_more, still_noted, still_within}
+use Rattle.lx_why.proofs.Behind.{still_noted, still_within}
+use Rattle.lx_model.proofs.Turns.{run_more}
+use Rattle.lx_simulation.proofs.Showing.{image_run_further}
 
 -- the list of a store that stands for the history is the acts of the world
 pub acts_are : (w : World) (v : State) (acts : List Act) → SameState w.state v → without_zeros v.history ≡ reverse acts → acts ≡ acts_of w
@@ -60,7 +62,7 @@ module _ {C : Type 0} (stands : Logged C → History → Type 0) (p : Program) (
         images = st.images;
         accepted = st.accepted;
         guarded = st.guarded;
-        world = subst (StandsForWorld stands code world) (sym (image_run_more code s t (image_opening code script))) (goes code (image_run code s (image_opening code script)) st.world);
+        world = subst (StandsForWorld stands code world) (sym (image_run_further code s t (image_opening code script))) (goes code (image_run code s (image_opening code script)) st.world);
         noted = subst (λ (w : World). HasNoted old.noted (acts_of w)) further (still_noted p t (behind p script s) old.noted st.within st.noted);
         within = subst (λ (w : World). old.noted.seen ≤ length (acts_of w)) further (still_within p t (behind p script s) old.noted.seen st.within);
       }

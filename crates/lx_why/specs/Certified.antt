@@ -10,7 +10,7 @@ use Rattle.lx_model.specs.declared.request.Request.{Request}
 use Rattle.lx_model.specs.Next.{next}
 use Rattle.lx_model.specs.State.{State}
 use Rattle.lx_model.specs.World.{World, event}
-use Rattle.lx_refusals.specs.Needs.{needs_of}
+use Rattle.lx_run_laws.specs.Needs.{needs_of}
 use Rattle.lx_why_text.specs.declared.Certified.{Certified}
 
 -- the acts so far, the newest first: the grants, lends and strips that have an atom, and the loans

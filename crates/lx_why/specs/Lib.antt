@@ -1,6 +1,7 @@
+pub mod Certified
+pub mod CertifiedLaws
+pub mod Laws
 pub mod Logged
 pub mod Noted
-pub mod Certified
-pub mod Why
-pub mod Laws
 pub mod Run
+pub mod Why

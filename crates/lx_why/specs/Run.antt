@@ -10,8 +10,8 @@ use Rattle.lx_images.specs.Guarded.{Accepted}
 use Rattle.lx_images.specs.ImageWorld.{image_opening, image_run}
 use Rattle.lx_simulation.specs.Images.{code_of}
 use Rattle.lx_simulation.specs.Simulation.{AllGuarded}
-use Rattle.lx_core.specs.Wants.{asked_of}
-use Rattle.lx_core.specs.Worlds.{StandsForWorld}
+use Rattle.lx_world.specs.Wants.{asked_of}
+use Rattle.lx_world.specs.Worlds.{StandsForWorld}
 use Rattle.lx_why.specs.Certified.{asks_next}
 use Rattle.lx_why.specs.declared.logged.Logged.{Logged}
 use Rattle.lx_why.specs.declared.run.WhyRun.{WhyRun}

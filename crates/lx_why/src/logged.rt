@@ -3,7 +3,8 @@ ghost use Rattle.std.specs.Prelude.{◌≡◌, [], All, true, reverse};
 ghost use Rattle.lx_caps.specs.History.{History};
 ghost use Rattle.lx_caps.specs.Placed.{is_placed_act};
 
-use lx_caps::{Act, Atom, Cap, CapStore, Memory, PlainCaps, Principal};
+use lx_caps::{Act, Atom, Cap, CapStore, PlainCaps, Principal};
+use lx_words::Memory;
 use std::alloc::Global;
 
 /// A store of capabilities, and what was done to it. The store answers, and the list is told.

@@ -1,7 +1,7 @@
 //! A run that certifies each need of its events.
 ghost use Rattle.std.specs.Prelude.{◌≡◌, ◌≤◌, [], ℕ, IfOk, IsErrOf, List, length};
 ghost use Rattle.lx_act_index.specs.Standing.{StandsForActs};
-ghost use Rattle.lx_accepted.specs.Accepted.{AreAccepted};
+ghost use Rattle.lx_simulation.specs.Accepted.{AreAccepted};
 ghost use Rattle.lx_annotation_tables.specs.Entries.{all_annotated};
 ghost use Rattle.lx_certificates.specs.Needs.{AreCertsOf};
 ghost use Rattle.lx_certificates.specs.Told.{told};
@@ -11,7 +11,7 @@ ghost use Rattle.lx_model.specs.declared.program.ScriptCall.{ScriptCall};
 ghost use Rattle.lx_model.specs.State.{State};
 ghost use Rattle.lx_opening.specs.Differing.{IsFirstDifferent};
 ghost use Rattle.lx_opening.specs.declared.fault.OpenFault.{OpenFault};
-ghost use Rattle.lx_refusals.specs.Needs.{needs_of};
+ghost use Rattle.lx_run_laws.specs.Needs.{needs_of};
 ghost use Rattle.lx_serve.specs.Stands.{StandsForState};
 ghost use Rattle.lx_simulation.specs.Images.{AreFullImages};
 ghost use Rattle.lx_why.specs.Noted.{HasNoted};
@@ -21,18 +21,17 @@ use crate::noted::Noted;
 use lx_act_index::ActIndex;
 use lx_caps::{Acts, CapStore};
 use lx_certificates::{Certs, told_acts, told_laws};
-use lx_core::{EventFault, World};
 use lx_image_check::Checked;
 use lx_model::account::InstanceName;
 use lx_model::program::{Calls, Program};
 use lx_model::request::Request;
 use lx_needs::needs_of;
 use lx_opening::{OpenFault, open_world};
-use lx_ownership::instance_names;
 use lx_serve::SharedPart;
 use lx_simulation::simulation_laws;
 use lx_slot_types::Annotated;
 use lx_words::{Memory, number_of};
+use lx_world::{EventFault, World, instance_names};
 use std::alloc::Global;
 
 /// A run of a program's images, in which each store has its guard. Each event of it comes with the certificates of what it needs.
@@ -74,7 +73,7 @@ impl<C: CapStore + Drop> WhyRun<C> {
     ghost use Rattle.lx_why.specs.Certified.{CertifiesNext, acts_so_far};
     ghost use Rattle.lx_why.specs.Run.{IsPrepared, StandsForWhy, acts_of};
     ghost use Rattle.lx_why.specs.Why.{behind};
-    ghost use Rattle.lx_core.specs.declared.fault.EventFault.{EventFault};
+    ghost use Rattle.lx_world.specs.declared.fault.EventFault.{EventFault};
 
     /// The run of a script, a list of calls for each thread, before its first event: over a well-formed program and checked images of its
     /// modules, one for each in the modules' order, in which each store and block write has its guard. `annotated` has the functions of

@@ -9,3 +9,7 @@ pub mod Pieces
 pub mod OneWay
 pub mod Standing
 pub mod Values
+pub mod Tests
+pub mod Options
+pub mod Lists
+pub mod Widths

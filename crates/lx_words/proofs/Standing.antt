@@ -1,6 +1,6 @@
 -- Where the tokens of a text stand in it.
-use Rattle.std.proofs.Common.{◌≡◌, ℕ, cond, ◌+◌, ◌-◌, ◌<◌, List, [], ◌∷◌, ◌++◌, length, take, drop, All, refl, sym, ap, ◌∙◌, subst, arith, Some, append_assoc, length-append}
-use Rattle.std.proofs.lemmas.List.{take_at, drop_at}
+use Rattle.std.proofs.Common.{◌≡◌, ℕ, cond, ◌+◌, ◌-◌, ◌<◌, List, [], ◌∷◌, ◌++◌, length, take, All, refl, sym, ap, ◌∙◌, subst, arith, Some, append_assoc, length-append}
+use Rattle.std.proofs.lemmas.List.{take_at}
 use Rattle.std.proofs.lemmas.List.Elements.{All-nil, All-cons, All-append}
 use Rattle.std.proofs.lemmas.List.Sums.{sum_by-append}
 use Rattle.std.specs.Prelude.{◌==◌}
@@ -11,17 +11,11 @@ use Rattle.lx_words.specs.declared.token.Token.{Token}
 use Rattle.lx_words.specs.declared.token.Stop.{Stop}
 use Rattle.lx_words.specs.Lexemes.{lexeme_of}
 use Rattle.lx_words.specs.Cuts.{Piece, Cuts, feeds, token_at, tokens_of, line_after, Reaches, StopsAt, StandsAt, IsTokenOf}
+use Rattle.lx_words.proofs.Lists.{between}
 
 not_empty : (rule : TokenRule) (bytes : List ℕ) (lexeme : Lexeme) → lexeme_of rule bytes ≡ Some lexeme → 0 < length bytes
 not_empty rule [] lexeme e = cc
 not_empty rule (b ∷ bs) lexeme e = omega arith
-
--- bytes behind others
-between : (whole before bytes after : List ℕ) (at : ℕ) → whole ≡ before ++ (bytes ++ after) → at ≡ length before → take (at + length bytes - at) (drop at whole) ≡ bytes
-between whole before bytes after at e l =
-    let n : at + length bytes - at ≡ length bytes = omega arith in
-    let back : drop at whole ≡ bytes ++ after = ap (drop at) e ∙ drop_at before (bytes ++ after) at (sym l) in
-    ap (λ k. take k (drop at whole)) n ∙ ap (take (length bytes)) back ∙ take_at bytes after (length bytes) refl
 
 one_stands : (rule : TokenRule) (whole before bytes after : List ℕ) (at line : ℕ) (lexeme : Lexeme) → whole ≡ before ++ (bytes ++ after) → at ≡ length before → line ≡ 1 + feeds before → lexeme_of rule bytes ≡ Some lexeme
     → All (IsTokenOf rule whole) (token_at lexeme at (at + length bytes) line)

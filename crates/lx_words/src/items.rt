@@ -7,9 +7,15 @@ use std::fmt;
 use std::marker::Model;
 
 /// A list of values.
-#[derive(Debug, Drop)]
+#[derive(Debug)]
 pub struct Items<T> {
     pub items: Vec<T>,
+}
+
+impl<T: Drop> Drop for Items<T> {
+    fn drop(self) {
+        let Items { items: _ } = self;
+    }
 }
 
 impl<T> Model for Items<T> {
@@ -44,7 +50,8 @@ impl<T> Items<T> {
     pub fn into_vec(self) -> Vec<T>
         ensures { result.items ≡ self }
     {
-        self.items
+        let Items { items } = self;
+        items
     }
 
     /// The elements in order.

@@ -1,4 +1,14 @@
-//! Machine words, the results of instructions on them, number text, tokens, and lists.
+//! Machine words and the results of instructions on them, the text of numbers, the tokens of texts, and lists.
+//!
+//! ```text
+//! let a = Word::new(Width::W8, 200);
+//! // 44: the sum of two words of 8 bits, cut to 8 bits.
+//! binary(BinOp::Add, a, Word::new(Width::W8, 100))?;
+//! // 200 is -56 where the highest bit is a sign.
+//! is_negative(a);
+//! // `out` ends in `0x1000`.
+//! put_hex(&mut out, 0x1000)?;
+//! ```
 #![tactic(auto)]
 
 mod classes;

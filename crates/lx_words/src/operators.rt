@@ -8,7 +8,7 @@ use crate::word::{BinOp, Pred, Width, Word};
 use thiserror::Error;
 
 /// Why an operator has no result.
-#[derive(Clone, Copy, Debug, PartialEq, Eq, Error)]
+#[derive(Clone, Copy, Debug, Error)]
 pub enum DivFault {
     /// The divisor is 0, or the least signed value is divided by -1.
     #[error("division has no result")]

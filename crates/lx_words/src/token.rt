@@ -8,7 +8,7 @@ use crate::memory::Memory;
 use thiserror::Error;
 
 /// Which text form the tokens are of.
-#[derive(Clone, Copy, Debug, PartialEq, Eq)]
+#[derive(Clone, Copy)]
 pub enum TokenRule {
     /// Programs and images.
     Ir,
@@ -19,7 +19,7 @@ pub enum TokenRule {
 }
 
 /// What a token is.
-#[derive(Clone, Copy, Debug, PartialEq, Eq)]
+#[derive(Clone, Copy, PartialEq, Eq)]
 pub enum TokenKind {
     /// A keyword, or a name without a sigil.
     Word,
@@ -38,7 +38,7 @@ pub enum TokenKind {
 }
 
 /// A piece of a text: a space, a comment, or a token.
-#[derive(Clone, Copy, Debug, PartialEq, Eq)]
+#[derive(Clone, Copy)]
 pub enum Lexeme {
     Space,
     Comment,
@@ -46,7 +46,7 @@ pub enum Lexeme {
 }
 
 /// A token: its bytes stand in the text from `start` up to `end`, and begin in line `line`, counted from 1.
-#[derive(Clone, Copy, Debug, PartialEq, Eq)]
+#[derive(Clone, Copy)]
 pub struct Token {
     pub kind: TokenKind,
     pub start: u32,
@@ -58,21 +58,21 @@ pub struct Token {
 pub type Tokens = Items<Token>;
 
 /// The first byte that begins no token, and its line.
-#[derive(Clone, Copy, Debug, PartialEq, Eq)]
+#[derive(Clone, Copy)]
 pub struct Stop {
     pub line: u32,
     pub byte: u8,
 }
 
 /// The tokens before the first byte that begins none, and that byte where there is one.
-#[derive(Debug, Drop)]
+#[derive(Drop)]
 pub struct Scan {
     pub tokens: Tokens,
     pub stop: Option<Stop>,
 }
 
 /// Why a text does not fall into tokens.
-#[derive(Clone, Copy, Debug, PartialEq, Eq, Error)]
+#[derive(Clone, Copy, Debug, Error)]
 pub enum LexFault {
     #[error("out of memory")]
     Memory,

@@ -6,7 +6,7 @@ ghost use Rattle.lx_words.specs.Width.{bit_count, byte_count, modulus};
 use std::marker::Model;
 
 /// How many bits a word has.
-#[derive(Clone, Copy, Debug, PartialEq, Eq)]
+#[derive(Clone, Copy, PartialEq, Eq)]
 pub enum Width {
     W1,
     W8,
@@ -58,7 +58,7 @@ impl Width {
 }
 
 /// An operator on two words of one width.
-#[derive(Clone, Copy, Debug, PartialEq, Eq)]
+#[derive(Clone, Copy, PartialEq, Eq)]
 pub enum BinOp {
     Add,
     Sub,
@@ -76,7 +76,7 @@ pub enum BinOp {
 }
 
 /// A comparison of two words of one width.
-#[derive(Clone, Copy, Debug, PartialEq, Eq)]
+#[derive(Clone, Copy, PartialEq, Eq)]
 pub enum Pred {
     Eq,
     Ne,
@@ -91,7 +91,7 @@ pub enum Pred {
 }
 
 /// A word: a width, and a number below 2 to that width.
-#[derive(Clone, Copy, Debug, PartialEq, Eq)]
+#[derive(Clone, Copy, PartialEq, Eq)]
 pub struct Word {
     pub width: Width,
     pub bits: u64,

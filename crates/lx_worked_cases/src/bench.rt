@@ -1,7 +1,8 @@
 //! A bench, on which the program is run over memory.
 
 use lx_cli::lxfi;
-use lx_outside::{Gate, MemShelf, MemSink, Memory};
+use lx_outside::{Gate, MemShelf, MemSink};
+use lx_words::Memory;
 use std::alloc::Global;
 use std::fmt::Write;
 use std::sync::Wait;

@@ -2,7 +2,7 @@
 
 use crate::forms::put_row;
 use crate::long::put_parts;
-use lx_worked_texts::ONE_CASE;
+use lx_example_texts::ONE_CASE;
 use std::test::Fail;
 
 /// What is written of words that are no command.

@@ -1,7 +1,7 @@
 //! The examples and the rows of the manual: what is run, over which files, and what it writes, byte for byte. The texts are those of
 //! `examples/` and `docs/MANUAL.md`, which `tools/example-texts` copies.
 
-use lx_c_texts::{
+use lx_example_texts::{
     annotation_cases_table, c_cases_table, card_cases_table, driver_cases_table, first_cases_table,
     image_cases_table, input_faults_table, lesson_cases_table, loan_cases_table,
     machine_cases_table, module_faults_table, more_refused_table, refusal_cases_table,

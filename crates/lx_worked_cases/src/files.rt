@@ -1,10 +1,9 @@
 //! The files that worked cases name.
 
-use lx_c_texts::{
-    checksum_text, driver_text, interface_text, kernel_text, nic_after_text, nic_bent_text,
-    nic_past_text, nic_text, ring_text,
+use lx_example_texts::{
+    checksum_text, driver_text, interface_text, kernel_text, loan_files, many_files,
+    nic_after_text, nic_bent_text, nic_past_text, nic_text, ring_text, small_files,
 };
-use lx_worked_texts::{loan_files, many_files, small_files};
 use std::test::Fail;
 
 /// How many files `file` knows.

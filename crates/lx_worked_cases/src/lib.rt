@@ -1,4 +1,12 @@
 //! Worked cases of the whole program over memory: what it writes, its status, and what its input comes to.
+//!
+//! ```text
+//! // `rt test` proves and runs them. A row of a table: the words, the files before them, and the status and the lines that are wanted.
+//! ---- words check one.case m img.ll
+//! ---- whole
+//! status 8
+//! img.ll:4: image 1 @main 0
+//! ```
 #![tactic(auto)]
 
 #[cfg(test)]

@@ -10,12 +10,13 @@ use crate::long::{put_all_calls, put_long_reports};
 use crate::one_entry::{is_store, put_entries, store};
 use crate::reports::{events_before, schedule_in};
 use crate::threads::{EVENTS, put_crowd, put_race, twice};
-use lx_worked_texts::{
+use lx_example_texts::{
     atomic_cases, borrowed_cases, borrower_cases, c_file_cases, end_cases, failing_devices,
-    faulty_cases, forged_images, generated_cases, guessed_addresses, image_call_cases, image_cases,
+    faulty_cases, forged_images, generated_cases, guessed_addresses, image_call_cases,
     lent_slot_cases, limit_cases, many_cases, memory_cases, nested_cases, own_kernel_cases,
     packet_cases, plain_cases, principal_cases, prototype_cases, raced_pokes, replayed_cases,
-    slot_cases, small_files, spared_cases, surface_cases, text_cases, thread_cases, wrapper_cases,
+    slot_cases, small_files, spared_cases, surface_cases, text_cases, thread_cases,
+    worked_image_cases, wrapper_cases,
 };
 use std::test::Fail;
 
@@ -72,7 +73,7 @@ fn cases(number: u32) -> &'static str {
         15 => thread_cases(),
         16 => atomic_cases(),
         17 => lent_slot_cases(),
-        18 => image_cases(),
+        18 => worked_image_cases(),
         19 => wrapper_cases(),
         20 => image_call_cases(),
         21 => spared_cases(),

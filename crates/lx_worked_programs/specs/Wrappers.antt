@@ -23,7 +23,7 @@ use Rattle.lx_image_texts.specs.ImageFaults.{WrapperDiffers, BodyReached, ImageF
 use Rattle.lx_image_texts.specs.Guards.{function_text, Guards}
 use Rattle.lx_image_texts.specs.Instrumented.{leaves_spared, GuardsBut}
 use Rattle.lx_image_texts.specs.Erased.{erased_functions}
-use Rattle.lx_image_programs.specs.Laws.{HasRoom}
+use Rattle.lx_image_texts.specs.ProgramLaws.{HasRoom}
 use Rattle.lx_worked_programs.specs.Texts.{at}
 use Rattle.lx_worked_programs.specs.ImageFaults.{fault}
 

@@ -1,10 +1,11 @@
 -- Loops that add something for each element of a list and its place.
-use Rattle.std.proofs.Common.{◌≡◌, ℕ, zero, suc, ◌+◌, ◌<◌, ◌≤◌, Bool, true, false, Option, Some, None, List, [], ◌∷◌, ◌++◌, length, get_or, map, take, drop, refl, ap, sym, ◌∙◌, arith, add-one, append_assoc}
+use Rattle.std.proofs.Common.{◌≡◌, ℕ, suc, ◌+◌, ◌<◌, ◌≤◌, Bool, true, false, Option, Some, None, List, [], ◌∷◌, ◌++◌, length, get_or, map, take, drop, refl, ap, sym, ◌∙◌, add-one, append_assoc}
 use Rattle.std.specs.Prelude.{filter_map, option_to_list}
 use Rattle.std.specs.List.{cons_option}
-use Rattle.std.proofs.lemmas.List.{drop_all, take_more, append-nil}
+use Rattle.std.proofs.lemmas.List.{drop_all, take_more}
 use Rattle.std.proofs.lemmas.List.Elements.{filter_map-append}
 use Rattle.lx_words.specs.Text.{decimal_text}
+use Rattle.lx_words.proofs.Lists.{drop_next, some_left, goes_on, ends, map_append}
 use Rattle.lx_ir.specs.declared.module.Symbol.{Symbol}
 use Rattle.lx_ir.specs.declared.module.Symbol.TheVariants as symbol
 use Rattle.lx_ir.specs.declared.module.Value.TheVariants as value
@@ -22,26 +23,6 @@ use Rattle.lx_image_texts.specs.Marks.{is_wrapped}
 use Rattle.lx_image_texts.specs.WrapperText.{wrapper_params, wrapper_args, pre_lines, post_lines, result_register, returned, wrapper_code, unlined, out_if, out_wrappers}
 use Rattle.lx_wrap.specs.Exported.{exported, out_by}
 
--- what is left of a list begins with the element at the place
-left : {A : Type 0} (xs : List A) (k : ℕ) (x : A) → k < length xs → x ≡ get_or xs k x → drop k xs ≡ x ∷ drop (suc k) xs
-left [] k x h e = absurd (omega (arith, h))
-left (y ∷ ys) zero x h e = ap (λ z. z ∷ ys) (sym e)
-left (y ∷ ys) (suc k) x h e = left ys k x (omega (arith, h)) e
-
--- with some element
-some_left : {A : Type 0} (xs : List A) (k : ℕ) → k < length xs → (x : A) × (drop k xs ≡ x ∷ drop (suc k) xs)
-some_left [] k h = absurd (omega (arith, h))
-some_left (y ∷ ys) zero h = (y, refl)
-some_left (y ∷ ys) (suc k) h = some_left ys k (omega (arith, h))
-
--- a list that a piece is put behind, which the rest goes on with
-goes_on : {X : Type 0} (old new piece rest next all : List X) → old ++ rest ≡ all → rest ≡ piece ++ next → new ≡ old ++ piece → new ++ next ≡ all
-goes_on old new piece rest next all h r n =
-    ap (λ l. l ++ next) n ∙ append_assoc old piece next ∙ ap (λ l. old ++ l) (sym r) ∙ h
-
-ends : {X : Type 0} (old rest all : List X) → old ++ rest ≡ all → rest ≡ [] → old ≡ all
-ends old rest all h r = sym (append-nil old) ∙ ap (λ l. old ++ l) (sym r) ∙ h
-
 -- parameters and arguments
 
 pub params_step : (ps : List Parameter) (k : ℕ) (p : Parameter) (old new all : List Parameter) → k < length ps → p ≡ get_or ps k p
@@ -49,7 +30,7 @@ pub params_step : (ps : List Parameter) (k : ℕ) (p : Parameter) (old new all :
 params_step ps k p old new all h e was n =
     let one : Parameter = record { name = decimal_text k; ty = p.ty } in
     goes_on old new (one ∷ []) (wrapper_params k (drop k ps)) (wrapper_params (k + 1) (drop (k + 1) ps)) all was
-    (ap (wrapper_params k) (left ps k p h e) ∙ ap (λ j. one ∷ wrapper_params j (drop j ps)) (sym (add-one k))) n
+    (ap (wrapper_params k) (drop_next ps k p h e) ∙ ap (λ j. one ∷ wrapper_params j (drop j ps)) (sym (add-one k))) n
 
 pub params_end : (ps : List Parameter) (k : ℕ) (old all : List Parameter) → length ps ≤ k → old ++ wrapper_params k (drop k ps) ≡ all → old ≡ all
 params_end ps k old all h was = ends old (wrapper_params k (drop k ps)) all was (ap (wrapper_params k) (drop_all k ps h))
@@ -59,7 +40,7 @@ pub args_step : (ps : List Parameter) (k : ℕ) (p : Parameter) (old new all : L
 args_step ps k p old new all h e was n =
     let one : Argument = record { ty = p.ty; value = value.Register k } in
     goes_on old new (one ∷ []) (wrapper_args k (drop k ps)) (wrapper_args (k + 1) (drop (k + 1) ps)) all was
-    (ap (wrapper_args k) (left ps k p h e) ∙ ap (λ j. one ∷ wrapper_args j (drop j ps)) (sym (add-one k))) n
+    (ap (wrapper_args k) (drop_next ps k p h e) ∙ ap (λ j. one ∷ wrapper_args j (drop j ps)) (sym (add-one k))) n
 
 pub args_end : (ps : List Parameter) (k : ℕ) (old all : List Argument) → length ps ≤ k → old ++ wrapper_args k (drop k ps) ≡ all → old ≡ all
 args_end ps k old all h was = ends old (wrapper_args k (drop k ps)) all was (ap (wrapper_args k) (drop_all k ps h))
@@ -86,10 +67,6 @@ post_end s xs k old all h was = ends old (map unlined (post_lines s k (drop k xs
 
 -- all lines
 
-map_join : {A B : Type 0} (f : A → B) (xs ys : List A) → map f (xs ++ ys) ≡ map f xs ++ map f ys
-map_join f [] ys = refl
-map_join f (x ∷ xs) ys = ap (λ zs. f x ∷ zs) (map_join f xs ys)
-
 joined : {A : Type 0} (o a b c d e f : List A) → (((((o ++ a) ++ b) ++ c) ++ d) ++ e) ++ f ≡ o ++ (a ++ (b ++ (c ++ (d ++ (e ++ f)))))
 joined o a b c d e f =
     append_assoc ((((o ++ a) ++ b) ++ c) ++ d) e f
@@ -99,7 +76,7 @@ joined o a b c d e f =
     ∙ append_assoc o a (b ++ (c ++ (d ++ (e ++ f))))
 
 mapped : (ps qs rest : List Op) (o : Op) → map unlined (ps ++ (o ∷ (qs ++ rest))) ≡ map unlined ps ++ (unlined o ∷ (map unlined qs ++ map unlined rest))
-mapped ps qs rest o = map_join unlined ps (o ∷ (qs ++ rest)) ∙ ap (λ ys. map unlined ps ++ (unlined o ∷ ys)) (map_join unlined qs rest)
+mapped ps qs rest o = map_append unlined ps (o ∷ (qs ++ rest)) ∙ ap (λ ys. map unlined ps ++ (unlined o ∷ ys)) (map_append unlined qs rest)
 
 pub whole_code : (f : Function) (n : ℕ) (a : Annotation) (pre post : List Action) (c0 c1 c2 c3 c4 c5 : List Instr) → pre ≡ a.pre → post ≡ a.post
     → c1 ≡ c0 ++ unlined (op.Enter (symbol.Function n)) ∷ []
@@ -131,7 +108,7 @@ pub out_step : (i : Interface) (fs : List Function) (k : ℕ) (f : Function) (a 
     → old ++ out_wrappers i k (drop k fs) ≡ all → new ≡ old ++ out_by (is_wrapped f) a k f → new ++ out_wrappers i (k + 1) (drop (k + 1) fs) ≡ all
 out_step i fs k f a old new all h e is was n =
     goes_on old new (out_by (is_wrapped f) a k f) (out_wrappers i k (drop k fs)) (out_wrappers i (k + 1) (drop (k + 1) fs)) all was
-    (ap (out_wrappers i k) (left fs k f h e)
+    (ap (out_wrappers i k) (drop_next fs k f h e)
     ∙ ap (λ ys. ys ++ out_wrappers i (suc k) (drop (suc k) fs)) (out_is (is_wrapped f) i k f ∙ ap (λ x. out_by (is_wrapped f) x k f) (sym is))
     ∙ ap (λ j. out_by (is_wrapped f) a k f ++ out_wrappers i j (drop j fs)) (sym (add-one k))) n
 

@@ -1,6 +1,13 @@
 //! Wrappers: the functions of an image that stand before calls out of a module and into one. A wrapper enters the function, does
 //! the actions of its annotation before the body, calls it with the arguments that it got itself, does the actions behind the
 //! body, leaves, and returns what the call gave.
+//!
+//! ```text
+//! // Before calls of the import `@kmalloc`: the function `@lxfi.out.kmalloc`; before calls into `@my_probe`, `@lxfi.in.my_probe`.
+//! let wrapper = wrapper_of(alloc, &kmalloc, number, &annotation, Side::Out)?;
+//! // All wrappers of a module, in the order in which they stand behind its functions.
+//! let list = wrappers(alloc, &interface, &module, &annotated)?;
+//! ```
 #![tactic(auto)]
 
 mod exports;

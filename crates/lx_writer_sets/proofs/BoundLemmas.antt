@@ -4,6 +4,7 @@ use Rattle.std.specs.List.{list_any}
 use Rattle.std.proofs.lemmas.Bool.Decides.{nat_tests}
 use Rattle.std.proofs.lemmas.List.{length-map}
 use Rattle.std.proofs.lemmas.List.Folds.{list_any-append}
+use Rattle.std.proofs.lemmas.Bool.{or_right, or_left}
 use Rattle.lx_caps.specs.declared.Principal.{Principal}
 use Rattle.lx_caps.specs.declared.Act.TheVariants.{Grant, Strip, Zero, Loan, Lend, Shut, ShutAll}
 use Rattle.lx_caps.specs.declared.Atom.TheVariants.{Byte}
@@ -20,36 +21,29 @@ use Rattle.lx_writer_sets.specs.Sets.{part_list, is_given, is_given_at, is_recor
 use Rattle.lx_writer_sets.specs.Work.{some_below, is_among, and_one, count_of, receivers, writes_part_of, pairs, look_bound}
 use Rattle.lx_writer_sets.proofs.Few.{added, added_self, few, ArePassing}
 use Rattle.lx_writer_sets.proofs.GivenLemmas.{by_writer}
-use Rattle.lx_writer_sets.proofs.Lists.{same_is, same_self}
-
-or_yes : (a b : Bool) → b ≡ true → (a || b) ≡ true
-or_yes true b e = refl
-or_yes false b e = e
-
-or_first : (a b : Bool) → a ≡ true → (a || b) ≡ true
-or_first true b e = refl
-or_first false b e = absurd (cc)
+use Rattle.lx_caps.proofs.Tests.{byte_of}
+use Rattle.lx_caps.proofs.Principals.{same_principal_itself, same_principal_is}
 
 some_from : (n k : ℕ) (p : ℕ → Bool) → k < n → p k ≡ true → some_below n p ≡ true
 unfolding some_below
 some_from zero k p h is = absurd (omega (arith, h))
 some_from (suc n) k p h is =
     (elim (nat_eq k n) as (λ t. nat_eq k n ≡ t → (p n || some_below n p) ≡ true) [
-      | true ↦ λ e. let at : k ≡ n = grind (arith, nat_tests, e) in or_first (p n) (some_below n p) (ap p (sym at) ∙ is)
-      | false ↦ λ e. or_yes (p n) (some_below n p) (some_from n k p (let lt : k < n = grind (arith, nat_tests, e, h) in lt) is)
+      | true ↦ λ e. let at : k ≡ n = grind (arith, nat_tests, e) in or_left (p n) (some_below n p) (ap p (sym at) ∙ is)
+      | false ↦ λ e. or_right (p n) (some_below n p) (some_from n k p (let lt : k < n = grind (arith, nat_tests, e, h) in lt) is)
     ]) refl
 
 -- one is added, or the others have it
 one_more : (q p : Principal) (others : List Principal) (x rest : Bool) → ((same_principal q p && x) || rest) ≡ true → (rest ≡ true → is_among q others ≡ true) → is_among q (and_one p others) ≡ true
 one_more q p others x rest is more =
     (elim (same_principal q p) as (λ t. same_principal q p ≡ t → ((t && x) || rest) ≡ true → is_among q (and_one p others) ≡ true) [
-      | true ↦ λ e f. subst (λ r. is_among r (and_one p others) ≡ true) (sym (same_is q p e)) (added_self p others)
+      | true ↦ λ e f. subst (λ r. is_among r (and_one p others) ≡ true) (sym (same_principal_is q p e)) (added_self p others)
       | false ↦ λ e f. added q p others (more f)
     ]) refl is
 
 without_loan : (l a r : Bool) → ((l && a) || r) ≡ true → (a || r) ≡ true
 without_loan true a r is = is
-without_loan false a r is = or_yes a r is
+without_loan false a r is = or_right a r is
 
 -- a writer was granted or lent something
 writer_known : HistoryLaws → (h : History) (b : ℕ) (q : Principal) → is_writer h b q ≡ true → is_among q (receivers h) ≡ true
@@ -75,9 +69,6 @@ among_writers : (q : Principal) (es : List (ℕ × Entry)) → is_among q (map w
 among_writers q [] = refl
 among_writers q (e ∷ es) = ap (λ (b : Bool). same_principal q e.1.writer || b) (among_writers q es)
 
-byte_of : (part k : ℕ) → k < 64 → ((part * 64 + k) / 64 ≡ part) × ((part * 64 + k) % 64 ≡ k)
-byte_of part k h = (omega (arith, h), omega (arith, h))
-
 module _ (laws : HistoryLaws) (lists : List (List (ℕ × Entry))) (h : History) (stands : Records lists h) where
   -- a node's writer is one of the byte of a bit
   has_bit : (part l k : ℕ) → part_list part ≡ Some l → k < 64 → (front : List (ℕ × Entry)) (e : ℕ × Entry) (es : List (ℕ × Entry)) → nodes_at lists l ≡ front ++ e ∷ es → is_set e.1.mask k ≡ true → is_writer h (part * 64 + k) e.1.writer ≡ true
@@ -91,7 +82,7 @@ module _ (laws : HistoryLaws) (lists : List (List (ℕ × Entry))) (h : History)
       ∙ (ap (λ n. is_given_at lists (part_list part) n q) of.1
       ∙ (ap (λ o. is_given_at lists o k q) at
       ∙ (ap (λ r. is_given r k q) is
-      ∙ (list_any-append p front (e ∷ es) ∙ or_yes (list_any p front) (list_any p (e ∷ es)) (by_writer (same_principal q q) (is_set e.1.mask k) (list_any p es) (same_self q) set))))))
+      ∙ (list_any-append p front (e ∷ es) ∙ or_right (list_any p front) (list_any p (e ∷ es)) (by_writer (same_principal q q) (is_set e.1.mask k) (list_any p es) (same_principal_itself q) set))))))
 
   part_pass : (part l : ℕ) → part_list part ≡ Some l → (front es : List (ℕ × Entry)) → nodes_at lists l ≡ front ++ es → AreNodes es → ArePassing (writes_part_of h part) (receivers h) (map writer_of es)
   unfolding ArePassing

@@ -4,6 +4,7 @@ use Rattle.std.proofs.lemmas.Bool.{cases_Bool}
 use Rattle.std.proofs.lemmas.Bool.Decides.{nat_tests}
 use Rattle.lx_caps.specs.Regions.{covers}
 use Rattle.lx_writer_sets.specs.Bits.{is_set}
+use Rattle.lx_caps.proofs.Tests.{both_zeroed}
 
 -- a byte that its writer lost
 lost_at : (s o e : Bool) → (e ≡ true → o ≡ false) → (s && not e) ≡ (s && (not e || o))
@@ -39,21 +40,11 @@ still_owned s o k place is =
 one_more : (from k place : ℕ) → from ≤ place → (nat_le from k && nat_lt k (place + 1)) ≡ ((nat_le from k && nat_lt k place) || nat_eq k place)
 one_more from k place low = grind (arith, nat_tests)
 
-both_kept : (s a e o : Bool) → ((s && (not a || o)) && (not e || o)) ≡ (s && (not (a || e) || o))
-both_kept false a e o = refl
-both_kept true true true true = refl
-both_kept true true true false = refl
-both_kept true true false true = refl
-both_kept true true false false = refl
-both_kept true false true true = refl
-both_kept true false true false = refl
-both_kept true false false o = refl
-
 pub place_step : (s o now new : Bool) (from k place : ℕ) → from ≤ place → now ≡ (s && (not (nat_le from k && nat_lt k place) || o)) → new ≡ (now && (not (nat_eq k place) || o))
     → new ≡ (s && (not (nat_le from k && nat_lt k (place + 1)) || o))
 place_step s o now new from k place low was is =
     is ∙ ap (λ (b : Bool). b && (not (nat_eq k place) || o)) was
-    ∙ both_kept s (nat_le from k && nat_lt k place) (nat_eq k place) o
+    ∙ both_zeroed s (nat_le from k && nat_lt k place) (nat_eq k place) o
     ∙ ap (λ (b : Bool). s && (not b || o)) (sym (one_more from k place low))
 
 pub no_place : (s o : Bool) (from k : ℕ) → s ≡ (s && (not (nat_le from k && nat_lt k from) || o))

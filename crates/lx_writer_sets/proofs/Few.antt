@@ -1,35 +1,21 @@
 -- Things that differ, each of which passes and is among others, are no more than those that pass.
 use Rattle.std.proofs.Common.{◌≡◌, suc, ◌≤◌, Bool, true, false, ◌||◌, cond, List, [], ◌∷◌, length, refl, sym, ap, ◌∙◌, subst, arith}
+use Rattle.std.proofs.lemmas.Bool.{or_right, or_left, or_parts}
 use Rattle.lx_caps.specs.declared.Principal.{Principal}
 use Rattle.lx_caps.specs.History.{same_principal}
 use Rattle.lx_writer_sets.specs.Work.{is_among, and_one, count_of}
-use Rattle.lx_writer_sets.proofs.Lists.{same_is, same_self}
-
-or_cases : (a b : Bool) → (a || b) ≡ true → a ≡ false → b ≡ true
-or_cases false b e f = e
-or_cases true b e f = absurd (cc)
-
-or_yes : (a b : Bool) → b ≡ true → (a || b) ≡ true
-or_yes true b e = refl
-or_yes false b e = e
-
-or_first : (a b : Bool) → a ≡ true → (a || b) ≡ true
-or_first true b e = refl
-or_first false b e = absurd (cc)
-
-or_none : (a b : Bool) → (a || b) ≡ false → (a ≡ false) × (b ≡ false)
-or_none false b e = (refl, e)
-or_none true b e = absurd (cc)
+use Rattle.lx_caps.proofs.Principals.{same_principal_itself, same_principal_is}
+use Rattle.lx_caps.proofs.Tests.{or_other}
 
 -- one more
 pub added : (q p : Principal) (others : List Principal) → is_among q others ≡ true → is_among q (and_one p others) ≡ true
-added q p others h = elim (is_among p others) as (λ t. is_among q (cond t others (p ∷ others)) ≡ true) [ true ↦ h | false ↦ or_yes (same_principal q p) (is_among q others) h ]
+added q p others h = elim (is_among p others) as (λ t. is_among q (cond t others (p ∷ others)) ≡ true) [ true ↦ h | false ↦ or_right (same_principal q p) (is_among q others) h ]
 
 pub added_self : (p : Principal) (others : List Principal) → is_among p (and_one p others) ≡ true
 added_self p others =
     (elim (is_among p others) as (λ t. is_among p others ≡ t → is_among p (cond t others (p ∷ others)) ≡ true) [
       | true ↦ λ e. e
-      | false ↦ λ e. or_first (same_principal p p) (is_among p others) (same_self p)
+      | false ↦ λ e. or_left (same_principal p p) (is_among p others) (same_principal_itself p)
     ]) refl
 
 -- these but for one
@@ -53,11 +39,11 @@ count_drop p q [] h pass = absurd (cc)
 count_drop p q (r ∷ rs) h pass =
     (elim (same_principal q r) as (λ t. same_principal q r ≡ t → suc (count_of p (cond t (drop_one q rs) (r ∷ drop_one q rs))) ≤ cond (p r) (suc (count_of p rs)) (count_of p rs)) [
       | true ↦ λ e.
-          let here : p r ≡ true = ap p (sym (same_is q r e)) ∙ pass in
+          let here : p r ≡ true = ap p (sym (same_principal_is q r e)) ∙ pass in
           let rest = count_drop_le p q rs in
           subst (λ t. suc (count_of p (drop_one q rs)) ≤ cond t (suc (count_of p rs)) (count_of p rs)) (sym here) (omega (arith, rest))
       | false ↦ λ e.
-          let rest = count_drop p q rs (or_cases (same_principal q r) (is_among q rs) h e) pass in
+          let rest = count_drop p q rs (or_other (same_principal q r) (is_among q rs) h e) pass in
           elim (p r) as (λ t. suc (cond t (suc (count_of p (drop_one q rs))) (count_of p (drop_one q rs))) ≤ cond t (suc (count_of p rs)) (count_of p rs)) [ true ↦ omega (arith, rest) | false ↦ rest ]
     ]) refl
 
@@ -67,11 +53,11 @@ among_drop q r [] h ne = absurd (cc)
 among_drop q r (s ∷ rs) h ne =
     (elim (same_principal r s) as (λ t. same_principal r s ≡ t → (t || is_among r rs) ≡ true → is_among r (cond (same_principal q s) (drop_one q rs) (s ∷ drop_one q rs)) ≡ true) [
       | true ↦ λ e f.
-          let other : same_principal q s ≡ false = ap (same_principal q) (sym (same_is r s e)) ∙ ne in
-          ap (λ t. is_among r (cond t (drop_one q rs) (s ∷ drop_one q rs))) other ∙ or_first (same_principal r s) (is_among r (drop_one q rs)) e
+          let other : same_principal q s ≡ false = ap (same_principal q) (sym (same_principal_is r s e)) ∙ ne in
+          ap (λ t. is_among r (cond t (drop_one q rs) (s ∷ drop_one q rs))) other ∙ or_left (same_principal r s) (is_among r (drop_one q rs)) e
       | false ↦ λ e f.
           let rest = among_drop q r rs f ne in
-          elim (same_principal q s) as (λ t. is_among r (cond t (drop_one q rs) (s ∷ drop_one q rs)) ≡ true) [ true ↦ rest | false ↦ or_yes (same_principal r s) (is_among r (drop_one q rs)) rest ]
+          elim (same_principal q s) as (λ t. is_among r (cond t (drop_one q rs) (s ∷ drop_one q rs)) ≡ true) [ true ↦ rest | false ↦ or_right (same_principal r s) (is_among r (drop_one q rs)) rest ]
     ]) refl h
 
 -- each passes and is among these, and no two are the same
@@ -83,7 +69,7 @@ passing_drop : (p : Principal → Bool) (q : Principal) (rs es : List Principal)
 unfolding ArePassing
 passing_drop p q rs [] out all = tt
 passing_drop p q rs (e ∷ es) out all =
-    let ne = or_none (same_principal q e) (is_among q es) out in
+    let ne = or_parts (same_principal q e) (is_among q es) out in
     (all.0, among_drop q e rs all.1 ne.0, all.2, passing_drop p q rs es ne.1 all.3)
 
 pub few : (p : Principal → Bool) (rs es : List Principal) → ArePassing p rs es → length es ≤ count_of p rs

@@ -9,29 +9,8 @@ use Rattle.lx_writer_sets.specs.declared.entry.Entry.{Entry}
 use Rattle.lx_writer_sets.specs.Bits.{is_set}
 use Rattle.lx_writer_sets.specs.Nodes.{with_mask, put_node}
 use Rattle.lx_writer_sets.specs.Sets.{is_given}
-use Rattle.lx_writer_sets.proofs.Lists.{same_is}
-
-or_swap : (a b c : Bool) → (a || (b || c)) ≡ (b || (a || c))
-or_swap true true c = refl
-or_swap true false c = refl
-or_swap false true c = refl
-or_swap false false c = refl
-
-or_join : (a b c : Bool) → ((a || b) || c) ≡ (a || (b || c))
-or_join true b c = refl
-or_join false b c = refl
-
-and_or : (a b c : Bool) → (a && (b || c)) ≡ ((a && b) || (a && c))
-and_or true b c = refl
-and_or false b c = refl
-
-pub or_false : (b : Bool) → (b || false) ≡ b
-or_false true = refl
-or_false false = refl
-
-and_false : (b : Bool) → (b && false) ≡ false
-and_false true = refl
-and_false false = refl
+use Rattle.lx_caps.proofs.Tests.{and_none, or_nothing, or_swap}
+use Rattle.lx_caps.proofs.Principals.{same_principal_is}
 
 pub none_set : (k : ℕ) → is_set 0 k ≡ false
 none_set k = ap (λ n. nat_eq n 1) (bit_at-zero k)
@@ -59,13 +38,13 @@ put_node_is mask e ys = elim (nat_eq mask 0) as (λ t. cond t ys ((e.0, with_mas
 
 owner_at : (q w : Principal) (s : Bool) (o : Principal → Bool) (n m : Bool) → same_principal q w ≡ s → (s && (m && (n || o w))) ≡ ((s && m) && (n || o q))
 owner_at q w false o n m same = refl
-owner_at q w true o n m same = let e = same_is q w same in ap (λ (r : Principal). m && (n || o r)) (sym e)
+owner_at q w true o n m same = let e = same_principal_is q w same in ap (λ (r : Principal). m && (n || o r)) (sym e)
 
 put_given : (k : ℕ) (q : Principal) (mask : ℕ) (e : ℕ × Entry) → is_given (put_node mask e []) k q ≡ (same_principal q e.1.writer && is_set mask k)
 put_given k q mask e =
     (elim (nat_eq mask 0) as (λ t. nat_eq mask 0 ≡ t → is_given (cond t [] ((e.0, with_mask e.1 mask) ∷ [])) k q ≡ (same_principal q e.1.writer && is_set mask k)) [
-      | true ↦ λ f. let none : mask ≡ 0 = grind (arith, nat_tests, f) in sym (ap (λ (b : Bool). same_principal q e.1.writer && b) (ap (λ m. is_set m k) none ∙ none_set k) ∙ and_false (same_principal q e.1.writer))
-      | false ↦ λ f. or_false (same_principal q e.1.writer && is_set mask k)
+      | true ↦ λ f. let none : mask ≡ 0 = grind (arith, nat_tests, f) in sym (ap (λ (b : Bool). same_principal q e.1.writer && b) (ap (λ m. is_set m k) none ∙ none_set k) ∙ and_none (same_principal q e.1.writer))
+      | false ↦ λ f. or_nothing (same_principal q e.1.writer && is_set mask k)
     ]) refl
 
 or_and : (a b c : Bool) → ((a && c) || (b && c)) ≡ ((a || b) && c)
@@ -86,25 +65,12 @@ kept_more was now e mask k q n o bits given =
     ∙ (ap (λ (b : Bool). (is_given was k q && (n || o q)) || b)
     (put_given k q mask e ∙ (ap (λ (b : Bool). same_principal q e.1.writer && b) bits ∙ owner_at q e.1.writer (same_principal q e.1.writer) o n (is_set e.1.mask k) refl))
     ∙ (or_and (is_given was k q) (p e) (n || o q)
-    ∙ ap (λ (b : Bool). b && (n || o q)) (sym (list_any-append p was (e ∷ []) ∙ ap (λ (b : Bool). is_given was k q || b) (or_false (p e)))))))
-
--- one candidate more
-pub first_step : (s fo found g r : Bool) → (fo && g) ≡ found → ((s || found) || (fo && r)) ≡ (s || (fo && (g || r)))
-first_step s fo found g r is =
-    or_join s found (fo && r) ∙ ap (λ (t : Bool). s || t) (ap (λ (t : Bool). t || (fo && r)) (sym is) ∙ sym (and_or fo g r))
-
-pub not_by : (s t r : Bool) → t ≡ false → r ≡ ((s && t) || r)
-not_by true t r is = ap (λ (b : Bool). b || r) (sym is)
-not_by false t r is = refl
+    ∙ ap (λ (b : Bool). b && (n || o q)) (sym (list_any-append p was (e ∷ []) ∙ ap (λ (b : Bool). is_given was k q || b) (or_nothing (p e)))))))
 
 pub by_writer : (s t r : Bool) → s ≡ true → t ≡ true → ((s && t) || r) ≡ true
 by_writer true true r e f = refl
 by_writer true false r e f = absurd (cc)
 by_writer false t r e f = absurd (cc)
-
-pub or_first : (a b : Bool) → a ≡ true → (a || b) ≡ true
-or_first true b e = refl
-or_first false b e = absurd (cc)
 
 pub or_rest : (a b : Bool) → a ≡ false → b ≡ (a || b)
 or_rest false b e = refl

@@ -1,44 +1,20 @@
 -- Who is found, and who is the first of them.
-use Rattle.std.proofs.Common.{◌≡◌, ◌∙◌, refl, ap, subst, ℕ, Bool, true, false, ◌&&◌, ◌||◌, Option, Some, None, arith}
-use Rattle.std.proofs.lemmas.Bool.Decides.{nat_tests}
+use Rattle.std.proofs.Common.{◌≡◌, ◌∙◌, refl, ap, ℕ, Bool, true, false, ◌&&◌, ◌||◌, Option, Some, None}
 use Rattle.lx_caps.specs.declared.Principal.{Principal}
-use Rattle.lx_caps.specs.declared.Principal.TheVariants.{Kernel, Shared, Global, Inst}
 use Rattle.lx_caps.specs.History.{same_principal}
-use Rattle.lx_caps.specs.Precedence.{follows, is_found, IsFirstPrincipal}
+use Rattle.lx_caps.specs.Precedence.{follows, is_found}
 use Rattle.lx_writer_sets.specs.Sets.{touches}
 use Rattle.lx_writer_sets.specs.declared.entry.Entry.{Entry}
-
--- one principal is itself alone
-pub same_is : (p q : Principal) → same_principal p q ≡ true → p ≡ q
-same_is Kernel Kernel t = refl
-same_is (Shared m) (Shared n) t = grind (arith, nat_tests, t)
-same_is (Global m) (Global n) t = grind (arith, nat_tests, t)
-same_is (Inst m k) (Inst n l) t = grind (arith, nat_tests, t)
-same_is _ _ t = cc
-
-pub same_self : (p : Principal) → same_principal p p ≡ true
-same_self Kernel = refl
-same_self (Shared m) = grind (arith, nat_tests)
-same_self (Global m) = grind (arith, nat_tests)
-same_self (Inst m k) = grind (arith, nat_tests)
+use Rattle.lx_caps.proofs.Tests.{and_none}
+use Rattle.lx_caps.proofs.Principals.{same_principal_is}
 
 pub and_or : (f a x : Bool) → ((f && a) || (f && x)) ≡ (f && (a || x))
 and_or true a x = refl
 and_or false a x = refl
 
--- one test for another that answers the same
-pub same_first : (p q : Principal → Bool) → ((w : Principal) → p w ≡ q w) → (a : Option Principal) → IsFirstPrincipal p a → IsFirstPrincipal q a
-same_first p q same a first =
-    let e : p ≡ q = λ j w. same w j in
-    subst (λ (r : Principal → Bool). IsFirstPrincipal r a) e first
-
-and_none : (b : Bool) → (b && false) ≡ false
-and_none true = refl
-and_none false = refl
-
 found_if : (s : Bool) (after : Option Principal) (q w : Principal) → same_principal q w ≡ s → follows after w ≡ true → (follows after q && (s && true)) ≡ s
 found_if false after q w same is = and_none (follows after q)
-found_if true after q w same is = let e = same_is q w same in ap (λ (r : Principal). follows after r && true) e ∙ ap (λ (b : Bool). b && true) is
+found_if true after q w same is = let e = same_principal_is q w same in ap (λ (r : Principal). follows after r && true) e ∙ ap (λ (b : Bool). b && true) is
 
 -- the entry's writer is the one found
 pub found_here : (after : Option Principal) (e : Entry) (part slot : ℕ) → follows after e.writer ≡ true → touches part e slot ≡ true
@@ -59,7 +35,7 @@ none_touched after e part slot out q = and_three (follows after q) (same_princip
 
 behind_if : (s t : Bool) (after : Option Principal) (q w : Principal) → same_principal q w ≡ s → follows after w ≡ false → (follows after q && (s && t)) ≡ false
 behind_if false t after q w same out = and_none (follows after q)
-behind_if true t after q w same out = let e = same_is q w same in ap (λ (r : Principal). follows after r && t) e ∙ ap (λ (b : Bool). b && t) out
+behind_if true t after q w same out = let e = same_principal_is q w same in ap (λ (r : Principal). follows after r && t) e ∙ ap (λ (b : Bool). b && t) out
 
 -- an entry whose writer comes before
 pub none_behind : (after : Option Principal) (e : Entry) (part slot : ℕ) → follows after e.writer ≡ false

@@ -1,8 +1,8 @@
 -- Nodes of different writers, each with a byte, and the bits of the lists that have nodes.
-use Rattle.std.proofs.Common.{◌≡◌, ◌≢◌, ℕ, zero, suc, ◌/◌, ◌%◌, ◌<◌, ◌≤◌, ◌^◌, Bool, true, false, not, ◌&&◌, ◌||◌, nat_eq, ◌⊎◌, inl, inr, List, [], ◌∷◌, ◌++◌, length, set, refl, sym, ap, ◌∙◌, subst, arith}
+use Rattle.std.proofs.Common.{◌≡◌, ◌≢◌, ℕ, zero, suc, ◌/◌, ◌%◌, ◌<◌, ◌≤◌, ◌^◌, Bool, true, false, not, ◌&&◌, ◌||◌, nat_eq, ◌⊎◌, inl, inr, List, [], ◌∷◌, ◌++◌, length, set, refl, sym, ap, ◌∙◌, subst, arith, eqb-true}
 use Rattle.std.specs.Prelude.{slice_index_or}
 use Rattle.std.specs.Int.{bit_at}
-use Rattle.std.proofs.lemmas.Bool.{cases_lt}
+use Rattle.std.proofs.lemmas.Bool.{cases_lt, or_from, or_left as or_first}
 use Rattle.std.proofs.lemmas.Bool.Decides.{nat_tests}
 use Rattle.std.proofs.lemmas.List.{get_or-set_same, get_or-set_other}
 use Rattle.std.proofs.lemmas.Nat.Bits.{same_from_bits, bit_at_above, bit_at-lt, bit_at-zero}
@@ -13,20 +13,8 @@ use Rattle.lx_writer_sets.specs.declared.entry.Entry.{Entry}
 use Rattle.lx_writer_sets.specs.Bits.{is_set, is_marked}
 use Rattle.lx_writer_sets.specs.Nodes.{has_writer, with_mask, HasBit, AreNodes, AllNodes, has_nodes, AreMarked}
 use Rattle.lx_writer_sets.specs.Sets.{is_given}
-use Rattle.lx_writer_sets.proofs.GivenLemmas.{none_set, or_first}
-use Rattle.lx_writer_sets.proofs.WalkLemmas.{same_from_eq}
-
-or_left : (a b : Bool) → (a || b) ≡ false → a ≡ false
-or_left false b e = refl
-or_left true b e = e
-
-or_right : (a b : Bool) → (a || b) ≡ false → b ≡ false
-or_right false b e = e
-or_right true b e = absurd (cc)
-
-or_none : (a b : Bool) → a ≡ false → b ≡ false → (a || b) ≡ false
-or_none false b e f = f
-or_none true b e f = absurd (cc)
+use Rattle.lx_writer_sets.proofs.GivenLemmas.{none_set}
+use Rattle.lx_caps.proofs.Tests.{and_yes, none_left, none_right}
 
 zero_bit : (a : ℕ) → a < 2 → nat_eq a 1 ≡ false → a ≡ 0
 zero_bit zero h f = refl
@@ -57,8 +45,8 @@ some_bit m fits some = elim (bit_or_none m 64) [
 writer_put : (q : Principal) (xs ys : List (ℕ × Entry)) (n : ℕ) (v : Entry) (m : ℕ) → has_writer q (xs ++ (n, v) ∷ ys) ≡ false → has_writer q (xs ++ (n, with_mask v m) ∷ ys) ≡ false
 writer_put q [] ys n v m h = h
 writer_put q (x ∷ xs) ys n v m h =
-    or_none (same_principal q x.1.writer) (has_writer q (xs ++ (n, with_mask v m) ∷ ys)) (or_left (same_principal q x.1.writer) (has_writer q (xs ++ (n, v) ∷ ys)) h)
-    (writer_put q xs ys n v m (or_right (same_principal q x.1.writer) (has_writer q (xs ++ (n, v) ∷ ys)) h))
+    or_from (same_principal q x.1.writer) (has_writer q (xs ++ (n, with_mask v m) ∷ ys)) (none_left (same_principal q x.1.writer) (has_writer q (xs ++ (n, v) ∷ ys)) h)
+    (writer_put q xs ys n v m (none_right (same_principal q x.1.writer) (has_writer q (xs ++ (n, v) ∷ ys)) h))
 
 -- a node with another mask
 pub nodes_put : (xs ys : List (ℕ × Entry)) (n : ℕ) (v : Entry) (m : ℕ) → (HasBit v.mask → HasBit m) → AreNodes (xs ++ (n, v) ∷ ys) → AreNodes (xs ++ (n, with_mask v m) ∷ ys)
@@ -66,10 +54,10 @@ nodes_put [] ys n v m bit h = (h.0, bit h.1, h.2)
 nodes_put (x ∷ xs) ys n v m bit h = (writer_put x.1.writer xs ys n v m h.0, h.1, nodes_put xs ys n v m bit h.2)
 
 writer_gone : (q : Principal) (xs ys : List (ℕ × Entry)) (e : ℕ × Entry) → has_writer q (xs ++ e ∷ ys) ≡ false → has_writer q (xs ++ ys) ≡ false
-writer_gone q [] ys e h = or_right (same_principal q e.1.writer) (has_writer q ys) h
+writer_gone q [] ys e h = none_right (same_principal q e.1.writer) (has_writer q ys) h
 writer_gone q (x ∷ xs) ys e h =
-    or_none (same_principal q x.1.writer) (has_writer q (xs ++ ys)) (or_left (same_principal q x.1.writer) (has_writer q (xs ++ e ∷ ys)) h)
-    (writer_gone q xs ys e (or_right (same_principal q x.1.writer) (has_writer q (xs ++ e ∷ ys)) h))
+    or_from (same_principal q x.1.writer) (has_writer q (xs ++ ys)) (none_left (same_principal q x.1.writer) (has_writer q (xs ++ e ∷ ys)) h)
+    (writer_gone q xs ys e (none_right (same_principal q x.1.writer) (has_writer q (xs ++ e ∷ ys)) h))
 
 -- nodes without one of them
 pub nodes_gone : (xs ys : List (ℕ × Entry)) (e : ℕ × Entry) → AreNodes (xs ++ e ∷ ys) → AreNodes (xs ++ ys)
@@ -81,7 +69,7 @@ pub nodes_one : (old new : List (List (ℕ × Entry))) (list : ℕ) → (AreNode
 unfolding AllNodes
 nodes_one old new list here others all l =
     (elim (nat_eq l list) as (λ t. nat_eq l list ≡ t → AreNodes (nodes_at new l)) [
-      | true ↦ λ e. let same = same_from_eq l list e in subst (λ k. AreNodes (nodes_at new k)) (sym same) (here (all list))
+      | true ↦ λ e. let same = eqb-true l list e in subst (λ k. AreNodes (nodes_at new k)) (sym same) (here (all list))
       | false ↦ λ e. subst AreNodes (sym (others l (λ same. grind (arith, nat_tests, e, same)))) (all l)
     ]) refl
 
@@ -118,14 +106,10 @@ unfolding AreMarked
 marked_more old_words words old new list bits some others marked l =
     (elim (nat_eq l list) as (λ t. nat_eq l list ≡ t → is_marked words l ≡ has_nodes (nodes_at new l)) [
       | true ↦ λ e.
-          let same = same_from_eq l list e in
+          let same = eqb-true l list e in
           bits l ∙ (or_first (nat_eq l list) (is_marked old_words l) e ∙ sym (ap (λ k. has_nodes (nodes_at new k)) same ∙ some))
       | false ↦ λ e. bits l ∙ (ap (λ (t : Bool). t || is_marked old_words l) e ∙ (marked l ∙ ap has_nodes (sym (others l (λ same. grind (arith, nat_tests, e, same))))))
     ]) refl
-
-and_true : (b : Bool) → (b && true) ≡ b
-and_true true = refl
-and_true false = refl
 
 pub marked_left : (old_words words : List ℕ) (old new : List (List (ℕ × Entry))) (list : ℕ) → ((n : ℕ) → is_marked words n ≡ (is_marked old_words n && (not (nat_eq n list) || has_nodes (nodes_at new list)))) → has_nodes (nodes_at old list) ≡ true
     → ((l : ℕ) → l ≢ list → nodes_at new l ≡ nodes_at old l) → AreMarked old_words old → AreMarked words new
@@ -133,11 +117,11 @@ unfolding AreMarked
 marked_left old_words words old new list bits some others marked l =
     (elim (nat_eq l list) as (λ t. nat_eq l list ≡ t → is_marked words l ≡ has_nodes (nodes_at new l)) [
       | true ↦ λ e.
-          let same = same_from_eq l list e in
+          let same = eqb-true l list e in
           let was : is_marked old_words l ≡ true = marked l ∙ (ap (λ k. has_nodes (nodes_at old k)) same ∙ some) in
           bits l ∙ (ap (λ (t : Bool). t && (not (nat_eq l list) || has_nodes (nodes_at new list))) was ∙ (ap (λ (t : Bool). not t || has_nodes (nodes_at new list)) e ∙ ap (λ k. has_nodes (nodes_at new k)) (sym same)))
       | false ↦ λ e.
-          bits l ∙ (ap (λ (t : Bool). is_marked old_words l && (not t || has_nodes (nodes_at new list))) e ∙ (and_true (is_marked old_words l) ∙ (marked l ∙ ap has_nodes (sym (others l (λ same. grind (arith, nat_tests, e, same)))))))
+          bits l ∙ (ap (λ (t : Bool). is_marked old_words l && (not t || has_nodes (nodes_at new list))) e ∙ (and_yes (is_marked old_words l) ∙ (marked l ∙ ap has_nodes (sym (others l (λ same. grind (arith, nat_tests, e, same)))))))
     ]) refl
 
 -- where a list has a node, the list is in use and has a bit

@@ -1,5 +1,5 @@
 -- The parts of memory and their lists.
-use Rattle.std.proofs.Common.{◌≡◌, ◌≢◌, ℕ, ◌+◌, ◌-◌, ◌*◌, ◌/◌, ◌%◌, ◌^◌, ◌<◌, ◌≤◌, Bool, true, false, not, ◌&&◌, ◌||◌, nat_eq, nat_lt, nat_le, cond, List, [], Option, Some, None, refl, sym, ap, ◌∙◌, arith}
+use Rattle.std.proofs.Common.{◌≡◌, ◌≢◌, ℕ, ◌+◌, ◌-◌, ◌*◌, ◌/◌, ◌%◌, ◌<◌, ◌≤◌, Bool, true, false, not, ◌&&◌, ◌||◌, nat_eq, nat_lt, nat_le, cond, List, [], Option, Some, None, refl, sym, ap, ◌∙◌, arith, eqb-true}
 use Rattle.std.proofs.lemmas.Bool.Decides.{nat_tests}
 use Rattle.lx_caps.specs.declared.Principal.{Principal}
 use Rattle.lx_caps.specs.History.{same_principal}
@@ -9,7 +9,7 @@ use Rattle.lx_writer_sets.specs.declared.piece.Piece.{Piece}
 use Rattle.lx_writer_sets.specs.declared.entry.Entry.{Entry}
 use Rattle.lx_writer_sets.specs.Bits.{is_set}
 use Rattle.lx_writer_sets.specs.Sets.{lies_in, part_list, is_given, is_given_at, is_recorded}
-use Rattle.lx_writer_sets.proofs.WalkLemmas.{same_from_eq}
+use Rattle.lx_caps.proofs.Tests.{and_true, or_second, not_given}
 
 -- the part of a list
 abbrev part_of : ℕ → ℕ
@@ -30,9 +30,6 @@ one_part p q l e f = sym (inverse p l e).0 ∙ (inverse q l f).0
 
 pub list_below : (p l : ℕ) → part_list p ≡ Some l → l < 0xc000
 list_below p l e = (inverse p l e).1
-
-pub placed_within : (at size : ℕ) → mapped at size ≡ true → 0 < size → at + size + 63 < 2 ^ 64
-placed_within at size is some = grind (arith, nat_tests, is, some)
 
 in_region : (p at size start low : ℕ) → (nat_le start at && nat_le (at + size) (start + 0x100000)) ≡ true → start ≡ low * 64 → 0 < size → at / 64 ≤ p → p * 64 < at + size → (nat_le low p && nat_lt p (low + 0x4000)) ≡ true
 in_region p at size start low is same some below high =
@@ -57,14 +54,10 @@ or_one false false true false true f g h i is = refl
 or_one false false true false false f g h i is = i refl
 or_one false false false d e f g h i is = absurd (cc)
 
-or_skip : (n r : Bool) → n ≡ false → (n || r) ≡ true → r ≡ true
-or_skip false r e is = is
-or_skip true r e is = absurd (cc)
-
 -- a part of a range of memory has a list
 pub has_list : (p at size : ℕ) → mapped at size ≡ true → 0 < size → at / 64 ≤ p → p * 64 < at + size → part_list p ≡ None → ⊥
 has_list p at size is some below high none =
-    let regions = or_skip (nat_eq size 0) ((nat_le 0x1000000 at && nat_le (at + size) (0x1000000 + 0x100000)) || ((nat_le 0x2000000 at && nat_le (at + size) (0x2000000 + 0x100000)) || (nat_le 0x3000000 at && nat_le (at + size) (0x3000000 + 0x100000)))) (grind (arith, nat_tests, some)) is in
+    let regions = or_second (nat_eq size 0) ((nat_le 0x1000000 at && nat_le (at + size) (0x1000000 + 0x100000)) || ((nat_le 0x2000000 at && nat_le (at + size) (0x2000000 + 0x100000)) || (nat_le 0x3000000 at && nat_le (at + size) (0x3000000 + 0x100000)))) (grind (arith, nat_tests, some)) is in
     let tests =
     or_one (nat_le 0x1000000 at && nat_le (at + size) (0x1000000 + 0x100000)) (nat_le 0x2000000 at && nat_le (at + size) (0x2000000 + 0x100000)) (nat_le 0x3000000 at && nat_le (at + size) (0x3000000 + 0x100000))
     (nat_le 0x40000 p && nat_lt p 0x44000) (nat_le 0x80000 p && nat_lt p 0x84000) (nat_le 0xc0000 p && nat_lt p 0xc4000)
@@ -77,15 +70,6 @@ piece_bit : (piece : Piece) (part at size b : ℕ) (t : Bool) → piece.part ≡
 piece_bit piece part at size b t same lies is bit =
     let here : nat_eq piece.part (b / 64) ≡ true = ap (λ p. nat_eq p (b / 64)) same ∙ is in
     bit ∙ (sym (ap (λ c. c && (nat_le piece.from (b % 64) && nat_lt (b % 64) piece.to)) here) ∙ lies)
-
-not_noted : (s c e r : Bool) → e ≡ false → r ≡ ((s && (c && e)) || r)
-not_noted true true e r is = ap (λ (t : Bool). t || r) (sym is)
-not_noted true false e r is = refl
-not_noted false c e r is = refl
-
-and_true : (r : Bool) → r ≡ (r && true)
-and_true true = refl
-and_true false = refl
 
 not_lost : (r c e o : Bool) → e ≡ false → r ≡ (r && (not (c && e) || o))
 not_lost r true e o is = and_true r ∙ ap (λ (t : Bool). r && (not t || o)) (sym is)
@@ -125,13 +109,13 @@ pub noted_part : (old new : List (List (ℕ × Entry))) (part list at size mask 
 noted_part old new part list at size mask piece who place same lies bits given others b q =
     (elim (nat_eq part (b / 64)) as (λ t. nat_eq part (b / 64) ≡ t → is_recorded new b q ≡ ((same_principal q who && (covers at size b && nat_eq part (b / 64))) || is_recorded old b q)) [
       | true ↦ λ e.
-          let here : part ≡ b / 64 = same_from_eq part (b / 64) e in
+          let here : part ≡ b / 64 = eqb-true part (b / 64) e in
           let below : b % 64 < 64 = omega arith in
           recorded_here new part list b q place here
           ∙ (given (b % 64) q
           ∙ (ap (λ (t : Bool). (same_principal q who && t) || is_given (nodes_at old list) (b % 64) q) (piece_bit piece part at size b (is_set mask (b % 64)) same (lies b) e (bits (b % 64) below))
           ∙ ap (λ (t : Bool). (same_principal q who && (covers at size b && nat_eq part (b / 64))) || t) (sym (recorded_here old part list b q place here))))
-      | false ↦ λ e. recorded_there old new part list b q place e others ∙ not_noted (same_principal q who) (covers at size b) (nat_eq part (b / 64)) (is_recorded old b q) e
+      | false ↦ λ e. recorded_there old new part list b q place e others ∙ not_given (same_principal q who) (covers at size b) (nat_eq part (b / 64)) (is_recorded old b q) e
     ]) refl
 
 -- the bytes of a piece are forgotten, but for those that their writers own
@@ -142,7 +126,7 @@ pub zeroed_part : (old new : List (List (ℕ × Entry))) (part list at size : �
 zeroed_part old new part list at size piece o place same lies given others b q =
     (elim (nat_eq part (b / 64)) as (λ t. nat_eq part (b / 64) ≡ t → is_recorded new b q ≡ (is_recorded old b q && (not (covers at size b && nat_eq part (b / 64)) || o b q))) [
       | true ↦ λ e.
-          let here : part ≡ b / 64 = same_from_eq part (b / 64) e in
+          let here : part ≡ b / 64 = eqb-true part (b / 64) e in
           let below : b % 64 < 64 = omega arith in
           let whole : piece.part * 64 + b % 64 ≡ b = omega (arith, same, here) in
           recorded_here new part list b q place here
@@ -160,7 +144,7 @@ unfolding is_recorded
 zeroed_none lists part at size o none b q =
     (elim (nat_eq part (b / 64)) as (λ t. nat_eq part (b / 64) ≡ t → is_given_at lists (part_list (b / 64)) (b % 64) q ≡ (is_given_at lists (part_list (b / 64)) (b % 64) q && (not (covers at size b && nat_eq part (b / 64)) || o b q))) [
       | true ↦ λ e.
-          let here : part ≡ b / 64 = same_from_eq part (b / 64) e in
+          let here : part ≡ b / 64 = eqb-true part (b / 64) e in
           let out : is_given_at lists (part_list (b / 64)) (b % 64) q ≡ false = ap (λ p. is_given_at lists (part_list p) (b % 64) q) (sym here) ∙ none (b % 64) q in
           out ∙ ap (λ (t : Bool). t && (not (covers at size b && nat_eq part (b / 64)) || o b q)) (sym out)
       | false ↦ λ e. not_lost (is_given_at lists (part_list (b / 64)) (b % 64) q) (covers at size b) (nat_eq part (b / 64)) (o b q) e

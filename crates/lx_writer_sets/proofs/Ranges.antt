@@ -2,17 +2,11 @@
 use Rattle.std.proofs.Common.{◌≡◌, ◌∙◌, refl, sym, ap, ℕ, ◌+◌, ◌/◌, ◌<◌, Bool, true, false, not, ◌&&◌, ◌||◌, nat_eq, nat_lt, arith}
 use Rattle.std.proofs.lemmas.Bool.Decides.{nat_tests}
 use Rattle.lx_caps.specs.Regions.{covers}
+use Rattle.lx_caps.proofs.Tests.{and_or, and_true, or_note, both_zeroed, part_more}
 
 -- the byte lies in the range, in a part before this one
 abbrev pub covered : ℕ → ℕ → ℕ → ℕ → Bool
 covered at size part b = covers at size b && nat_lt (b / 64) part
-
-part_more : (part n : ℕ) → nat_lt n (part + 1) ≡ (nat_lt n part || nat_eq part n)
-part_more part n = grind (arith, nat_tests)
-
-and_or : (c l e : Bool) → (c && (l || e)) ≡ ((c && l) || (c && e))
-and_or true l e = refl
-and_or false l e = refl
 
 covered_more : (at size part b : ℕ) → covered at size (part + 1) b ≡ (covered at size part b || (covers at size b && nat_eq part (b / 64)))
 covered_more at size part b =
@@ -23,13 +17,6 @@ none_before at size b = grind (arith, nat_tests)
 
 all_before : (at size b end : ℕ) → 0 < size → end ≡ (at + size + 63) / 64 → covered at size end b ≡ covers at size b
 all_before at size b end some is = grind (arith, nat_tests)
-
-or_note : (s c e r : Bool) → ((s && e) || ((s && c) || r)) ≡ ((s && (c || e)) || r)
-or_note false c e r = refl
-or_note true true true r = refl
-or_note true true false r = refl
-or_note true false true r = refl
-or_note true false false r = refl
 
 pub noted_none : (s r : Bool) (at size b : ℕ) → r ≡ ((s && covered at size (at / 64) b) || r)
 noted_none true r at size b = ap (λ (t : Bool). t || r) (sym (none_before at size b))
@@ -44,20 +31,6 @@ noted_more s r now new at size part b was is =
 
 pub noted_all : (s r now : Bool) (at size end b : ℕ) → 0 < size → end ≡ (at + size + 63) / 64 → now ≡ ((s && covered at size end b) || r) → now ≡ ((s && covers at size b) || r)
 noted_all s r now at size end b some is was = was ∙ ap (λ (t : Bool). (s && t) || r) (all_before at size b end some is)
-
-both_zeroed : (r c e o : Bool) → ((r && (not c || o)) && (not e || o)) ≡ (r && (not (c || e) || o))
-both_zeroed false c e o = refl
-both_zeroed true true true true = refl
-both_zeroed true true true false = refl
-both_zeroed true true false true = refl
-both_zeroed true true false false = refl
-both_zeroed true false true true = refl
-both_zeroed true false true false = refl
-both_zeroed true false false o = refl
-
-and_true : (r : Bool) → r ≡ (r && true)
-and_true true = refl
-and_true false = refl
 
 pub zeroed_none : (r o : Bool) (at size b : ℕ) → r ≡ (r && (not (covered at size (at / 64) b) || o))
 zeroed_none r o at size b = and_true r ∙ ap (λ (t : Bool). r && (not t || o)) (sym (none_before at size b))

@@ -1,5 +1,5 @@
 -- The eight bytes of a slot, one after the other.
-use Rattle.std.proofs.Common.{◌≡◌, ◌∙◌, refl, sym, ap, subst, ℕ, zero, suc, ◌+◌, ◌/◌, ◌%◌, ◌<◌, Bool, true, false, ◌&&◌, ◌||◌, nat_eq, List, [], ◌∷◌, drop, Option, Some, None, arith}
+use Rattle.std.proofs.Common.{◌≡◌, ◌∙◌, refl, sym, ap, subst, ℕ, zero, suc, ◌+◌, ◌/◌, ◌%◌, ◌<◌, Bool, true, false, ◌&&◌, ◌||◌, nat_eq, List, [], ◌∷◌, drop, Option, Some, None, arith, eqb-true}
 use Rattle.std.specs.List.{list_any}
 use Rattle.std.proofs.lemmas.Bool.{both_ways}
 use Rattle.std.proofs.lemmas.Bool.Decides.{nat_tests}
@@ -12,8 +12,9 @@ use Rattle.lx_writer_sets.specs.Bits.{is_set}
 use Rattle.lx_writer_sets.specs.Sets.{eight, has_byte, touches, part_list, is_given, is_given_at, is_recorded, Records, writes_in, writes_part, IsNobody, IsNextWriter}
 use Rattle.lx_writer_sets.specs.declared.entry.Entry.{Entry}
 use Rattle.lx_writer_sets.proofs.GivenLemmas.{or_rest}
-use Rattle.lx_writer_sets.proofs.Lists.{and_or, same_first}
-use Rattle.lx_writer_sets.proofs.WalkLemmas.{same_from_eq}
+use Rattle.lx_writer_sets.proofs.Lists.{and_or}
+use Rattle.lx_caps.proofs.Tests.{and_none, or_nothing}
+use Rattle.lx_caps.proofs.PrincipalOrder.{same_first}
 
 next_of_eight : (k : ℕ) → k < 8 → drop k eight ≡ k ∷ drop (k + 1) eight
 next_of_eight zero below = refl
@@ -69,13 +70,9 @@ out_step false true m r = refl
 out_step true false m r = refl
 out_step false false m r = refl
 
-and_false : (t : Bool) → (t && false) ≡ false
-and_false true = refl
-and_false false = refl
-
 -- the part stands for all nodes
 part_out : (t : Bool) (k : ℕ) (q : Principal) (es : List (ℕ × Entry)) → list_any (λ e. same_principal q e.1.writer && (t && is_set e.1.mask k)) es ≡ (t && is_given es k q)
-part_out t k q [] = sym (and_false t)
+part_out t k q [] = sym (and_none t)
 part_out t k q (e ∷ es) =
     ap (λ (r : Bool). (same_principal q e.1.writer && (t && is_set e.1.mask k)) || r) (part_out t k q es)
     ∙ out_step (same_principal q e.1.writer) t (is_set e.1.mask k) (is_given es k q)
@@ -94,7 +91,7 @@ pub out_of_part : (lists : List (List (ℕ × Entry))) (part slot : ℕ) → ((k
 unfolding writes_part
 out_of_part lists part slot none q =
     let same : (λ (k : ℕ). nat_eq part ((slot + k) / 64) && is_given_at lists (part_list part) ((slot + k) % 64) q) ≡ (λ (k : ℕ). false) =
-    λ j k. (ap (λ (t : Bool). nat_eq part ((slot + k) / 64) && t) (none ((slot + k) % 64) q) ∙ and_false (nat_eq part ((slot + k) / 64))) j in
+    λ j k. (ap (λ (t : Bool). nat_eq part ((slot + k) / 64) && t) (none ((slot + k) % 64) q) ∙ and_none (nat_eq part ((slot + k) / 64))) j in
     ap (λ (p : ℕ → Bool). list_any p eight) same ∙ none_of eight
 
 -- tests that are the same of each of the eight
@@ -113,14 +110,10 @@ or_itself : (b : Bool) → (b || b) ≡ b
 or_itself true = refl
 or_itself false = refl
 
-or_false : (b : Bool) → (b || false) ≡ b
-or_false true = refl
-or_false false = refl
-
 -- a byte of one of two parts
 one_of : (a b r s t : Bool) → (a ≡ true → r ≡ t) → (b ≡ true → s ≡ t) → (a ≡ false → b ≡ true) → ((true && (a && r)) || (b && s)) ≡ t
 one_of true true r s t f g h = ap (λ (x : Bool). r || x) (g refl ∙ sym (f refl)) ∙ (or_itself r ∙ f refl)
-one_of true false r s t f g h = or_false r ∙ f refl
+one_of true false r s t f g h = or_nothing r ∙ f refl
 one_of false true r s t f g h = g refl
 one_of false false r s t f g h = absurd (let e = h refl in cc)
 
@@ -135,8 +128,8 @@ both_parts lists h slot stands q =
     ∙ same_eight (λ k. (true && a k) || b k) (λ k. is_writer h (slot + k) q)
     (λ k below.
     one_of (nat_eq (slot / 64) ((slot + k) / 64)) (nat_eq ((slot + 7) / 64) ((slot + k) / 64)) (given (slot / 64) k) (given ((slot + 7) / 64) k) (is_writer h (slot + k) q)
-    (λ e. ap (λ part. given part k) (same_from_eq (slot / 64) ((slot + k) / 64) e) ∙ stands (slot + k) q)
-    (λ e. ap (λ part. given part k) (same_from_eq ((slot + 7) / 64) ((slot + k) / 64) e) ∙ stands (slot + k) q)
+    (λ e. ap (λ part. given part k) (eqb-true (slot / 64) ((slot + k) / 64) e) ∙ stands (slot + k) q)
+    (λ e. ap (λ part. given part k) (eqb-true ((slot + 7) / 64) ((slot + k) / 64) e) ∙ stands (slot + k) q)
     (λ e. last_one slot k below e))
   where
     last_one : (n k : ℕ) → k < 8 → nat_eq (n / 64) ((n + k) / 64) ≡ false → nat_eq ((n + 7) / 64) ((n + k) / 64) ≡ true
@@ -146,10 +139,6 @@ both_parts lists h slot stands q =
 pub one_alone : (lists : List (List (ℕ × Entry))) (h : History) (slot : ℕ) → Records lists h → slot / 64 ≡ (slot + 7) / 64 → (q : Principal) → writes_part lists (slot / 64) slot q ≡ is_slot_writer h slot q
 one_alone lists h slot stands same q =
     sym (or_itself (writes_part lists (slot / 64) slot q)) ∙ (ap (λ part. writes_part lists (slot / 64) slot q || writes_part lists part slot q) same ∙ both_parts lists h slot stands q)
-
-and_all : (f : Bool) → (f && false) ≡ false
-and_all true = refl
-and_all false = refl
 
 first_of_all : IsFirstPrincipal (λ q. false) None
 first_of_all q = refl
@@ -215,10 +204,6 @@ somebody_of true p is e = absurd (cc)
 
 pub at_slot : (lists : List (List (ℕ × Entry))) (answer : Bool) (part s slot place : ℕ) → s ≡ slot → part ≡ place → IsNobody answer (writes_part lists part s) → IsNobody answer (writes_part lists place slot)
 at_slot lists answer part s slot place same at is = subst (λ n. IsNobody answer (writes_part lists place n)) same (subst (λ n. IsNobody answer (writes_part lists n s)) at is)
-
-pub true_if : (b : Bool) → (b ≡ false → ⊥) → b ≡ true
-true_if true out = refl
-true_if false out = absurd (out refl)
 
 pub writes_by_first : (lists : List (List (ℕ × Entry))) (h : History) (slot : ℕ) (answer : Bool) (q : Principal) → Records lists h → answer ≡ writes_part lists (slot / 64) slot q → answer ≡ true → answer ≡ is_slot_writer h slot q
 writes_by_first lists h slot answer q stands is e = e ∙ sym (writer_in_first lists h slot stands q (sym is ∙ e))

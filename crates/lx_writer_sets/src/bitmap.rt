@@ -7,7 +7,7 @@ ghost use Rattle.lx_writer_sets.specs.Nodes.{has_nodes};
 use crate::bits::{between, is_set, with, without};
 use crate::chain::Pool;
 use lx_cap_nodes::ListName;
-use lx_caps::Memory;
+use lx_words::Memory;
 
 /// How many words of 64 bits there are for the parts of memory.
 const WORDS: usize = 768;

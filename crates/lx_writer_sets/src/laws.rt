@@ -11,6 +11,6 @@ pub fn writer_set_laws()
 }
 
 /// The bound on what is looked at to see whether a slot is clean: what it is where nobody wrote nearby, and worked rows.
-pub fn look_laws()
+pub fn writer_look_laws()
     ensures { LookLaws }
 {}

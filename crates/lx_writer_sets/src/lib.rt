@@ -39,7 +39,6 @@ mod piece;
 mod recorded;
 mod sets;
 
-pub use laws::{look_laws, writer_set_laws};
-pub use lx_caps::Memory;
+pub use laws::{writer_look_laws, writer_set_laws};
 pub use recorded::Recorded;
 pub use sets::WriterSets;

@@ -9,14 +9,20 @@ ghost use Rattle.lx_writer_sets.specs.Sets.{IsNextWriter};
 
 use crate::noted::note_cap;
 use crate::{WriterSets, writer_set_laws};
-use lx_caps::{Atom, Cap, CapStore, Memory, Principal, history_laws};
+use lx_caps::{Atom, Cap, CapStore, Principal, history_laws};
+use lx_words::Memory;
 use std::alloc::Global;
 
 /// A store of capabilities, and the writers of each byte by what the store was told.
-#[derive(Drop)]
 pub struct Recorded<C: CapStore + Drop> {
     caps: C,
     sets: WriterSets,
+}
+
+impl<C: CapStore + Drop> Drop for Recorded<C> {
+    fn drop(self) {
+        let Recorded { caps: _, sets: _ } = self;
+    }
 }
 
 impl<C: CapStore + Drop> CapStore for Recorded<C> {

@@ -1,4 +1,4 @@
-use Rattle.lx_ir_blocks.proofs.Filled.{instr_filled}
+use Rattle.lx_ir_statements.proofs.Filled.{instr_filled}
 use Rattle.lx_ir_statements.proofs.StatementLaws.{statement_again}
 use Rattle.lx_ir_statements.proofs.StatementsFound.{statement_found}
 use Rattle.lx_ir_statements.proofs.statement_laws.Goals as goal

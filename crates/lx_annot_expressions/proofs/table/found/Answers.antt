@@ -1,5 +1,5 @@
 use Rattle.std.proofs.Common.{◌∙◌, bytes_eq}
-use Rattle.lx_annot_expressions.proofs.Tables.{found_row}
+use Rattle.lx_words.proofs.Lists.{found_row}
 use Rattle.lx_annot_expressions.proofs.table.found.Goals as goal
 
 pub returns : goal.returns

@@ -1,4 +1,5 @@
 use Rattle.std.proofs.Common.{◌≡◌, ◌||◌, ◌&&◌, false, ◌∷◌, refl, sym, ap, ◌∙◌}
+use Rattle.std.proofs.lemmas.Bool.{and_parts}
 use Rattle.lx_cap_nodes.specs.declared.pool.Family.TheVariants as family
 use Rattle.lx_cap_nodes.specs.Words.{nodes_at}
 use Rattle.lx_cap_lists.specs.Walks.{from}
@@ -6,9 +7,8 @@ use Rattle.lx_cap_lists.proofs.WalkLemmas.{begins}
 use Rattle.lx_caps.specs.Order.{is_behind}
 use Rattle.lx_cap_lists.specs.Atoms.{atom_among, gives_atom, spot_fits}
 use Rattle.lx_cap_lists.specs.Kept.{all_nodes}
-use Rattle.lx_cap_lists.proofs.BitLemmas.{sooner_step}
-use Rattle.lx_cap_lists.proofs.HeldLemmas.{and_yes}
 use Rattle.lx_cap_lists.proofs.lists.first_owned.Goals as goal
+use Rattle.lx_caps.proofs.Tests.{sooner_step}
 
 pub loop-node-init : goal.loop-node-init
 loop-node-init c =
@@ -28,7 +28,7 @@ atom_by-requires c =
     let e = c.visit-seen.result.entry in
     let rest = from c.visit-seen.result.next es in
     let step : from c.loop-node.node es ≡ (c.in-Some.n, e) ∷ rest = ap (λ o. from o es) c.in-Some.is ∙ c.visit-seen.ensures.entry in
-    (and_yes (spot_fits e.spot) (all_nodes (λ x. spot_fits x.spot) rest) (ap (all_nodes (λ x. spot_fits x.spot)) (sym step) ∙ c.loop-node.invariant.fit)).0
+    (and_parts (spot_fits e.spot) (all_nodes (λ x. spot_fits x.spot) rest) (ap (all_nodes (λ x. spot_fits x.spot)) (sym step) ∙ c.loop-node.invariant.fit)).0
 
 pub loop-node-preserved : goal.loop-node-preserved
 loop-node-preserved c =
@@ -40,7 +40,7 @@ loop-node-preserved c =
     let step : from c.loop-node.node es ≡ (c.in-Some.n, e) ∷ rest = ap (λ o. from o es) c.in-Some.is ∙ c.visit-seen.ensures.entry in
     record {
       come = c.visit-seen.ensures.next;
-      fit = (and_yes (spot_fits e.spot) (all_nodes (λ x. spot_fits x.spot) rest) (ap (all_nodes (λ x. spot_fits x.spot)) (sym step) ∙ old.fit)).1;
+      fit = (and_parts (spot_fits e.spot) (all_nodes (λ x. spot_fits x.spot) rest) (ap (all_nodes (λ x. spot_fits x.spot)) (sym step) ∙ old.fit)).1;
       so_far = λ x. old.so_far x || (is_behind after x && gives_atom c.args.who x e);
       first = c.sooner-first.ensures old.so_far (λ x. is_behind after x && gives_atom c.args.who x e) old.first c.atom_by.ensures;
       rest = λ x.

@@ -5,9 +5,9 @@ use Rattle.lx_caps.specs.Precedence.{follows, is_found}
 use Rattle.lx_cap_lists.specs.Entries.{bit_among, gives_bit}
 use Rattle.lx_cap_lists.specs.Walks.{from}
 use Rattle.lx_cap_lists.proofs.WalkLemmas.{begins}
-use Rattle.lx_cap_lists.proofs.BitLemmas.{first_step}
 use Rattle.lx_cap_lists.specs.Holders.{held_by}
 use Rattle.lx_cap_lists.proofs.lists.first_owner.Goals as goal
+use Rattle.lx_caps.proofs.Tests.{first_step}
 
 pub loop-node-init : goal.loop-node-init
 loop-node-init c =

@@ -1,7 +1,8 @@
 use Rattle.std.proofs.Common.{not, length, refl, sym, ap, ◌∙◌, arith}
+use Rattle.std.proofs.lemmas.Bool.{not-true}
 use Rattle.lx_cap_nodes.specs.Words.{nodes_at}
 use Rattle.lx_cap_lists.specs.Kept.{all_nodes}
-use Rattle.lx_cap_lists.proofs.TakenLemmas.{none_left, none_of, all_rest, not_true}
+use Rattle.lx_cap_lists.proofs.TakenLemmas.{none_left, none_of, all_rest}
 use Rattle.lx_cap_lists.proofs.lists.take_all.Goals as goal
 
 pub loop-node-init : goal.loop-node-init
@@ -32,7 +33,7 @@ loop-node-preserved g c =
       stays = λ among out.
           let had = old.stays among out in
           let both = all_rest (λ e. not (among e.holder)) (c.in-Some.n, rest.0) (nodes_at c.take_out.new.pool.owners c.args.list) (ap (all_nodes (λ e. not (among e.holder))) (sym rest.1) ∙ had.0) in
-          (both.1, λ k j. rest.2 among (not_true (among rest.0.holder) both.0) k j ∙ had.1 k j);
+          (both.1, λ k j. rest.2 among (not-true (among rest.0.holder) both.0) k j ∙ had.1 k j);
       other_owners = λ k ne. c.take_out.ensures.other_owners k ne ∙ old.other_owners k ne;
       empty = λ k none. c.take_out.ensures.empty k (old.empty k none);
       counts = (c.take_out.ensures.counts.0 ∙ old.counts.0, c.take_out.ensures.counts.1 ∙ old.counts.1);

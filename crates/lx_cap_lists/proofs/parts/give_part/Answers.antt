@@ -1,4 +1,4 @@
-use Rattle.std.proofs.Common.{◌≡◌, ◌≢◌, ◌<◌, ◌/◌, ◌%◌, ◌^◌, ◌||◌, ◌&&◌, nat_eq, nat_le, nat_lt, true, false, Bool, Some, refl, sym, ap, ◌∙◌, subst, arith}
+use Rattle.std.proofs.Common.{◌≡◌, ◌≢◌, ◌<◌, ◌/◌, ◌%◌, ◌^◌, ◌||◌, ◌&&◌, nat_eq, nat_le, nat_lt, true, false, Bool, Some, refl, sym, ap, ◌∙◌, subst, arith, eqb-true}
 use Rattle.std.proofs.lemmas.Bool.Decides.{nat_tests}
 use Rattle.lx_caps.specs.Regions.{covers}
 use Rattle.lx_cap_nodes.specs.Words.{nodes_at}
@@ -6,10 +6,10 @@ use Rattle.lx_cap_lists.specs.Bits.{is_set}
 use Rattle.lx_cap_lists.specs.Entries.{bit_among}
 use Rattle.lx_cap_lists.specs.Tables.{part_list}
 use Rattle.lx_cap_lists.specs.Kept.{FitsParts, IsMask}
-use Rattle.lx_cap_lists.proofs.WalkLemmas.{same_from_eq}
-use Rattle.lx_cap_lists.proofs.PartLemmas.{one_part, list_below, piece_bit, not_given, ne_from_test}
+use Rattle.lx_cap_lists.proofs.PartLemmas.{one_part, list_below, piece_bit}
 use Rattle.lx_cap_lists.proofs.NodeLemmas.{width_part, high_none}
 use Rattle.lx_cap_lists.proofs.parts.give_part.Goals as goal
+use Rattle.lx_caps.proofs.Tests.{ne_from_test, not_given}
 
 pub returns-in-Some-clause-bytes : goal.returns-in-Some-clause-bytes
 returns-in-Some-clause-bytes c b l is among =
@@ -21,7 +21,7 @@ returns-in-Some-clause-bytes c b l is among =
     let new = c.give.new.pool.places in
     (elim (nat_eq part (b / 64)) as (λ t. nat_eq part (b / 64) ≡ t → bit_among among (nodes_at new l) (b % 64) ≡ ((among c.args.to && (covers at size b && t)) || bit_among among (nodes_at old l) (b % 64))) [
       | true ↦ λ e.
-          let same : part ≡ b / 64 = same_from_eq part (b / 64) e in
+          let same : part ≡ b / 64 = eqb-true part (b / 64) e in
           let list : c.in-Some.place ≡ l = (let two : part_list part ≡ Some l = ap part_list same ∙ is in cc) in
           let below : b % 64 < 64 = omega arith in
           let bit = piece_bit c.piece_of.result part at size b (is_set c.piece_bits.result (b % 64)) c.piece_of.ensures.of_the_part (c.piece_of.ensures.bytes b) e (c.piece_bits.ensures (b % 64) below) in

@@ -1,4 +1,4 @@
-use Rattle.std.proofs.Common.{◌≡◌, ◌≢◌, ◌<◌, ◌/◌, ◌%◌, ◌^◌, ◌&&◌, not, nat_eq, true, false, Bool, Some, refl, sym, ap, ◌∙◌, subst, arith}
+use Rattle.std.proofs.Common.{◌≡◌, ◌≢◌, ◌<◌, ◌/◌, ◌%◌, ◌^◌, ◌&&◌, not, nat_eq, true, false, Bool, Some, refl, sym, ap, ◌∙◌, subst, arith, eqb-true}
 use Rattle.lx_caps.specs.Regions.{covers}
 use Rattle.lx_cap_nodes.specs.Words.{nodes_at}
 use Rattle.lx_cap_lists.specs.Bits.{is_set}
@@ -6,10 +6,10 @@ use Rattle.lx_cap_lists.specs.Entries.{bit_among}
 use Rattle.lx_cap_lists.specs.Tables.{part_list}
 use Rattle.lx_cap_lists.specs.Kept.{AreNodes, width_of}
 use Rattle.lx_cap_lists.proofs.NodeLemmas.{nodes_at_one, nodes_cut}
-use Rattle.lx_cap_lists.proofs.WalkLemmas.{same_from_eq}
 use Rattle.lx_cap_lists.proofs.BitLemmas.{bit_cut}
-use Rattle.lx_cap_lists.proofs.PartLemmas.{one_part, piece_bit, not_taken, ne_from_test}
+use Rattle.lx_cap_lists.proofs.PartLemmas.{one_part, piece_bit, not_taken}
 use Rattle.lx_cap_lists.proofs.parts.take_part.Goals as goal
+use Rattle.lx_caps.proofs.Tests.{ne_from_test}
 
 pub returns-in-Some-clause-bytes : goal.returns-in-Some-clause-bytes
 returns-in-Some-clause-bytes g c b l is among =
@@ -21,7 +21,7 @@ returns-in-Some-clause-bytes g c b l is among =
     let new = c.take.new.pool.places in
     (elim (nat_eq part (b / 64)) as (λ t. nat_eq part (b / 64) ≡ t → bit_among among (nodes_at new l) (b % 64) ≡ (bit_among among (nodes_at old l) (b % 64) && not (covers at size b && t))) [
       | true ↦ λ e.
-          let same : part ≡ b / 64 = same_from_eq part (b / 64) e in
+          let same : part ≡ b / 64 = eqb-true part (b / 64) e in
           let list : c.in-Some.place ≡ l = (let two : part_list part ≡ Some l = ap part_list same ∙ is in cc) in
           let below : b % 64 < 64 = omega arith in
           let fits : c.piece_bits.result < 2 ^ 64 = omega arith in

@@ -1,11 +1,11 @@
 use Rattle.std.proofs.Common.{◌≡◌, ◌||◌, ◌&&◌, ◌∷◌, sym, ap, ◌∙◌}
+use Rattle.std.proofs.lemmas.Bool.{and_parts}
 use Rattle.lx_cap_nodes.specs.declared.pool.Family.TheVariants as family
 use Rattle.lx_cap_nodes.specs.Words.{nodes_at}
 use Rattle.lx_cap_lists.specs.Atoms.{atom_among, spot_fits}
 use Rattle.lx_cap_lists.specs.Kept.{all_nodes}
 use Rattle.lx_cap_lists.specs.Walks.{from}
 use Rattle.lx_cap_tables.proofs.AloneLemmas.{node_step}
-use Rattle.lx_cap_lists.proofs.HeldLemmas.{and_yes}
 use Rattle.lx_cap_lists.proofs.WalkLemmas.{begins}
 use Rattle.lx_cap_tables.proofs.gather.add_list.Goals as goal
 
@@ -25,7 +25,7 @@ add-requires g c =
     let e = c.visit-seen.result.entry in
     let rest = from c.visit-seen.result.next es in
     let step : from c.loop-node.node es ≡ (c.in-Some.n, e) ∷ rest = ap (λ o. from o es) c.in-Some.is ∙ c.visit-seen.ensures.entry in
-    (and_yes (spot_fits e.spot) (all_nodes (λ x. spot_fits x.spot) rest) (ap (all_nodes (λ x. spot_fits x.spot)) (sym step) ∙ c.loop-node.invariant.fit)).0
+    (and_parts (spot_fits e.spot) (all_nodes (λ x. spot_fits x.spot) rest) (ap (all_nodes (λ x. spot_fits x.spot)) (sym step) ∙ c.loop-node.invariant.fit)).0
 
 pub loop-node-preserved : goal.loop-node-preserved
 loop-node-preserved g c =
@@ -36,7 +36,7 @@ loop-node-preserved g c =
     let step : from c.loop-node.node es ≡ (c.in-Some.n, e) ∷ rest = ap (λ o. from o es) c.in-Some.is ∙ c.visit-seen.ensures.entry in
     record {
       come = c.visit-seen.ensures.next;
-      fit = (and_yes (spot_fits e.spot) (all_nodes (λ x. spot_fits x.spot) rest) (ap (all_nodes (λ x. spot_fits x.spot)) (sym step) ∙ old.fit)).1;
+      fit = (and_parts (spot_fits e.spot) (all_nodes (λ x. spot_fits x.spot) rest) (ap (all_nodes (λ x. spot_fits x.spot)) (sym step) ∙ old.fit)).1;
       rest = λ x.
           node_step c.args.who e c.in-Some.n rest x (g.G.Gather.has c.loop-node.out x) _ (g.G.Gather.of_kind x) (c.in_ok-add.ensures x)
           ∙ (ap (λ r. g.G.Gather.has c.loop-node.out x || (g.G.Gather.of_kind x && atom_among c.args.who r x)) (sym step) ∙ old.rest x);

@@ -1,12 +1,13 @@
-use Rattle.std.proofs.Common.{◌≡◌, ◌<◌, ◌+◌, ◌*◌, ◌/◌, ◌%◌, ◌^◌, nat_eq, true, false, Bool, ℕ, Some, refl, sym, ap, ◌∙◌, arith}
+use Rattle.std.proofs.Common.{◌≡◌, ◌<◌, ◌+◌, ◌*◌, ◌/◌, ◌%◌, ◌^◌, nat_eq, true, false, Bool, ℕ, Some, refl, sym, ap, ◌∙◌, arith, eqb-true}
+use Rattle.std.proofs.lemmas.Bool.{and_parts, and_from}
 use Rattle.lx_cap_lists.specs.Holders.{counts}
 use Rattle.lx_caps.specs.Regions.{covers}
 use Rattle.lx_cap_lists.specs.Bits.{is_set}
 use Rattle.lx_cap_lists.specs.Tables.{shown_at, part_list, HoldsPart}
-use Rattle.lx_cap_lists.proofs.WalkLemmas.{same_from_eq, eq_self}
 use Rattle.lx_cap_lists.proofs.PartLemmas.{piece_bit}
-use Rattle.lx_cap_lists.proofs.HeldLemmas.{present, missing, and_yes, and_join, byte_of, some_byte}
+use Rattle.lx_cap_lists.proofs.HeldLemmas.{present, missing, some_byte}
 use Rattle.lx_cap_tables.proofs.held.holds_part.Goals as goal
+use Rattle.lx_caps.proofs.Tests.{eq_itself, byte_of}
 
 pub returns-in-Some : goal.returns-in-Some
 returns-in-Some c =
@@ -20,11 +21,11 @@ returns-in-Some c =
     let all = c.reached.result in
     (elim c.has_all.result as (λ t. c.has_all.result ≡ t → HoldsPart p at size part t) [
       | true ↦ λ e b cov is.
-          let list : part_list (b / 64) ≡ Some c.in-Some.place = ap part_list (sym (same_from_eq part (b / 64) is)) ∙ here in
+          let list : part_list (b / 64) ≡ Some c.in-Some.place = ap part_list (sym (eqb-true part (b / 64) is)) ∙ here in
           let below : b % 64 < 64 = omega arith in
           let bit : is_set bits (b % 64) ≡ true =
           piece_bit c.piece_of.result part at size b (is_set bits (b % 64)) c.piece_of.ensures.of_the_part (c.piece_of.ensures.bytes b) is (c.piece_bits.ensures (b % 64) below)
-          ∙ and_join (covers at size b) (nat_eq part (b / 64)) cov is in
+          ∙ and_from (covers at size b) (nat_eq part (b / 64)) cov is in
           ap (λ o. shown_at places o (counts c.args.in_reach) (b % 64)) list ∙ (sym (c.reached.ensures (b % 64)) ∙ present all bits (b % 64) (sym c.has_all.ensures ∙ e) bit)
       | false ↦ λ e.
           let fits : bits < 2 ^ 64 = omega arith in
@@ -32,9 +33,9 @@ returns-in-Some c =
           let k = lack.0 in
           let b = part * 64 + k in
           let of = byte_of part k lack.1 in
-          let is : nat_eq part (b / 64) ≡ true = ap (nat_eq part) of.0 ∙ eq_self part in
+          let is : nat_eq part (b / 64) ≡ true = ap (nat_eq part) of.0 ∙ eq_itself part in
           let bit = piece_bit c.piece_of.result part at size b (is_set bits (b % 64)) c.piece_of.ensures.of_the_part (c.piece_of.ensures.bytes b) is (c.piece_bits.ensures (b % 64) (omega arith)) in
-          let cov = (and_yes (covers at size b) (nat_eq part (b / 64)) (sym bit ∙ (ap (is_set bits) of.1 ∙ lack.2))).0 in
+          let cov = (and_parts (covers at size b) (nat_eq part (b / 64)) (sym bit ∙ (ap (is_set bits) of.1 ∙ lack.2))).0 in
           (b, cov, ap (λ o. shown_at places o (counts c.args.in_reach) (b % 64)) (ap part_list of.0 ∙ here) ∙ (sym (c.reached.ensures (b % 64)) ∙ (ap (is_set all) of.1 ∙ lack.3)))
     ]) refl
 

@@ -1,9 +1,9 @@
 use Rattle.std.proofs.Common.{◌≡◌, ◌&&◌, Some, None, sym, ap, ◌∙◌, subst, arith}
+use Rattle.std.proofs.lemmas.Bool.{and_right}
 use Rattle.lx_caps.specs.Order.{is_behind, IsFirst}
 use Rattle.lx_cap_lists.specs.Owned.{AllFit, given_in}
 use Rattle.lx_cap_lists.specs.Tables.{place_in}
 use Rattle.lx_cap_tables.proofs.AtomLemmas.{list_within}
-use Rattle.lx_cap_tables.proofs.TieLemmas.{and_nothing}
 use Rattle.lx_cap_tables.proofs.held.owned_by_list.Goals as goal
 
 pub first_owned-requires : goal.first_owned-requires
@@ -23,4 +23,4 @@ returns-in-Some c =
 pub returns-in-None : goal.returns-in-None
 returns-in-None c =
     let none : place_in c.args.owners.now.keys c.args.key ≡ None = sym c.place_in.ensures ∙ c.in-None.is in
-    λ x. and_nothing (is_behind c.args.wanted.after x) _ (ap (given_in c.args.pool.now.owners c.args.wanted.who x) none)
+    λ x. and_right (is_behind c.args.wanted.after x) _ (ap (given_in c.args.pool.now.owners c.args.wanted.who x) none)

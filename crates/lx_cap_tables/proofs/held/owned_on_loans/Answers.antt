@@ -1,17 +1,17 @@
 use Rattle.std.proofs.Common.{◌≡◌, ◌&&◌, Bool, ℕ, subst, arith}
+use Rattle.std.proofs.lemmas.Bool.{and_right}
 use Rattle.lx_caps.specs.declared.Atom.{Atom}
 use Rattle.lx_caps.specs.Order.{is_behind, IsFirst}
 use Rattle.lx_cap_lists.specs.Lists.{some_below}
 use Rattle.lx_cap_lists.specs.Loans.{loans_of}
 use Rattle.lx_cap_lists.specs.Owned.{lent_atom}
 use Rattle.lx_cap_tables.proofs.Below.{some_none, one_more_found}
-use Rattle.lx_cap_tables.proofs.TieLemmas.{and_nothing}
 use Rattle.lx_cap_tables.proofs.held.owned_on_loans.Goals as goal
 
 pub loop-thread-init : goal.loop-thread-init
 loop-thread-init c = record {
   high = omega arith;
-  first = λ x. and_nothing (is_behind c.args.wanted.after x) _ (some_none (λ t. lent_atom c.args.pool.now.owners c.args.owners.now.keys c.args.wanted.who x t (loans_of c.args.loans.now t)));
+  first = λ x. and_right (is_behind c.args.wanted.after x) _ (some_none (λ t. lent_atom c.args.pool.now.owners c.args.owners.now.keys c.args.wanted.who x t (loans_of c.args.loans.now t)));
 }
 
 pub loop-thread-preserved : goal.loop-thread-preserved

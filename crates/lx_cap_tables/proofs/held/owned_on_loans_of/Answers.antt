@@ -1,17 +1,17 @@
 use Rattle.std.proofs.Common.{◌≡◌, ◌&&◌, Bool, ℕ, subst, arith}
+use Rattle.std.proofs.lemmas.Bool.{and_right}
 use Rattle.lx_caps.specs.declared.Atom.{Atom}
 use Rattle.lx_caps.specs.Order.{is_behind, IsFirst}
 use Rattle.lx_cap_lists.specs.Lists.{some_below}
 use Rattle.lx_cap_lists.specs.Owned.{lent_atom, listed_atom}
 use Rattle.lx_cap_lists.specs.Tables.{loan_key}
 use Rattle.lx_cap_tables.proofs.Below.{some_none, one_more_found}
-use Rattle.lx_cap_tables.proofs.TieLemmas.{and_nothing}
 use Rattle.lx_cap_tables.proofs.held.owned_on_loans_of.Goals as goal
 
 pub loop-older-init : goal.loop-older-init
 loop-older-init c = record {
   high = omega arith;
-  first = λ x. and_nothing (is_behind c.args.wanted.after x) _ (some_none (λ d. listed_atom c.args.pool.now.owners c.args.owners.now.keys c.args.wanted.who x (loan_key c.args.thread d)));
+  first = λ x. and_right (is_behind c.args.wanted.after x) _ (some_none (λ d. listed_atom c.args.pool.now.owners c.args.owners.now.keys c.args.wanted.who x (loan_key c.args.thread d)));
 }
 
 pub loop-older-preserved : goal.loop-older-preserved

@@ -1,7 +1,8 @@
 use Rattle.std.proofs.Common.{◌<◌, refl, ◌∙◌, arith}
 use Rattle.lx_cap_lists.specs.Tables.{is_in_order, loan_key, place_in}
-use Rattle.lx_cap_tables.proofs.EndLemmas.{ended_none, ended_more, ended_less, ended_kept, stay_none, stay_more, stay_all, other_loan, one_loan_more, no_loan_more, same_loan}
+use Rattle.lx_cap_tables.proofs.EndLemmas.{ended_none, ended_more, ended_less, ended_kept, stay_none, stay_more, stay_all, other_loan, one_loan_more, no_loan_more}
 use Rattle.lx_cap_tables.proofs.loans.shut_loans.Goals as goal
+use Rattle.lx_cap_lists.proofs.PartLemmas.{same_count_by}
 
 pub loop-older-init : goal.loop-older-init
 loop-older-init g c = record {
@@ -42,7 +43,7 @@ loop-older-preserved g c =
       cost =
           let lt : older < c.args.ended.end = omega arith in
           let w = one_loan_more c.args.pool.now.owners owners t older c.args.ended.end lt in
-          let n = same_loan c.args.pool.now.owners c.loop-older.pool.owners (place_in owners (loan_key t older)) (λ k is. old.later older k (omega arith) is) in
+          let n = same_count_by c.args.pool.now.owners c.loop-older.pool.owners (place_in owners (loan_key t older)) (λ k is. old.later older k (omega arith) is) in
           let a = c.shut_loan.ensures.cost in
           let b = old.cost in
           omega (arith, w, n, a, b);

@@ -8,8 +8,8 @@ use Rattle.lx_caps.specs.History.{owns}
 use Rattle.lx_caps.specs.Order.{is_call_or_ref, stands_in}
 use Rattle.lx_caps.specs.Once.{is_atom}
 use Rattle.lx_caps.proofs.Found.{IsFound, found_all, found_more, found_none}
-use Rattle.lx_caps.proofs.NextOwned.{reverse-take_more}
 use Rattle.lx_caps.proofs.owned.calls_and_refs_in.Goals as goal
+use Rattle.lx_caps.proofs.Items.{reverse_take_more}
 
 pub loop-act-init : goal.loop-act-init
 loop-act-init c = found_none (λ x. is_call_or_ref x && owns (reverse c.args.acts.now) c.args.who x) _ c.new-found.ensures.items
@@ -21,7 +21,7 @@ loop-act-preserved c =
     let below : i < length acts = omega arith in
     let d = Grant Kernel (Write 0 0) in
     found_more (λ x. is_call_or_ref x && owns (reverse acts) c.args.who x) (reverse (take i acts)) (reverse (take (i + 1) acts)) (get_or acts i d) c.loop-act.found.items _
-    (reverse-take_more acts i d below) c.loop-act.invariant
+    (reverse_take_more acts i d below) c.loop-act.invariant
     (λ x. c.in_ok-put_found.ensures x ∙ ap (λ o. stands_in x c.loop-act.found.items || is_atom o x) c.listed_by.ensures)
 
 pub returns : goal.returns

@@ -7,8 +7,9 @@ use Rattle.lx_caps.specs.declared.Act.TheVariants.{Grant}
 use Rattle.lx_caps.specs.History.{owns}
 use Rattle.lx_caps.specs.Order.{is_behind}
 use Rattle.lx_caps.specs.Placed.{AllPlaced-reverse}
-use Rattle.lx_caps.proofs.NextOwned.{reverse-take_more, one_more, next_owned}
+use Rattle.lx_caps.proofs.NextOwned.{one_more, next_owned}
 use Rattle.lx_caps.proofs.owned.next_in.Goals as goal
+use Rattle.lx_caps.proofs.Items.{reverse_take_more}
 
 pub loop-act-preserved : goal.loop-act-preserved
 loop-act-preserved c =
@@ -17,7 +18,7 @@ loop-act-preserved c =
     let below : i < length acts = omega arith in
     rw (c.sooner-first.ensures, c.start.ensures)
     (one_more (λ x. is_behind c.args.after x && owns (reverse acts) c.args.who x) c.args.after (reverse (take i acts)) (reverse (take (i + 1) acts))
-    (get_or acts i (Grant Kernel (Write 0 0))) (reverse-take_more acts i (Grant Kernel (Write 0 0)) below) c.loop-act.first c.loop-act.invariant)
+    (get_or acts i (Grant Kernel (Write 0 0))) (reverse_take_more acts i (Grant Kernel (Write 0 0)) below) c.loop-act.first c.loop-act.invariant)
 
 pub returns : goal.returns
 returns c =

@@ -1,7 +1,7 @@
 use Rattle.std.proofs.Common.{◌≡◌, Some, sym, ◌∙◌}
 use Rattle.std.specs.Prelude.{position}
+use Rattle.lx_words.proofs.Lists.{found_place, none_found}
 use Rattle.lx_image_check.specs.Expected.{defines}
-use Rattle.lx_image_check.proofs.Firsts.{found_place, none_found}
 use Rattle.lx_image_check.proofs.wrappers.defined.Goals as goal
 
 pub returns-in-Some : goal.returns-in-Some

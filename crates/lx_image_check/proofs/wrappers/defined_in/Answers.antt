@@ -1,4 +1,4 @@
-use Rattle.lx_image_marks.proofs.Firsts.{first_all}
+use Rattle.lx_words.proofs.Lists.{first_all}
 use Rattle.lx_image_check.specs.Expected.{defines}
 use Rattle.lx_image_check.proofs.wrappers.defined_in.Goals as goal
 

@@ -2,7 +2,7 @@ use Rattle.std.proofs.Common.{◌≡◌, ◌∙◌, ap, sym, subst, ℕ, [], ◌
 use Rattle.std.proofs.lemmas.List.{length-append}
 use Rattle.lx_model.specs.declared.program.Program.{Program}
 use Rattle.lx_model.specs.Program.{home_or_kernel}
-use Rattle.lx_code_tables.specs.Fits.{AreTablesOf}
+use Rattle.lx_code.specs.Fits.{AreTablesOf}
 use Rattle.lx_image_code.specs.Code.{code_of}
 use Rattle.lx_image_code.specs.Jumps.{image_blocks, numbers_at, types_in}
 use Rattle.lx_image_code.proofs.Filled.{Each, each_more}

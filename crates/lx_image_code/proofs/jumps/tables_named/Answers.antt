@@ -3,7 +3,7 @@ use Rattle.lx_ir.specs.declared.module.Block.{Block}
 use Rattle.lx_model.specs.declared.program.Program.{Program}
 use Rattle.lx_model.specs.Program.{Home, module_of}
 use Rattle.lx_images.specs.Image.{image_of_entry}
-use Rattle.lx_code_tables.specs.Fits.{AreTablesOf}
+use Rattle.lx_code.specs.Fits.{AreTablesOf}
 use Rattle.lx_code.specs.Reach.{are_sized}
 use Rattle.lx_image_code.specs.Code.{code_of}
 use Rattle.lx_image_code.specs.Jumps.{blocks_or_none, numbers_at, text_of_entry}

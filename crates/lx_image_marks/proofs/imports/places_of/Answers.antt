@@ -1,5 +1,5 @@
+use Rattle.lx_words.proofs.Lists.{first_all}
 use Rattle.lx_image_marks.specs.Named.{imports_as}
-use Rattle.lx_image_marks.proofs.Firsts.{first_all}
 use Rattle.lx_image_marks.proofs.imports.places_of.Goals as goal
 
 pub returns : goal.returns

@@ -1,7 +1,7 @@
 use Rattle.std.proofs.Common.{ap, ◌∙◌, arith}
 use Rattle.lx_words.specs.Word.{signed}
-use Rattle.lx_code_tables.specs.Parts.{element_in}
-use Rattle.lx_code_tables.proofs.TypeParts.{sized_element}
+use Rattle.lx_code.specs.Parts.{element_in}
+use Rattle.lx_code.proofs.TypeParts.{sized_element}
 use Rattle.lx_image_steps.proofs.Parts.{element_part, other_part}
 use Rattle.lx_image_steps.proofs.elements.part_of.Goals as goal
 

@@ -3,7 +3,7 @@ use Rattle.lx_ir.specs.declared.instr.Argument.{Argument}
 use Rattle.lx_ir.specs.declared.instr.Op.{Op}
 use Rattle.lx_ir.specs.declared.instr.Op.TheVariants as op
 use Rattle.lx_ir.specs.Layout.{element_offset}
-use Rattle.lx_code_tables.specs.Routes.{route_offset}
+use Rattle.lx_code.specs.Routes.{route_offset}
 use Rattle.lx_model.specs.Effect.{effect, indices_of, types_of}
 use Rattle.lx_image_steps.specs.Standing.{run_of}
 use Rattle.lx_image_steps.proofs.routes.element_by_table.Goals as goal

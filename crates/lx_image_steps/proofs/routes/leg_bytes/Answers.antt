@@ -1,7 +1,7 @@
 use Rattle.std.proofs.Common.{◌∙◌, ◌^◌, ap, refl, sym, arith}
 use Rattle.lx_words.specs.Word.{modulo, signed}
-use Rattle.lx_code_tables.specs.declared.routes.Leg.{Leg}
-use Rattle.lx_code_tables.specs.Routes.{leg_offset}
+use Rattle.lx_code.specs.declared.routes.Leg.{Leg}
+use Rattle.lx_code.specs.Routes.{leg_offset}
 use Rattle.lx_image_steps.proofs.Parts.{product}
 use Rattle.lx_image_steps.proofs.routes.leg_bytes.Goals as goal
 

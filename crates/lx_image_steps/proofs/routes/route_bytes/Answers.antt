@@ -2,8 +2,8 @@ use Rattle.std.proofs.Common.{◌∙◌, ◌^◌, ap, sym, arith, List}
 use Rattle.lx_words.specs.Word.{Word, signed, modulo}
 use Rattle.lx_ir.specs.declared.instr.Argument.{Argument}
 use Rattle.lx_model.specs.Effect.{indices_of, operand}
-use Rattle.lx_code_tables.specs.declared.routes.Leg.{Leg}
-use Rattle.lx_code_tables.specs.Routes.{legs_offset, route_offset}
+use Rattle.lx_code.specs.declared.routes.Leg.{Leg}
+use Rattle.lx_code.specs.Routes.{legs_offset, route_offset}
 use Rattle.lx_image_steps.specs.Standing.{run_of}
 use Rattle.lx_image_steps.proofs.Legs.{route_gone}
 use Rattle.lx_image_steps.proofs.routes.route_bytes.Goals as goal

@@ -6,9 +6,10 @@ use Rattle.lx_slot_types.specs.declared.Marked.{Marked}
 use Rattle.lx_propagate.specs.Slots.{annotated_of}
 use Rattle.lx_link.specs.Answers.{module_file}
 use Rattle.lx_input.specs.Checks.{PropagateTurn}
-use Rattle.lx_input.proofs.Each.{goes_on, ends_early, ends, mapped_more, marked_so_far}
+use Rattle.lx_input.proofs.Each.{goes_on, ends_early, ends, marked_so_far}
 use Rattle.lx_input.proofs.Agreeing.{all_agree}
 use Rattle.lx_input.proofs.checks.annotate_modules.Goals as goal
+use Rattle.lx_model.proofs.Items.{mapped_more}
 
 pub loop-verified-preserved : goal.loop-verified-preserved
 loop-verified-preserved c =

@@ -1,6 +1,6 @@
+use Rattle.lx_words.proofs.Lists.{map_step, map_end}
 use Rattle.lx_instrument.specs.Made.{block_by}
 use Rattle.lx_spared.specs.Rooms.{spared_by}
-use Rattle.lx_instrument.proofs.Counted.{map_step, map_end}
 use Rattle.lx_instrument.proofs.blocks.push_blocks.Goals as goal
 
 pub loop-block-preserved : goal.loop-block-preserved

@@ -1,6 +1,6 @@
+use Rattle.lx_words.proofs.Lists.{map_step, map_end}
 use Rattle.lx_instrument.specs.Made.{function_by}
 use Rattle.lx_spared.specs.Rooms.{spared_by}
-use Rattle.lx_instrument.proofs.Counted.{map_step, map_end}
 use Rattle.lx_instrument.proofs.image.push_full_functions.Goals as goal
 
 pub loop-f-preserved : goal.loop-f-preserved

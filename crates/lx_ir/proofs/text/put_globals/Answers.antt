@@ -1,6 +1,6 @@
 use Rattle.std.proofs.Common.{◌++◌, ◌∙◌, ap, flat_map}
+use Rattle.lx_words.proofs.Lists.{next_text, all_texts}
 use Rattle.lx_ir.specs.Text.{global_var_text}
-use Rattle.lx_ir.proofs.Joined.{next_text, all_texts}
 use Rattle.lx_ir.proofs.text.put_globals.Goals as goal
 
 pub loop-global-preserved : goal.loop-global-preserved

@@ -1,6 +1,6 @@
 use Rattle.std.proofs.Common.{◌++◌, ◌∙◌, ap, flat_map}
+use Rattle.lx_words.proofs.Lists.{next_text, all_texts}
 use Rattle.lx_ir.specs.Text.{named_type_text}
-use Rattle.lx_ir.proofs.Joined.{next_text, all_texts}
 use Rattle.lx_ir.proofs.text.put_types.Goals as goal
 
 pub loop-entry-preserved : goal.loop-entry-preserved

@@ -1,7 +1,7 @@
 use Rattle.std.proofs.Common.{◌∙◌, ap, bytes_eq, unwrap_or, ℕ, List, Bor}
+use Rattle.lx_words.proofs.Lists.{found_row}
 use Rattle.lx_ir_tokens.specs.declared.keyword.Keyword.{Keyword}
 use Rattle.lx_ir_tokens.specs.declared.keyword.Keyword.TheVariants.{Other}
-use Rattle.lx_ir_tokens.proofs.Tables.{found_row}
 use Rattle.lx_ir_tokens.proofs.words.keyword_in.Goals as goal
 
 abbrev key : Bor (List ℕ) × Keyword → List ℕ

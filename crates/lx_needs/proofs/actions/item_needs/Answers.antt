@@ -1,6 +1,6 @@
 -- Not more items stand at the front than there are.
 use Rattle.std.proofs.Common.{[]}
-use Rattle.lx_refusals.specs.Errands.{is_placed}
+use Rattle.lx_run_laws.specs.Errands.{is_placed}
 use Rattle.lx_needs.specs.Asked.{errand_by}
 use Rattle.lx_needs.proofs.Asking.{front_length}
 use Rattle.lx_needs.proofs.actions.item_needs.Goals as goal

@@ -1,6 +1,6 @@
 -- The needs for the items so far.
 use Rattle.std.proofs.Common.{◌≡◌, [], ◌++◌, map, take}
-use Rattle.lx_refusals.specs.Errands.{need_of_item}
+use Rattle.lx_run_laws.specs.Errands.{need_of_item}
 use Rattle.lx_needs.specs.Asked.{errand_by}
 use Rattle.lx_needs.specs.Listed.{of_modules}
 use Rattle.lx_needs.proofs.actions.push_item_needs.Given as goal

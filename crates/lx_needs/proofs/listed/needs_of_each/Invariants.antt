@@ -1,6 +1,6 @@
 -- The needs of the principals so far.
 use Rattle.std.proofs.Common.{◌≡◌, map, take}
-use Rattle.lx_refusals.specs.Needs.{to_hold}
+use Rattle.lx_run_laws.specs.Needs.{to_hold}
 use Rattle.lx_needs.specs.Listed.{of_modules}
 use Rattle.lx_needs.proofs.listed.needs_of_each.Given as goal
 

@@ -2,7 +2,7 @@
 use Rattle.std.proofs.Common.{◌∙◌, ap, sym}
 use Rattle.std.proofs.lemmas.Result.{IfOk-weaker}
 use Rattle.lx_model.specs.declared.request.What.{What}
-use Rattle.lx_refusals.specs.Needs.{all_needs}
+use Rattle.lx_run_laws.specs.Needs.{all_needs}
 use Rattle.lx_needs.specs.Listed.{of_modules}
 use Rattle.lx_needs.proofs.requests.needs_of.Goals as goal
 

@@ -1,5 +1,5 @@
 use Rattle.std.specs.Prelude.{All}
-use Rattle.lx_accepted.specs.Accepted.{IsAcceptedBy}
+use Rattle.lx_simulation.specs.Accepted.{IsAcceptedBy}
 use Rattle.lx_opened_tests.proofs.images.push_images.Given as goal
 
 abbrev pub invariant-loop-image : goal.invariant-loop-image

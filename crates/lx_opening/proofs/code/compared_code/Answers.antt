@@ -1,5 +1,5 @@
 use Rattle.std.proofs.Common.{subst}
-use Rattle.lx_accepted.specs.Accepted.{AreOfTexts}
+use Rattle.lx_simulation.specs.Accepted.{AreOfTexts}
 use Rattle.lx_opening.proofs.code.compared_code.Goals as goal
 
 pub checked_code-requires-clause-texts : goal.checked_code-requires-clause-texts

@@ -1,5 +1,5 @@
 use Rattle.std.proofs.Common.{ℕ, ◌<◌}
-use Rattle.lx_accepted.specs.Accepted.{HasImageAt}
+use Rattle.lx_simulation.specs.Accepted.{HasImageAt}
 use Rattle.lx_opening.proofs.differing.compare_images.Given as goal
 
 -- each module before this one has its image

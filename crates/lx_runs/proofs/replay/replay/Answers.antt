@@ -1,10 +1,10 @@
 use Rattle.std.proofs.Common.{◌≡◌, ◌∙◌, sym, ap, subst, ◌+◌, Some, false, length, drop, get_or, arith}
+use Rattle.std.proofs.lemmas.Bool.{true_from_ne_false}
 use Rattle.lx_model.specs.World.{can_act}
 use Rattle.lx_images.specs.ImageWorld.{ImageWorld, image_event}
 use Rattle.lx_images.specs.Shown.{shown}
-use Rattle.lx_core.specs.Worlds.{StandsForWorld}
+use Rattle.lx_world.specs.Worlds.{StandsForWorld}
 use Rattle.lx_runs.proofs.Replays.{at_entry, at_last, broken_here, broken_at_end, broken_nowhere, one_less}
-use Rattle.lx_runs.proofs.Booleans.{not_false}
 use Rattle.lx_runs.proofs.replay.replay.Goals as goal
 
 pub returns-in-Err-NoWork-clause-broken : goal.returns-in-Err-NoWork-clause-broken
@@ -21,7 +21,7 @@ loop-entry-preserved g c = λ d v stands.
     let s = c.args.schedule.now in
     let n = c.loop-entry.entry in
     let left = c.loop-entry.invariant d v stands in
-    let works = not_false (can_act (shown left.0) (get_or s n 0)) (λ idle. let e = (c.in-Ok.ensures.no_work d left.0 left.1).1 idle in cc) in (
+    let works = true_from_ne_false (can_act (shown left.0) (get_or s n 0)) (λ idle. let e = (c.in-Ok.ensures.no_work d left.0 left.1).1 idle in cc) in (
       image_event d (get_or s n 0) left.0,
       c.in-Ok.ensures.event d left.0 left.1,
       one_less d s v n (get_or s n 0) (drop (n + 1) s) left.0 (at_entry d s v n left.0 c.loop-entry-test.true left.2) works,

@@ -1,7 +1,7 @@
 use Rattle.std.proofs.Common.{drop}
 use Rattle.lx_images.specs.Image.{Code}
 use Rattle.lx_images.specs.ImageWorld.{ImageWorld}
-use Rattle.lx_core.specs.Worlds.{StandsForWorld}
+use Rattle.lx_world.specs.Worlds.{StandsForWorld}
 use Rattle.lx_runs.proofs.Replays.{IsLeft}
 use Rattle.lx_runs.proofs.replay.replay.Given as goal
 

@@ -1,7 +1,7 @@
 use Rattle.std.proofs.Common.{◌≡◌, ◌∙◌, sym, ap, false, length, take, get_or, Some, arith}
+use Rattle.std.proofs.lemmas.Bool.{true_from_ne_false}
 use Rattle.lx_model.specs.World.{can_act}
 use Rattle.lx_why.specs.Why.{behind}
-use Rattle.lx_runs.proofs.Booleans.{not_false}
 use Rattle.lx_runs.proofs.Certifying.{all_certified, broken_here, none_left, one_certified, work_left}
 use Rattle.lx_runs.proofs.why.certify.Goals as goal
 
@@ -19,7 +19,7 @@ loop-entry-preserved g c = λ p script st.
     let s = c.args.schedule.now in
     let n = c.loop-entry.entry in
     let has = c.loop-entry.invariant p script st in
-    let works = not_false (can_act (behind p script (take n s)) (get_or s n 0)) (λ idle. let e = (c.in-Ok.ensures.no_work p script (take n s) has.stands_for).1 idle in cc) in
+    let works = true_from_ne_false (can_act (behind p script (take n s)) (get_or s n 0)) (λ idle. let e = (c.in-Ok.ensures.no_work p script (take n s) has.stands_for).1 idle in cc) in
     one_certified _ p script s n c.loop-entry.run c.step.new.self c.loop-entry.out.items c.push_certs.new.out.items c.in-Ok.certs c.loop-entry-test.true has works
     (c.in-Ok.ensures.event p script (take n s) has.stands_for) (c.in-Ok.ensures.certs p script (take n s) has.stands_for) c.in_ok-push_certs-in-Ok.ensures
 

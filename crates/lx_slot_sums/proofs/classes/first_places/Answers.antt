@@ -1,5 +1,6 @@
 use Rattle.std.proofs.Common.{bytes_eq}
-use Rattle.lx_slot_sums.proofs.Classed.{first_all, has_texts}
+use Rattle.lx_words.proofs.Lists.{first_all}
+use Rattle.lx_slot_sums.proofs.Classed.{has_texts}
 use Rattle.lx_slot_sums.proofs.classes.first_places.Goals as goal
 
 pub returns : goal.returns

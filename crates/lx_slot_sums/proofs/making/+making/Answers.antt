@@ -1,11 +1,12 @@
 use Rattle.std.proofs.Common.{◌≡◌, ◌∙◌, ◌+◌, ◌-◌, ◌≤◌, IsTrue, Some, option_map, false, true, refl, sym, ap, subst, take, arith, slice_get}
 use Rattle.std.proofs.lemmas.List.{take_all}
+use Rattle.lx_words.proofs.Lists.{list_all_item}
 use Rattle.lx_ir.specs.declared.module.Module.{Module}
 use Rattle.lx_ir.specs.declared.types.NamedType.{NamedType}
 use Rattle.lx_ir.specs.IrType.{Array}
 use Rattle.lx_ir.specs.Layout.{is_lawful_type, is_type_within, layout, size_of}
 use Rattle.lx_ir.specs.TypeNodes.{types_of_list, type_of_node}
-use Rattle.lx_ir.proofs.Layouts.{group, list_all_item}
+use Rattle.lx_ir.proofs.Layouts.{group}
 use Rattle.lx_slot_types.specs.Sites.{array_fields_at, entry_fields, fields_at, names_of, start_of, struct_fields_at}
 use Rattle.lx_slot_sums.specs.declared.making.Form.{Form}
 use Rattle.lx_slot_sums.specs.declared.spread.Spread.TheVariants as spreading

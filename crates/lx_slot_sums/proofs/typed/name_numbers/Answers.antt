@@ -1,6 +1,6 @@
 use Rattle.std.proofs.Common.{bytes_eq}
+use Rattle.lx_words.proofs.Lists.{first_all}
 use Rattle.lx_annot.specs.declared.interface.Field.{Field}
-use Rattle.lx_slot_sums.proofs.Classed.{first_all}
 use Rattle.lx_slot_sums.proofs.Numbering.{has_names}
 use Rattle.lx_slot_sums.proofs.typed.name_numbers.Goals as goal
 

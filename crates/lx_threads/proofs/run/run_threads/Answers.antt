@@ -1,9 +1,9 @@
 use Rattle.std.proofs.Common.{◌∙◌, sym, ap, subst}
 use Rattle.lx_images.specs.Image.{Code}
 use Rattle.lx_serve.specs.Stands.{program_of}
-use Rattle.lx_workers.specs.Working.{AllStand}
-use Rattle.lx_core.specs.Parts.{AreParts}
-use Rattle.lx_core.specs.Worlds.{StandsFor}
+use Rattle.lx_threads.specs.Working.{AllStand}
+use Rattle.lx_world.specs.Parts.{AreParts}
+use Rattle.lx_world.specs.Worlds.{StandsFor}
 use Rattle.lx_threads.specs.declared.runner.ThreadCode.{ThreadCode}
 use Rattle.lx_threads.specs.Imaged.{images_behind}
 use denote.Exit.{no}

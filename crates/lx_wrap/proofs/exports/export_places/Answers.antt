@@ -1,5 +1,5 @@
+use Rattle.lx_words.proofs.Lists.{first_all}
 use Rattle.lx_wrap.specs.Exported.{is_named}
-use Rattle.lx_wrap.proofs.Firsts.{first_all}
 use Rattle.lx_wrap.proofs.exports.export_places.Goals as goal
 
 pub returns : goal.returns

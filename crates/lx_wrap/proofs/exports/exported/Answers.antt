@@ -1,8 +1,8 @@
 use Rattle.std.proofs.Common.{◌≡◌, Some, None, sym, ap, ◌∙◌}
 use Rattle.std.specs.Prelude.{option_map, position}
+use Rattle.lx_words.proofs.Lists.{found_place, none_found}
 use Rattle.lx_annot.specs.declared.interface.Export.{Export}
 use Rattle.lx_wrap.specs.Exported.{at_name, is_named}
-use Rattle.lx_wrap.proofs.Firsts.{found_place, none_found}
 use Rattle.lx_wrap.proofs.exports.exported.Goals as goal
 
 pub returns-in-Some : goal.returns-in-Some

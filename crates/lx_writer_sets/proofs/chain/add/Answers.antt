@@ -1,19 +1,20 @@
 use Rattle.std.proofs.Common.{◌&&◌, ◌||◌, sym, ap, ◌∙◌, subst}
+use Rattle.std.proofs.lemmas.Bool.{or_left}
 use Rattle.lx_caps.specs.History.{same_principal}
 use Rattle.lx_writer_sets.specs.Bits.{is_set}
 use Rattle.lx_writer_sets.specs.Nodes.{has_nodes, AreNodes}
 use Rattle.lx_writer_sets.specs.Sets.{is_given}
-use Rattle.lx_writer_sets.proofs.GivenLemmas.{given_wider, or_first}
-use Rattle.lx_writer_sets.proofs.Lists.{same_is}
+use Rattle.lx_writer_sets.proofs.GivenLemmas.{given_wider}
 use Rattle.lx_writer_sets.proofs.NodeLemmas.{nodes_linked, nodes_one, nodes_put, still_some}
 use Rattle.lx_writer_sets.proofs.chain.add.Goals as goal
+use Rattle.lx_caps.proofs.Principals.{same_principal_is}
 
 pub returns-in-Some-clause-here : goal.returns-in-Some-clause-here
 returns-in-Some-clause-here c k q =
     let f = c.in-Some.ensures.found in
     let w = c.widen.ensures.here f.front f.behind f.v f.is in
     ap (λ es. is_given es k q) w.1
-    ∙ (given_wider k q f.front f.behind c.in-Some.n f.v c.args.entry w.0 (same_is c.args.entry.writer f.v.writer f.such) (w.2 k)
+    ∙ (given_wider k q f.front f.behind c.in-Some.n f.v c.args.entry w.0 (same_principal_is c.args.entry.writer f.v.writer f.such) (w.2 k)
     ∙ sym (ap (λ es. (same_principal q c.args.entry.writer && is_set c.args.entry.mask k) || is_given es k q) f.is))
 
 pub returns-in-Some-clause-some : goal.returns-in-Some-clause-some
@@ -29,7 +30,7 @@ returns-in-Some-clause-nodes c =
     nodes_one c.args.pool.now.places c.widen.new.pool.places c.args.list
     (λ all. subst AreNodes (sym w.1)
     (nodes_put f.front f.behind c.in-Some.n f.v w.0
-    (λ bit. record { bit = bit.bit; within = bit.within; set = w.2 bit.bit ∙ or_first (is_set f.v.mask bit.bit) (is_set c.args.entry.mask bit.bit) bit.set }) (subst AreNodes f.is all)))
+    (λ bit. record { bit = bit.bit; within = bit.within; set = w.2 bit.bit ∙ or_left (is_set f.v.mask bit.bit) (is_set c.args.entry.mask bit.bit) bit.set }) (subst AreNodes f.is all)))
     c.widen.ensures.others
 
 pub returns-in-None-clause-nodes : goal.returns-in-None-clause-nodes

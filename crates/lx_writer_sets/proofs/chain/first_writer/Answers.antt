@@ -6,9 +6,10 @@ use Rattle.lx_cap_nodes.specs.Words.{nodes_at}
 use Rattle.lx_writer_sets.specs.Sets.{touches, writes_in}
 use Rattle.lx_writer_sets.specs.Walks.{from}
 use Rattle.lx_writer_sets.proofs.WalkLemmas.{begins}
-use Rattle.lx_writer_sets.proofs.GivenLemmas.{first_step, so_far_all}
-use Rattle.lx_writer_sets.proofs.Lists.{same_first}
+use Rattle.lx_writer_sets.proofs.GivenLemmas.{so_far_all}
 use Rattle.lx_writer_sets.proofs.chain.first_writer.Goals as goal
+use Rattle.lx_caps.proofs.PrincipalOrder.{same_first}
+use Rattle.lx_caps.proofs.Tests.{first_step}
 
 pub loop-node-init : goal.loop-node-init
 loop-node-init c =

@@ -5,9 +5,10 @@ use Rattle.lx_cap_nodes.specs.Words.{nodes_at}
 use Rattle.lx_writer_sets.specs.Sets.{touches, writes_in}
 use Rattle.lx_writer_sets.specs.Walks.{from}
 use Rattle.lx_writer_sets.proofs.WalkLemmas.{begins}
-use Rattle.lx_writer_sets.proofs.GivenLemmas.{by_writer, not_by}
-use Rattle.lx_writer_sets.proofs.Lists.{same_self}
+use Rattle.lx_writer_sets.proofs.GivenLemmas.{by_writer}
 use Rattle.lx_writer_sets.proofs.chain.is_untouched.Goals as goal
+use Rattle.lx_caps.proofs.Tests.{or_none}
+use Rattle.lx_caps.proofs.Principals.{same_principal_itself}
 
 pub loop-node-init : goal.loop-node-init
 loop-node-init g c =
@@ -25,7 +26,7 @@ loop-node-preserved g c =
     let out : touches c.args.at.part e c.args.at.slot ≡ false = sym c.touches.ensures ∙ c.if-touches.false in
     record {
       come = c.visit-seen.ensures.next;
-      rest = λ q. not_by (same_principal q e.writer) (touches c.args.at.part e c.args.at.slot) (writes_in c.args.at.part rest c.args.at.slot q) out
+      rest = λ q. or_none (same_principal q e.writer) (touches c.args.at.part e c.args.at.slot) (writes_in c.args.at.part rest c.args.at.slot q) out
           ∙ (ap (λ r. writes_in c.args.at.part r c.args.at.slot q) (sym step) ∙ old.rest q);
       cost = let a = ap length step in let b = old.cost in let t = c.tick.ensures in omega (arith, a, b, t);
     }
@@ -39,7 +40,7 @@ returns-then-touches-clause-nobody g c =
     let here : touches c.args.at.part e c.args.at.slot ≡ true = sym c.touches.ensures ∙ c.if-touches.true in (
       e.writer,
       sym (c.loop-node.invariant.rest e.writer)
-          ∙ (ap (λ r. writes_in c.args.at.part r c.args.at.slot e.writer) step ∙ by_writer (same_principal e.writer e.writer) (touches c.args.at.part e c.args.at.slot) (writes_in c.args.at.part rest c.args.at.slot e.writer) (same_self e.writer) here),
+          ∙ (ap (λ r. writes_in c.args.at.part r c.args.at.slot e.writer) step ∙ by_writer (same_principal e.writer e.writer) (touches c.args.at.part e c.args.at.slot) (writes_in c.args.at.part rest c.args.at.slot e.writer) (same_principal_itself e.writer) here),
     )
 
 pub returns-then-touches-clause-cost : goal.returns-then-touches-clause-cost

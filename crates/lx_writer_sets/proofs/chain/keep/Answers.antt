@@ -6,8 +6,8 @@ use Rattle.lx_cap_nodes.specs.Words.{nodes_at, with_value}
 use Rattle.lx_writer_sets.specs.declared.entry.Entry.{Entry}
 use Rattle.lx_writer_sets.specs.Nodes.{with_mask, AreNodes}
 use Rattle.lx_writer_sets.proofs.NodeLemmas.{nodes_one, nodes_put, nodes_gone, some_bit}
-use Rattle.lx_writer_sets.proofs.WalkLemmas.{eq_from_ne}
 use Rattle.lx_writer_sets.proofs.chain.keep.Goals as goal
+use Rattle.lx_caps.proofs.Tests.{eq_from_ne}
 
 pub unlink-requires : goal.unlink-requires
 unlink-requires c = (c.laws.ensures.at_node Place c.args.list c.requires.front c.args.n c.requires.v c.requires.behind c.requires.is).live

@@ -1,11 +1,12 @@
 use Rattle.std.proofs.Common.{◌≡◌, ◌&&◌, ◌∷◌, false, true, sym, ap, ◌∙◌}
+use Rattle.std.proofs.lemmas.Bool.{or_left}
 use Rattle.lx_caps.specs.History.{same_principal}
 use Rattle.lx_cap_nodes.specs.declared.pool.Family.TheVariants.{Place}
 use Rattle.lx_cap_nodes.specs.Words.{nodes_at}
 use Rattle.lx_writer_sets.specs.Sets.{touches, writes_in}
 use Rattle.lx_writer_sets.specs.Walks.{from}
 use Rattle.lx_writer_sets.proofs.WalkLemmas.{begins}
-use Rattle.lx_writer_sets.proofs.GivenLemmas.{or_first, or_rest}
+use Rattle.lx_writer_sets.proofs.GivenLemmas.{or_rest}
 use Rattle.lx_writer_sets.proofs.chain.writes.Goals as goal
 
 pub loop-node-init : goal.loop-node-init
@@ -34,4 +35,4 @@ returns-then-is_by c =
     let rest = from c.visit-seen.result.next es in
     let step : from c.loop-node.node es ≡ (c.in-Some.n, e) ∷ rest = ap (λ o. from o es) c.in-Some.is ∙ c.visit-seen.ensures.entry in
     let here : (same_principal c.args.who e.writer && touches c.args.at.part e c.args.at.slot) ≡ true = sym c.is_by.ensures ∙ c.if-is_by.true in
-    sym (sym c.loop-node.invariant.rest ∙ (ap (λ r. writes_in c.args.at.part r c.args.at.slot c.args.who) step ∙ or_first (same_principal c.args.who e.writer && touches c.args.at.part e c.args.at.slot) (writes_in c.args.at.part rest c.args.at.slot c.args.who) here))
+    sym (sym c.loop-node.invariant.rest ∙ (ap (λ r. writes_in c.args.at.part r c.args.at.slot c.args.who) step ∙ or_left (same_principal c.args.who e.writer && touches c.args.at.part e c.args.at.slot) (writes_in c.args.at.part rest c.args.at.slot c.args.who) here))

@@ -1,8 +1,8 @@
 use Rattle.std.proofs.Common.{◌∙◌, ap, ℕ, List}
 use Rattle.std.specs.Borrow.{Bor}
 use Rattle.std.specs.List.{list_any}
+use Rattle.lx_words.proofs.Lists.{any_mapped}
 use Rattle.lx_annot_read.specs.Typed.{is_place}
-use Rattle.lx_annot_read.proofs.Places.{any_mapped}
 use Rattle.lx_annot_read.proofs.typed.TypedFields.has.Goals as goal
 
 pub returns : goal.returns

@@ -1,7 +1,8 @@
 use Rattle.std.proofs.Common.{sym, ◌∙◌, subst, arith}
 use Rattle.lx_cap_tables.specs.Sound.{StandsFor}
-use Rattle.lx_cap_tables.proofs.SoundLemmas.{kept_is_held, kept_by_reach}
+use Rattle.lx_cap_tables.proofs.SoundLemmas.{kept_is_held}
 use Rattle.lx_cap_tables.proofs.tables.CapTablesCapStore.keeps.Goals as goal
+use Rattle.lx_caps.proofs.OwnerLemmas.{kept_by_reach}
 
 pub holds_cap-requires : goal.holds_cap-requires
 holds_cap-requires c =

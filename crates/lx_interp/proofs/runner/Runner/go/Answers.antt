@@ -2,8 +2,9 @@ use Rattle.std.proofs.Common.{not, refl, sym, ap, ◌∙◌, subst, arith}
 use Rattle.lx_model.specs.Thread.{has_call}
 use Rattle.lx_frames.specs.Stack.{IsReadyIf}
 use Rattle.lx_interp.specs.Runner.{steps_before}
-use Rattle.lx_interp.proofs.Goings.{none_is, taken_on, goes_further, fewer_steps, same_left}
+use Rattle.lx_interp.proofs.Goings.{none_is, taken_on, goes_further, fewer_steps}
 use Rattle.lx_interp.proofs.runner.Runner.go.Goals as goal
+use Rattle.lx_interp.proofs.Takings.{left_same}
 
 pub loop-self-init : goal.loop-self-init
 loop-self-init c =
@@ -27,7 +28,7 @@ loop-self-preserved c =
     record {
       goes = goes_further p c.args.self.now r new c.loop-self.invariant.goes (goes_further p r mid new passed took);
       events = omega (arith, c.loop-self.invariant.events, c.pass_marks.ensures.spares, c.take_step.ensures.spares);
-      work = ap has_call (same_left mid new h.calls h.ended) ∙ ap has_call (same_left r mid passed.calls passed.ended) ∙ c.loop-self.invariant.work;
+      work = ap has_call (left_same mid new h.calls h.ended) ∙ ap has_call (left_same r mid passed.calls passed.ended) ∙ c.loop-self.invariant.work;
     }
 
 pub loop-self-smaller : goal.loop-self-smaller

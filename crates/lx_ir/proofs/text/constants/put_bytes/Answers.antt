@@ -1,6 +1,6 @@
 use Rattle.std.proofs.Common.{refl, get_or}
+use Rattle.lx_words.proofs.Lists.{next_text, all_texts}
 use Rattle.lx_ir.specs.Text.{byte_text}
-use Rattle.lx_ir.proofs.Joined.{next_text, all_texts}
 use Rattle.lx_ir.proofs.text.constants.put_bytes.Goals as goal
 
 pub loop-byte-preserved : goal.loop-byte-preserved

@@ -1,5 +1,5 @@
+use Rattle.lx_words.proofs.Lists.{next_text, all_texts}
 use Rattle.lx_ir.specs.Text.{instr_text}
-use Rattle.lx_ir.proofs.Joined.{next_text, all_texts}
 use Rattle.lx_ir.proofs.text.functions.put_instrs.Goals as goal
 
 pub loop-instr-preserved : goal.loop-instr-preserved

@@ -1,6 +1,6 @@
 use Rattle.std.proofs.Common.{◌∙◌, ap}
 use Rattle.std.proofs.lemmas.Result.{err_from_is_err_and}
-use Rattle.lx_core.specs.Wants.{asked_of}
+use Rattle.lx_world.specs.Wants.{asked_of}
 use Rattle.lx_images.specs.ImageWorld.{image_opening, image_run}
 use Rattle.lx_simulation.specs.Images.{code_of}
 use Rattle.lx_why.proofs.Behind.{asked_same}

@@ -1,5 +1,5 @@
 use Rattle.std.proofs.Common.{◌≡◌, ◌∙◌, ap, sym, Result, Err}
-use Rattle.lx_core.specs.declared.fault.EventFault.{EventFault}
+use Rattle.lx_world.specs.declared.fault.EventFault.{EventFault}
 use Rattle.lx_images.specs.ImageWorld.{image_opening, image_run}
 use Rattle.lx_simulation.specs.Images.{code_of}
 use Rattle.lx_why.specs.Why.{behind}

@@ -1,12 +1,13 @@
 use Rattle.std.proofs.Common.{◌≡◌, ◌+◌, ◌/◌, false, nat_eq, ap, sym, ◌∙◌, arith}
 use Rattle.std.proofs.lemmas.Bool.Decides.{nat_tests}
+use Rattle.std.proofs.lemmas.Bool.{true_from_ne_false}
 use Rattle.lx_caps.specs.declared.Principal.{Principal}
 use Rattle.lx_caps.specs.Writers.{is_slot_writer}
 use Rattle.lx_writer_sets.specs.Sets.{count_in, part_list, writes_part}
 use Rattle.lx_writer_sets.proofs.BoundLemmas.{first_within, both_within}
-use Rattle.lx_writer_sets.proofs.Slots.{at_slot, nobody_of, somebody_of, someone, true_if, nobody_in_both, one_alone, writer_in_first, writer_in_last}
-use Rattle.lx_writer_sets.proofs.WalkLemmas.{eq_from_ne}
+use Rattle.lx_writer_sets.proofs.Slots.{at_slot, nobody_of, somebody_of, someone, nobody_in_both, one_alone, writer_in_first, writer_in_last}
 use Rattle.lx_writer_sets.proofs.sets.WriterSets.is_clean_counted.Goals as goal
+use Rattle.lx_caps.proofs.Tests.{eq_from_ne}
 
 pub returns-then-not-is_untouched-clause-clean : goal.returns-then-not-is_untouched-clause-clean
 returns-then-not-is_untouched-clause-clean g c h stands =
@@ -63,7 +64,7 @@ returns-else-first-last-clause-clean g c h stands =
     let none = nobody_of one.result a (at_slot lists one.result first.result.part first.result.slot slot (slot / 64) first.ensures.slot first.ensures.part one.ensures.nobody) c.if-not-is_untouched.false in
     let told = at_slot lists two.result last.result.part last.result.slot slot ((slot + 7) / 64) last.ensures.slot last.ensures.part two.ensures.nobody in (
       λ t q. nobody_in_both lists h slot stands none (nobody_of two.result b told t) q,
-      λ clean. true_if two.result (λ out. someone b (λ (q : Principal). is_slot_writer h slot q) (writer_in_last lists h slot stands) (somebody_of two.result b told out) clean),
+      λ clean. true_from_ne_false two.result (λ out. someone b (λ (q : Principal). is_slot_writer h slot q) (writer_in_last lists h slot stands) (somebody_of two.result b told out) clean),
     )
 
 pub returns-else-first-last-clause-bound : goal.returns-else-first-last-clause-bound

@@ -1,4 +1,0 @@
-pub mod Alike
-pub mod Marked
-pub mod Wrappers
-pub mod Images

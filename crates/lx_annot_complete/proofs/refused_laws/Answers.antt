@@ -1,5 +1,0 @@
-use Rattle.lx_annot_complete.proofs.Texts.{stands_nowhere}
-use Rattle.lx_annot_complete.proofs.refused_laws.Goals as goal
-
-pub returns : goal.returns
-returns c = stands_nowhere c.interface_laws.ensures.apart

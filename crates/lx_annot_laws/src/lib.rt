@@ -1,0 +1,118 @@
+//! Laws of interface texts, as statements and as prototypes of C: a token at which reading stops cannot stand there, whatever follows it, and
+//! what is printed of an interface is read again as the interface, its lines aside.
+//!
+//! ```text
+//! refused_laws();
+//! // Where the first fault of a text is the token `)`, no text that is the same up to that token is an interface.
+//! printed_interface_laws();
+//! // What is printed of an interface that a text says is read as the interface, lines aside, where its statements are short enough.
+//! ```
+#![tactic(auto)]
+
+ghost use Rattle.lx_annot_laws.specs.GrownLaws.{AnnotationsGrow, ItemsGrow};
+ghost use Rattle.lx_annot_laws.specs.PrintedPartLaws.{ActionsArePrinted, AnnotationsArePrinted, ExprsArePrinted, ItemsArePrinted, ParamsArePrinted};
+ghost use Rattle.lx_annot_laws.specs.PieceLaws.{LaidAreScanned, PlacesDoNotCount};
+ghost use Rattle.lx_annot_laws.specs.PieceRows.{WorkedPieces};
+ghost use Rattle.lx_annot_read.specs.Texts.{SaysInterface};
+ghost use Rattle.lx_annot_laws.specs.RoundTripLaws.{PrintedAreRead, SayableAreRead, TextsAreLines};
+ghost use Rattle.lx_annot_laws.specs.Rows.{WorkedInterface};
+ghost use Rattle.lx_annot_laws.specs.SayableLaws.{InterfacesAreSayable};
+ghost use Rattle.lx_annot_laws.specs.PrototypeSayableLaws.{PrototypesAreSayable};
+ghost use Rattle.lx_annot_laws.specs.PrototypeRoundTripLaws.{PrintedPrototypesAreRead};
+ghost use Rattle.lx_annot_laws.specs.RefusedLaws.{RefusedTokensStandNowhere};
+ghost use Rattle.lx_annot_laws.specs.RefusedPartLaws.{ClausesAreRefused, ItemsAreRefused, StatementsAreRefused};
+ghost use Rattle.lx_annot_laws.specs.PrototypeRefusedLaws.{RefusedPrototypeTokensStandNowhere};
+
+use lx_annot_grammar::interface_laws;
+use lx_cproto_grammar::prototype_laws;
+use lx_words::number_texts;
+
+/// A text that is laid out as lexemes is cut into them, and its tokens are those of the pieces.
+pub fn interface_lexeme_laws()
+    ensures scanned { LaidAreScanned }
+    ensures placed { PlacesDoNotCount }
+{}
+
+/// Worked rows: where lexemes end, and which tokens pieces are.
+pub fn worked_pieces()
+    ensures { WorkedPieces }
+{}
+
+/// What items and annotations are made of stays so where more is declared, and where actions may lend.
+pub fn grown_laws()
+    ensures items { ItemsGrow }
+    ensures annotations { AnnotationsGrow }
+{}
+
+/// The printed text of each part of an interface says that part, where it was read of a text.
+pub fn printed_part_laws()
+    ensures exprs { ExprsArePrinted }
+    ensures actions { ActionsArePrinted }
+    ensures items { ItemsArePrinted }
+    ensures annotations { AnnotationsArePrinted }
+    ensures params { ParamsArePrinted }
+{
+    number_texts();
+}
+
+/// Each interface that is read has a text that says it.
+pub fn sayable_laws()
+    ensures { InterfacesAreSayable }
+{}
+
+/// A printed text is its first line and those of its statements.
+pub fn interface_line_laws()
+    ensures { TextsAreLines }
+{}
+
+/// What is printed of an interface is read again as the same interface, its lines aside, where each printed statement has no more
+/// tokens than one may have. So it is of each interface that can be said, whatever text it was read of.
+pub fn printed_interface_laws()
+    ensures sayable { SayableAreRead }
+    ensures printed { PrintedAreRead SaysInterface }
+{
+    number_texts();
+    interface_laws();
+}
+
+/// A worked row: an interface with one of each kind, and its text.
+pub fn worked_interface()
+    ensures { WorkedInterface }
+{}
+
+/// Each interface that prototypes say has a text that says it.
+pub fn sayable_prototype_laws()
+    ensures { PrototypesAreSayable }
+{}
+
+/// What is printed of an interface that prototypes say is read again as the interface, its lines aside, where no line of it has more
+/// tokens than a statement may have.
+pub fn printed_prototype_laws()
+    ensures { PrintedPrototypesAreRead }
+{
+    prototype_laws();
+    printed_interface_laws();
+}
+
+/// A token at which the reading of clauses, of items or of a statement stops cannot stand there.
+pub fn part_refusal_laws()
+    ensures clauses { ClausesAreRefused }
+    ensures items { ItemsAreRefused }
+    ensures statements { StatementsAreRefused }
+{}
+
+/// A token at which the first reading of a text stops cannot stand there: each text with the same tokens up to it has its first fault
+/// there, and is no interface.
+pub fn refused_laws()
+    ensures { RefusedTokensStandNowhere }
+{
+    interface_laws();
+}
+
+/// A token at which the first reading of a text stops cannot stand there: each text with the same tokens up to it has its first fault
+/// there, and is no interface.
+pub fn refused_prototype_laws()
+    ensures { RefusedPrototypeTokensStandNowhere }
+{
+    prototype_laws();
+}

@@ -1,4 +1,0 @@
-pub mod Sayable
-pub mod SayableLaws
-pub mod Laws
-pub mod Rows

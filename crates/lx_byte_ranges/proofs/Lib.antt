@@ -1,3 +1,0 @@
-mod NextBit
-mod MoreRuns
-mod MoreParts

@@ -1,7 +1,0 @@
-use Rattle.std.proofs.Common.{arith}
-use Rattle.std.proofs.lemmas.Bool.Decides.{nat_tests}
-use Rattle.lx_byte_ranges.proofs.MoreRuns.{stands_apart}
-use Rattle.lx_byte_ranges.proofs.runs.put_run.Goals as goal
-
-pub returns : goal.returns
-returns c = λ p. stands_apart p _ _ c.args.last c.args.run (grind (arith, nat_tests, c.if-last-run.false)) c.in_ok-put_span.ensures

@@ -1,4 +1,0 @@
-pub mod Bits
-pub mod Parts
-pub mod Runs
-pub mod Walk

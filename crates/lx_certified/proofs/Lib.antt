@@ -1,2 +1,0 @@
-pub mod True
-pub mod Allowing

@@ -1,7 +1,0 @@
-pub mod Copied
-pub mod Firsts
-pub mod TypeParts
-pub mod Placed
-pub mod Ways
-pub mod Sized
-pub mod Crossing

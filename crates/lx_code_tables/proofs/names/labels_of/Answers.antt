@@ -1,6 +1,0 @@
-use Rattle.lx_code_tables.specs.Firsts.{is_named}
-use Rattle.lx_code_tables.proofs.Firsts.{first_all}
-use Rattle.lx_code_tables.proofs.names.labels_of.Goals as goal
-
-pub returns : goal.returns
-returns c = λ name. first_all (is_named name) c.args.blocks.now c.loop-left.left _ c.loop-left-test.false (c.loop-left.invariant.so_far name)

@@ -1,4 +1,0 @@
-pub mod Leaves
-pub mod Named
-pub mod Options
-pub mod Said

@@ -1,5 +1,0 @@
-use Rattle.std.proofs.Common.{refl}
-use Rattle.lx_core.proofs.world.World.open.Goals as goal
-
-pub returns-in-Ok-clause-opens : goal.returns-in-Ok-clause-opens
-returns-in-Ok-clause-opens g c = record { code = refl; shared = c.open_runners.ensures.stands _ _ c.requires.opened; threads = c.in-Ok.ensures.stand }

@@ -1,2 +1,0 @@
-pub mod SayableLaws
-pub mod Laws

@@ -1,8 +1,0 @@
--- The laws are lemmas.
-use Rattle.lx_fitting.proofs.Runs.{opens, asks, runs}
-use Rattle.lx_fitting.proofs.Taking.{kept}
-use Rattle.lx_fitting.proofs.Serving.{served}
-use Rattle.lx_fitting.proofs.fitting_laws.Goals as goal
-
-pub returns : goal.returns
-returns c = record { opens = opens; asks = asks; kept = kept; served = served; runs = runs }

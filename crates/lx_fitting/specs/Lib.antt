@@ -1,3 +1,0 @@
-pub mod Threads
-pub mod Replies
-pub mod Laws

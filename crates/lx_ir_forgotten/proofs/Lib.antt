@@ -1,9 +1,0 @@
-pub mod SeenTypes
-pub mod SeenConstants
-pub mod SeenInits
-pub mod SeenOperands
-pub mod SeenCalls
-pub mod ReadWhere
-pub mod SeenForms
-pub mod SeenBlocks
-pub mod SeenStatements

@@ -1,4 +1,0 @@
-pub mod Members
-pub mod FirstBlocks
-pub mod Additions
-pub mod Predecessors

@@ -1,6 +1,0 @@
-use Rattle.std.proofs.Common.{arith}
-use Rattle.lx_ir_round_trip.proofs.LawfulShapes.{inside}
-use Rattle.lx_ir_round_trip.proofs.limit_laws.Goals as goal
-
-pub returns : goal.returns
-returns c types t h = inside types 64 t h (omega arith)

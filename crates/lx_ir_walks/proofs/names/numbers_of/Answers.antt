@@ -1,0 +1,6 @@
+use Rattle.lx_words.proofs.Lists.{first_all}
+use Rattle.lx_ir_walks.specs.Numbers.{is_named}
+use Rattle.lx_ir_walks.proofs.names.numbers_of.Goals as goal
+
+pub returns : goal.returns
+returns c = λ name. first_all (is_named name) c.args.blocks.now c.loop-left.left _ c.loop-left-test.false (c.loop-left.invariant.so_far name)

@@ -1,3 +1,0 @@
-pub mod Programs
-mod Alone
-mod Callers

@@ -1,4 +1,0 @@
-pub mod Accounts
-pub mod Atoms
-pub mod Listing
-pub mod Laws

@@ -1,5 +1,0 @@
-use Rattle.lx_reach_bound.proofs.Turns.{PassedReferences}
-use Rattle.lx_reach_bound.proofs.closing.pass_references.Given as goal
-
-abbrev pub invariant-loop-place : goal.invariant-loop-place
-invariant-loop-place l = PassedReferences l.program l.initial.work l.work l.place

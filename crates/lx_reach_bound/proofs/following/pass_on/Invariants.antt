@@ -1,5 +1,0 @@
-use Rattle.lx_reach_bound.proofs.Passing.{PassedBelow}
-use Rattle.lx_reach_bound.proofs.following.pass_on.Given as goal
-
-abbrev pub invariant-loop-place : goal.invariant-loop-place
-invariant-loop-place l = PassedBelow l.program l.initial.work l.work l.holder l.what l.place

@@ -1,9 +1,0 @@
-pub mod Pairs
-pub mod Bound
-pub mod Waits
-pub mod Marks
-pub mod Work
-pub mod Naming
-pub mod Right
-pub mod Given
-pub mod Begun

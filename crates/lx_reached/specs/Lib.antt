@@ -1,5 +1,0 @@
-pub mod Stopped
-pub mod Texts
-pub mod Listed
-pub mod Opened
-pub mod Laws

@@ -1,7 +1,0 @@
--- The laws are lemmas.
-use Rattle.lx_refusals.proofs.Explaining.{is_explained, run_explained}
-use Rattle.lx_refusals.proofs.Running.{opening_caused}
-use Rattle.lx_refusals.proofs.refusal_laws.Goals as goal
-
-pub returns : goal.returns
-returns c = record { replies = is_explained; runs = run_explained; caused = opening_caused }

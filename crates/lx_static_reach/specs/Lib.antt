@@ -1,4 +1,0 @@
-pub mod Names
-pub mod Reach
-pub mod Laws
-pub mod Other

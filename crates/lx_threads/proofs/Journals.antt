@@ -1,0 +1,39 @@
+-- The journal has one entry more for each request that is served.
+use Rattle.std.proofs.Common.{◌≡◌, ◌∙◌, refl, ap, ℕ, Option, Some, None, List, [], ◌∷◌, ◌++◌, map}
+use Rattle.lx_model.specs.declared.program.Program.{Program}
+use Rattle.lx_model.specs.declared.request.Entry.{Entry as JournalEntry}
+use Rattle.lx_model.specs.declared.request.Outcome.{Outcome}
+use Rattle.lx_model.specs.declared.request.Request.{Request}
+use Rattle.lx_model.specs.State.{State}
+use Rattle.lx_model.specs.Decide.{decide}
+use Rattle.lx_model.specs.Serve.{serve_by}
+use Rattle.lx_caplock.specs.declared.knowledge.Entry.{Entry}
+use Rattle.lx_caplock.specs.Serving.{served_by, state_after}
+use Rattle.lx_threads.specs.Monitor.{threads_of}
+use Rattle.lx_model.proofs.Journals.{granted_journal}
+use Rattle.lx_model.proofs.Threads.{threads_push}
+
+served_journal : (p : Program) (s : State) (t : ℕ) (r : Request) (d : Option Outcome) → (serve_by d p s t r).state.journal ≡ s.journal
+served_journal p s t r (Some o) = refl
+served_journal p s t r None = granted_journal p s t r.who r.what
+
+journal_one : (p : Program) (s : State) (e : Entry) → map (λ x. x.thread) (served_by p s e).state.journal ≡ map (λ x. x.thread) s.journal ++ e.thread ∷ []
+journal_one p s e =
+    let x = serve_by (decide p s e.thread e.request) p s e.thread e.request in
+    threads_push x.state.journal (record { thread = e.thread; request = e.request; reply = x.reply }) ∙ ap (λ (l : List JournalEntry). map (λ y. y.thread) l ++ e.thread ∷ []) (served_journal p s e.thread e.request (decide p s e.thread e.request))
+
+in_order : (xs ys : List ℕ) (t : ℕ) → (xs ++ t ∷ []) ++ ys ≡ xs ++ t ∷ ys
+in_order [] ys t = refl
+in_order (x ∷ xs) ys t = ap (λ l. x ∷ l) (in_order xs ys t)
+
+nothing_more : (xs : List ℕ) → xs ≡ xs ++ []
+nothing_more [] = refl
+nothing_more (x ∷ xs) = ap (λ l. x ∷ l) (nothing_more xs)
+
+-- the schedule goes on by the threads of the history
+pub schedule_after : (p : Program) (s : State) (history : List Entry) → map (λ e. e.thread) (state_after p s history).journal ≡ map (λ e. e.thread) s.journal ++ threads_of history
+schedule_after p s [] = nothing_more (map (λ e. e.thread) s.journal)
+schedule_after p s (e ∷ es) =
+    schedule_after p (served_by p s e).state es
+    ∙ ap (λ l. l ++ threads_of es) (journal_one p s e)
+    ∙ in_order (map (λ x. x.thread) s.journal) (threads_of es) e.thread

@@ -1,0 +1,16 @@
+pub mod Accounting
+pub mod Asked
+pub mod Atoms
+pub mod Calls
+pub mod Counted
+pub mod Cuts
+pub mod Gathered
+pub mod Listed
+pub mod Mentioned
+pub mod Numbered
+pub mod Ranges
+pub mod Replies
+pub mod Standing
+pub mod Turns
+pub mod Wanted
+pub mod Wrapped

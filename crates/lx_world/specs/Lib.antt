@@ -1,0 +1,12 @@
+pub mod Accounts
+pub mod Answers
+pub mod Atoms
+pub mod ImageRequestLaws
+pub mod Laws
+pub mod Lending
+pub mod Listing
+pub mod OnImageStack
+pub mod OwnerAccounts
+pub mod Parts
+pub mod Wants
+pub mod Worlds
