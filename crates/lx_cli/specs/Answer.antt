@@ -25,7 +25,7 @@ use Rattle.lx_input.specs.Files.ImageFile.{ImageFile}
 use Rattle.lx_input.specs.declared.input.Input.{Input}
 use Rattle.lx_surface.specs.Laws.{IsBounded}
 use Rattle.lx_surface.specs.declared.limits.Bound.{Bound}
-use Rattle.lx_surface.specs.ExactBound.{IsExact}
+use Rattle.lx_surface.specs.Bound.{IsExact}
 use Rattle.lx_surface.specs.Text.{bound_text}
 use Rattle.lx_cli.specs.Command.{Command, Run, Replay, Instrument, Check, Generate, Surface, Why}
 use Rattle.lx_runs.specs.Reports.{IsAsked, IsReport, all_returned, broken_at}

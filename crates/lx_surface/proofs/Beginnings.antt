@@ -14,7 +14,7 @@ use Rattle.lx_surface.specs.declared.Thing.TheVariants.{Function}
 use Rattle.lx_surface.specs.Names.{gives_before}
 use Rattle.lx_surface.specs.Reach.{Can, declares, defines, into_own}
 use Rattle.lx_surface.specs.declared.work.Work.{Work}
-use Rattle.lx_surface.specs.ExactBound.{allows}
+use Rattle.lx_surface.specs.Bound.{allows}
 use Rattle.lx_surface.specs.Begun.{Declares, DeclaresAll, DeclaresFrom, HasOwn, Opens, OpensAll, declared_in}
 use Rattle.lx_surface.specs.Given.{Gave}
 use Rattle.lx_surface.specs.Right.{IsRight}

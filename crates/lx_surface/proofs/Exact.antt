@@ -9,7 +9,7 @@ use Rattle.lx_surface.specs.Names.{gives_before}
 use Rattle.lx_surface.specs.Reach.{Can, declares, defines, from_kernel, from_other, into_own}
 use Rattle.lx_surface.specs.declared.limits.Bound.{Bound}
 use Rattle.lx_surface.specs.Pairs.{has_pair}
-use Rattle.lx_surface.specs.ExactBound.{IsExact, allows}
+use Rattle.lx_surface.specs.Bound.{IsExact, allows}
 use Rattle.lx_surface.specs.declared.work.Work.{Work}
 use Rattle.lx_surface.specs.Begun.{DeclaresAll, OpensAll}
 use Rattle.lx_surface.specs.Given.{Closes, IsClosed, comes_of}

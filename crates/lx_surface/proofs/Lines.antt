@@ -6,7 +6,7 @@ use Rattle.lx_model.specs.declared.program.ProgramFunction.{ProgramFunction}
 use Rattle.lx_model.specs.declared.program.ProgramFunction.TheVariants.{Native, Of}
 use Rattle.lx_surface.specs.declared.Thing.TheVariants.{RefType, Function}
 use Rattle.lx_surface.specs.declared.limits.Bound.{Bound}
-use Rattle.lx_surface.specs.ExactBound.{allows}
+use Rattle.lx_surface.specs.Bound.{allows}
 use Rattle.lx_surface.specs.Text.{call_line, entry_line, line_if, named_line}
 use Rattle.lx_model.proofs.Items.{nothing_behind}
 

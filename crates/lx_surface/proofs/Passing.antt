@@ -7,7 +7,7 @@ use Rattle.lx_surface.specs.declared.Thing.TheVariants.{RefType, Function}
 use Rattle.lx_surface.specs.declared.waits.Waits.{Waits}
 use Rattle.lx_surface.specs.declared.limits.Bound.{Bound}
 use Rattle.lx_surface.specs.declared.work.Work.{Work}
-use Rattle.lx_surface.specs.ExactBound.{allows, with_thing}
+use Rattle.lx_surface.specs.Bound.{allows, with_thing}
 use Rattle.lx_surface.specs.Given.{Passed, PassedTo}
 use Rattle.lx_surface.specs.Right.{IsRight}
 use Rattle.lx_surface.specs.Waits.{has_number, waits}

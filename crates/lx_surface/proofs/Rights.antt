@@ -7,7 +7,7 @@ use Rattle.lx_surface.specs.declared.Thing.TheVariants.{RefType, Function}
 use Rattle.lx_surface.specs.Reach.{Can}
 use Rattle.lx_surface.specs.declared.limits.Bound.{Bound}
 use Rattle.lx_surface.specs.declared.work.Work.{Work}
-use Rattle.lx_surface.specs.ExactBound.{allows, with_thing}
+use Rattle.lx_surface.specs.Bound.{allows, with_thing}
 use Rattle.lx_surface.specs.Marks.{has_mark, with_mark}
 use Rattle.lx_surface.specs.Naming.{whole_names}
 use Rattle.lx_surface.specs.Pairs.{Pair}

@@ -10,7 +10,7 @@ use Rattle.lx_surface.specs.declared.Thing.TheVariants.{RefType, Function}
 use Rattle.lx_surface.specs.Reach.{Can}
 use Rattle.lx_surface.specs.declared.limits.Bound.{Bound}
 use Rattle.lx_surface.specs.Pairs.{Pair, has_pair, is_pair, with_pair}
-use Rattle.lx_surface.specs.ExactBound.{allows, with_thing}
+use Rattle.lx_surface.specs.Bound.{allows, with_thing}
 use Rattle.lx_surface.specs.Naming.{is_thing}
 use Rattle.lx_surface.specs.Right.{IsSound}
 use Rattle.lx_surface.specs.Work.{Extends, IsLonger}

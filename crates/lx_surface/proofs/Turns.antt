@@ -7,7 +7,7 @@ use Rattle.lx_surface.specs.declared.Thing.{Thing}
 use Rattle.lx_surface.specs.declared.Thing.TheVariants.{RefType, Function}
 use Rattle.lx_surface.specs.Names.{gives_behind}
 use Rattle.lx_surface.specs.declared.work.Work.{Work}
-use Rattle.lx_surface.specs.ExactBound.{allows}
+use Rattle.lx_surface.specs.Bound.{allows}
 use Rattle.lx_surface.specs.Given.{Closes, Followed, FollowedAll, IsFollowed, Passed, PassedAll, comes_of}
 use Rattle.lx_surface.specs.Pairs.{Pair, has_pair}
 use Rattle.lx_surface.specs.Right.{IsDone, IsRight}

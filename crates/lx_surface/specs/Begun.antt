@@ -9,7 +9,7 @@ use Rattle.lx_surface.specs.declared.Thing.TheVariants.{Function}
 use Rattle.lx_surface.specs.Names.{gives_before}
 use Rattle.lx_surface.specs.Reach.{Can}
 use Rattle.lx_surface.specs.declared.work.Work.{Work}
-use Rattle.lx_surface.specs.ExactBound.{allows}
+use Rattle.lx_surface.specs.Bound.{allows}
 use Rattle.lx_surface.specs.Right.{IsRight}
 use Rattle.lx_surface.specs.Work.{Grows}
 

@@ -8,7 +8,7 @@ use Rattle.lx_surface.specs.Names.{gives_behind}
 use Rattle.lx_surface.specs.Reach.{Can}
 use Rattle.lx_surface.specs.declared.limits.Bound.{Bound}
 use Rattle.lx_surface.specs.declared.work.Work.{Work}
-use Rattle.lx_surface.specs.ExactBound.{allows}
+use Rattle.lx_surface.specs.Bound.{allows}
 use Rattle.lx_surface.specs.Right.{IsRight, IsSound, May}
 use Rattle.lx_surface.specs.Waits.{has_number, waits}
 use Rattle.lx_surface.specs.Work.{Grows, is_given}

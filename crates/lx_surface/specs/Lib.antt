@@ -1,6 +1,5 @@
 pub mod Begun
 pub mod Bound
-pub mod ExactBound
 pub mod Given
 pub mod Laws
 pub mod Marks

@@ -8,7 +8,7 @@ use Rattle.lx_model.specs.declared.program.ProgramFunction.{ProgramFunction}
 use Rattle.lx_model.specs.declared.program.ProgramFunction.TheVariants.{Of}
 use Rattle.lx_surface.specs.declared.Thing.TheVariants.{RefType, Function}
 use Rattle.lx_surface.specs.declared.limits.Bound.{Bound}
-use Rattle.lx_surface.specs.ExactBound.{allows}
+use Rattle.lx_surface.specs.Bound.{allows}
 
 -- a module can come to hold references of a type
 unfoldable pub ref_line : List ℕ → List ℕ → List ℕ

@@ -3,7 +3,7 @@ use Rattle.std.specs.Prelude.{◌≡◌, ℕ, Bool, true, Option, Some, None, Li
 use Rattle.lx_surface.specs.declared.Thing.{Thing}
 use Rattle.lx_surface.specs.declared.limits.Bound.{Bound}
 use Rattle.lx_surface.specs.declared.work.Work.{Work}
-use Rattle.lx_surface.specs.ExactBound.{allows, with_thing}
+use Rattle.lx_surface.specs.Bound.{allows, with_thing}
 use Rattle.lx_surface.specs.Pairs.{Pair}
 use Rattle.lx_surface.specs.Waits.{waits, with_wait}
 

@@ -1,6 +1,6 @@
 //! What each module can come to hold.
 ghost use Rattle.std.specs.Prelude.{◌≡◌, OnOk, []};
-ghost use Rattle.lx_surface.specs.ExactBound.{allows, with_thing};
+ghost use Rattle.lx_surface.specs.Bound.{allows, with_thing};
 
 use crate::Thing;
 use crate::pairs::Pairs;

@@ -2,7 +2,7 @@
 ghost use Rattle.std.specs.Prelude.{◌≡◌, ◌≤◌, [], IfOk, None, OnOk, Some, bytes_eq, codes, length, option_copied, unwrap_or};
 ghost use Rattle.lx_model.specs.Program.{empty_module, kernel_function, module_of};
 ghost use Rattle.lx_serve.specs.Sources.{Knows};
-ghost use Rattle.lx_surface.specs.ExactBound.{IsExact};
+ghost use Rattle.lx_surface.specs.Bound.{IsExact};
 ghost use Rattle.lx_surface.specs.Work.{IsEmpty};
 ghost use Rattle.lx_surface.specs.Begun.{Declares, DeclaresAll, DeclaresFrom, Opens, OpensAll, declared_in};
 

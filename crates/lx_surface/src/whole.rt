@@ -4,7 +4,7 @@ ghost use Rattle.lx_annotation_tables.specs.Entries.{all_annotated};
 ghost use Rattle.lx_ir.specs.Lawful.{IsLawful};
 ghost use Rattle.lx_link_texts.specs.WellFormed.{IsWellFormed};
 ghost use Rattle.lx_propagate.specs.Slots.{annotated_of};
-ghost use Rattle.lx_surface.specs.ExactBound.{IsExact};
+ghost use Rattle.lx_surface.specs.Bound.{IsExact};
 
 use crate::{Bound, bound_of};
 use lx_annot::interface::Interface;
