@@ -235,9 +235,9 @@ numbers_registers f =
 abbrev pub parameter_names : Function → List (List ℕ)
 parameter_names f = map (λ p. p.name) f.params
 
--- an import keeps no names, and the import of a block write is not kept
+-- an import keeps no names
 abbrev pub is_lawful_import : Function → Bool
-is_lawful_import f = list_all (λ p. nat_eq (length p.name) 0) f.params && nat_eq (length f.locals) 0 && not (is_block_write f.name)
+is_lawful_import f = list_all (λ p. nat_eq (length p.name) 0) f.params && nat_eq (length f.locals) 0
 
 abbrev pub is_lawful_body : Module → Function → Bool
 is_lawful_body m f =
@@ -249,8 +249,9 @@ is_lawful_body m f =
     && list_all (is_lawful_block m f) (blocks_of f)
     && numbers_registers f
 
+-- Its name is no block write's: the import of one is not kept, and no text defines one.
 abbrev pub is_lawful_function : Module → Function → Bool
-is_lawful_function m f = is_name f.name && (if is_defined f then is_lawful_body m f else is_lawful_import f)
+is_lawful_function m f = is_name f.name && not (is_block_write f.name) && (if is_defined f then is_lawful_body m f else is_lawful_import f)
 
 -- the imports stand first
 abbrev pub imports_first : List Function → Bool
