@@ -13,7 +13,7 @@
 //!
 //! A schedule says which thread each event is of, as `schedule 0*8 1*6 0*8`. [`read_case`] and [`read_schedule`] answer
 //! the value that a text says, or the first fault that is met in it, with its line and its words. [`one_case`] and
-//! [`one_schedule`] state that a text has no second value and no second fault.
+//! [`one_schedule`] state that a text has no second value and no second fault. [`generate`] makes cases of any number of calls.
 #![tactic(auto)]
 
 mod case;
@@ -34,5 +34,6 @@ pub use case::{
     CaseThreads, Origin,
 };
 pub use fault::CaseFault;
+pub use lx_generate::{Generated, generate};
 pub use reader::{one_case, read_case};
 pub use schedule::{one_schedule, read_schedule};

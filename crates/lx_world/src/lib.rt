@@ -26,6 +26,7 @@ mod world;
 pub use fault::EventFault;
 pub use instances::instance_names;
 pub use laws::{image_answer_laws, image_request_laws};
+pub use lx_serve::SharedPart;
 pub use ownership::owners;
 pub use runners::Runners;
 pub use world::World;
