@@ -1,16 +1,16 @@
 -- What a call tells its caller.
-use Rattle.std.proofs.Common.{◌≡◌, inl, inr, ℕ, arith, subst, List, [], ◌∷◌, ◌++◌, sym, refl, ap, ◌∙◌, append-nil}
+use Rattle.std.proofs.Common.{◌≡◌, inl, inr, ⊎_elim, ℕ, ◌<◌, ◌≤◌, arith, subst, List, [], ◌∷◌, ◌++◌, sym, refl, ap, ◌∙◌, append-nil}
 use Rattle.std.specs.Prelude as std
 use Rattle.atomic_table.specs.Table.{Me, Step}
 use Rattle.lx_caplock.specs.declared.knowledge.Entry.{Entry}
 use Rattle.lx_model.specs.declared.request.Request.{Request}
 use Rattle.lx_model.specs.declared.request.Reply.{Reply}
 use Rattle.lx_caplock.specs.declared.knowledge.View.{View}
-use Rattle.lx_caplock.specs.History.{entries_of, entry}
+use Rattle.lx_caplock.specs.History.{entries_of, entry, In}
 use Rattle.lx_caplock.specs.Views.{waiting, serving, released, merged}
 use Rattle.lx_caplock.specs.Telling.{Learns, TellsSettle}
 use Rattle.lx_caplock.specs.Calls.{Answers, Refuses, HasJoined}
-use Rattle.lx_caplock.proofs.Histories.{entries_of-append, entries_of-own, entries_of-other, begins_more, quiet_entries}
+use Rattle.lx_caplock.proofs.Histories.{entries_of-append, entries_of-own, entries_of-other, begins_more, quiet_entries, in_either}
 
 -- nothing was added
 pub counted_none : (n : ℕ) (history mine : List Entry) → entries_of n history ≡ mine → entries_of n (history ++ []) ≡ mine ++ []
@@ -53,8 +53,15 @@ module _ {T : Type 0} (legal : std.Option T → List Entry → Type 0) (v : View
   }
 
 module _ {T : Type 0} where
-  pub joined : (v w : View T) (s : Step T) (m n : Me T (View T)) (r : ℕ) → m.0 ≡ merged v w → entries_of w.number w.seen ≡ w.mine → TellsSettle s m r n → HasJoined v w n.0
-  joined v w s m n r is mine_seen t = go (subst (λ (u : View T). TellsSettle s (u, m.1) r n) is t)
+  -- all numbers that both have were out when either last looked
+  ended_below : (v w : View T) (n : ℕ) → v.out ≤ n → w.out ≤ n → w.number < w.out → ((k : ℕ) → In k v.ended → k < v.out) → ((k : ℕ) → In k w.ended → k < w.out)
+      → (k : ℕ) → In k ((w.number ∷ w.ended) ++ v.ended) → k < n
+  ended_below v w n low their_low their_number own theirs k h =
+      ⊎_elim (⊎_elim (λ (e : k ≡ w.number). omega arith) (λ x. let a = theirs k x in omega arith)) (λ x. let a = own k x in omega arith) (in_either k (w.number ∷ w.ended) v.ended h)
+
+  pub joined : (v w : View T) (s : Step T) (m n : Me T (View T)) (r : ℕ) → m.0 ≡ merged v w → entries_of w.number w.seen ≡ w.mine → v.number < v.out → w.number < w.out
+      → ((k : ℕ) → In k v.ended → k < v.out) → ((k : ℕ) → In k w.ended → k < w.out) → TellsSettle s m r n → HasJoined v w n.0
+  joined v w s m n r is mine_seen number their_number own_below theirs_below t = go (subst (λ (u : View T). TellsSettle s (u, m.1) r n) is t)
     where
       go : TellsSettle s (merged v w, m.1) r n → HasJoined v w n.0
       go (history, now, learns, unsettled_seen, more, theirs, seats, others) = subst (HasJoined v w) (sym (ap (λ x. x.0) now)) record {
@@ -73,4 +80,6 @@ module _ {T : Type 0} where
         out = omega arith;
         their_out = omega arith;
         within_seats = omega arith;
+        number_out = omega arith;
+        ended_out = ended_below v w r (omega arith) (omega arith) their_number own_below theirs_below;
       }

@@ -1,10 +1,11 @@
 -- A seat between its calls.
-use Rattle.std.proofs.Common.{◌≡◌, ⊎_elim, ℕ, ◌<◌, ◌≤◌, arith, List, [], ◌∷◌, ◌++◌, sym, ap, ◌∙◌, subst}
+use Rattle.std.proofs.Common.{◌≡◌, ⊎_elim, ℕ, ◌+◌, ◌<◌, ◌≤◌, arith, List, [], ◌∷◌, ◌++◌, sym, refl, ap, ◌∙◌, subst}
 use Rattle.atomic_table.specs.declared.shared.Seat.{Seat}
 use Rattle.lx_caplock.specs.declared.knowledge.Entry.{Entry}
 use Rattle.lx_caplock.specs.declared.knowledge.View.{View}
 use Rattle.lx_caplock.specs.History.{entries_of, In}
 use Rattle.lx_caplock.specs.Views.{waiting, serving, released, with_numbers_out, with_drawn, without_drawn, drawn_view, merged, settled_view, IsAtRest}
+use Rattle.lx_caplock.specs.Calls.{IsSplit}
 use Rattle.lx_caplock.proofs.Histories.{in_either}
 
 module _ {T : Type 0} (p q : Seat T (View T)) (rest : IsAtRest p) where
@@ -61,6 +62,18 @@ module _ {T : Type 0} (p q : Seat T (View T)) (rest : IsAtRest p) where
     number = subst (λ (u : View T). u.number < u.out) (sym (ap (λ m. m.0) is)) (omega arith);
     ended = subst (λ (u : View T). (j : ℕ) → In j u.ended → j < u.out) (sym (ap (λ m. m.0) is)) (λ j h. absurd h);
     within_seats = subst (λ (u : View T). u.out ≤ u.seats) (sym (ap (λ m. m.0) is)) (omega arith);
+  }
+
+  -- what the new seat is to the one that was divided
+  pub is_split : (n k : ℕ) (w u : View T) → w ≡ without_drawn (with_drawn (with_numbers_out p.me.0 n) k) → u ≡ drawn_view (with_drawn (with_numbers_out p.me.0 n) k)
+      → p.me.0.out ≤ k → k < p.me.0.seats → entries_of k p.me.0.seen ≡ [] → IsSplit p.me.0 w u
+  is_split n k w u divider new low within_seats none = subst (IsSplit p.me.0 w) (sym new) record {
+    number = low;
+    within_seats = within_seats;
+    others = λ j h. ⊎_elim (λ (e : j ≡ k). ((λ (f : j ≡ p.me.0.number). let a = rest.number in omega arith), (λ x. let a = rest.ended j x in omega arith))) (λ x. absurd x) h;
+    no_entry = none;
+    divider = divider ∙ (λ i. record p.me.0 { out = k + 1; unsettled = sym rest.unsettled i; unsettled_seen = sym rest.unsettled_seen i });
+    new = refl;
   }
 
   -- another seat was taken in

@@ -38,10 +38,12 @@ pub record Refuses {T : Type 0} (legal : std.Option T → List Entry → Type 0)
   pub sees : Sees legal v w
   pub mine : w.mine ≡ v.mine
 
--- the new seat (the third view) has a number that was not out when the dividing seat last looked and that has no entry, and
--- knows what the dividing seat has seen; the dividing seat knows that the number is out
+-- the new seat (the third view) has a number of the lock that was not out when the dividing seat last looked, is neither that seat's
+-- own nor one that ended in it, and has no entry; it knows what the dividing seat has seen, and that seat knows that the number is out
 pub record IsSplit {T : Type 0} (v w u : View T) : Type 0 where
   pub number : v.out ≤ u.number
+  pub within_seats : u.number < v.seats
+  pub others : AreOthers (u.number ∷ []) v.number v.ended
   pub no_entry : entries_of u.number v.seen ≡ []
   pub divider : w ≡ with_numbers_out v (u.number + 1)
   pub new : u ≡ split_view v u.number
@@ -56,7 +58,7 @@ IsUnsplit v w NoSeat = IsFull v w
 IsUnsplit v w Memory = ⊥
 
 -- the seat that took in another one (w; u is the seat behind the call) has seen all that both had seen, and has the other's numbers,
--- which are none of its own
+-- which are none of its own. It counts the numbers that are out anew, and each number that it has is one of them
 pub record HasJoined {T : Type 0} (v w u : View T) : Type 0 where
   pub opened_part : u.opened_part ≡ v.opened_part
   pub seats : u.seats ≡ v.seats
@@ -73,6 +75,8 @@ pub record HasJoined {T : Type 0} (v w u : View T) : Type 0 where
   pub out : v.out ≤ u.out
   pub their_out : w.out ≤ u.out
   pub within_seats : u.out ≤ v.seats
+  pub number_out : u.number < u.out
+  pub ended_out : (k : ℕ) → In k u.ended → k < u.out
 
 module _ {T : Type 0} where
   -- no other seat is out: each number that was out when the seat last looked is its own or has ended in it

@@ -1,10 +1,11 @@
 //! The calls of the lock, over seats that are at rest.
-ghost use Rattle.std.specs.Prelude.{◌≡◌, ◌≤◌, IfOk, List, MatchResult, Some};
+ghost use Rattle.std.specs.Prelude.{◌≡◌, ◌≤◌, Err, IfOk, List, MatchResult, Some};
+ghost use Rattle.lx_caplock.specs.declared.fault.SplitFault.TheVariants.{NoSeat};
 ghost use Rattle.lx_caplock.specs.declared.knowledge.Entry.{Entry};
 ghost use Rattle.lx_caplock.specs.Serving.{LegalFrom, Leaves, MayAsk};
 ghost use Rattle.lx_caplock.specs.Views.{first_view};
 ghost use Rattle.lx_caplock.specs.Calls.{IsSameSeat, Answers, Refuses, IsSplit, IsUnsplit, HasJoined, IsAlone, HasClosed};
-ghost use Rattle.lx_caplock.specs.Seats.{IsSeatOf, view_of, opened_with};
+ghost use Rattle.lx_caplock.specs.Seats.{IsSeatOf, view_of, opened_with, out_of};
 
 use crate::fault::SplitFault;
 use crate::lock::CapLock;
@@ -29,14 +30,16 @@ impl<T: Part + Drop> CapLock<T> {
         Ok((lock, Seat { place }))
     }
 
-    /// A further seat, with a number that no seat had before. It has seen what the dividing seat has seen, and asked nothing.
+    /// A further seat, with a number below `seats` that no seat had before: it was not out. The new seat has seen what the dividing
+    /// seat has seen, and asked nothing.
     ///
     /// # Errors
-    /// `NoSeat` where all numbers are out, which the seat then knows. It is never `Memory`.
+    /// `NoSeat` just where all numbers are out, which the seat then knows: it gets none ever after. It is never `Memory`.
     pub fn split<R: Wait>(&self, rt: &R, seat: &mut Seat<T>) -> Result<Seat<T>, SplitFault>
         requires { IsSeatOf self.now seat.old }
         ensures of { IsSeatOf self.now seat.new }
         ensures new_of { IfOk result (λ new. IsSeatOf self.now new) }
+        ensures full { out_of seat.old ≡ (view_of seat.old).seats → result ≡ Err NoSeat }
         ensures split { MatchResult result (λ new. IsSplit (view_of seat.old) (view_of seat.new) (view_of new)) (λ fault. IsUnsplit (view_of seat.old) (view_of seat.new) fault) }
     {
         match self.split_at(rt, &mut seat.place) {

@@ -17,7 +17,8 @@ load-requires g c = let a = c.requires.rest.0 in let now = c.join_seat.ensures.2
     (search rules, search rules, settles _ _ _ _ _ _ _ (ap (λ m. m.0.spent) now ∙ a.spent) (ap (λ m. m.0.stage) now ∙ a.stage))
 
 pub returns-clause-joined : goal.returns-clause-joined
-returns-clause-joined g c = joined c.args.place.now.me.0 c.args.other.me.0 (step 0 0 0 0 none) c.join_seat.new.seat.me c.load.new.seat.me c.load.result (ap (λ m. m.0) c.join_seat.ensures.2) c.requires.rest.1.mine_seen c.load.ensures.2
+returns-clause-joined g c = let a = c.requires.rest.0 in let b = c.requires.rest.1 in
+    joined c.args.place.now.me.0 c.args.other.me.0 (step 0 0 0 0 none) c.join_seat.new.seat.me c.load.new.seat.me c.load.result (ap (λ m. m.0) c.join_seat.ensures.2) b.mine_seen a.number b.number a.ended b.ended c.load.ensures.2
 
 pub returns-clause-rest : goal.returns-clause-rest
 returns-clause-rest g c =
