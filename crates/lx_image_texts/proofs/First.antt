@@ -1,5 +1,5 @@
 -- The fault of an instruction is the first.
-use Rattle.std.proofs.Common.{◌≡◌, ◌≢◌, ◌⊎◌, inl, inr, refl, sym, ◌∙◌, ap, subst, arith, ℕ, zero, suc, ◌+◌, ◌<◌, Bool, true, false, List, [], ◌∷◌, length, Option, Some, None, slice_get}
+use Rattle.std.proofs.Common.{◌≡◌, ◌⊎◌, inl, inr, refl, sym, ◌∙◌, ap, subst, arith, ℕ, zero, suc, ◌+◌, ◌<◌, Bool, true, false, List, [], ◌∷◌, length, Option, Some, None, slice_get}
 use Rattle.std.specs.Prelude.{option_map, cond}
 use Rattle.std.specs.Option.{option_or}
 use Rattle.lx_words.proofs.Options.{map_none, neither_some}
@@ -14,7 +14,7 @@ use Rattle.lx_image_texts.specs.ImageFaults.{ImageFault, Kind, kind_at, first_op
 use Rattle.lx_image_texts.specs.Watched.{op_before, op_at, kind_here, NoneBefore, NoneInFront, IsFirst}
 
 -- one or the other of two
-or_some : {A : Type 0} (a b : Option A) (e : A) → option_or a b ≡ Some e → (a ≡ Some e) ⊎ ((a ≡ None) × (b ≡ Some e))
+pub or_some : {A : Type 0} (a b : Option A) (e : A) → option_or a b ≡ Some e → (a ≡ Some e) ⊎ ((a ≡ None) × (b ≡ Some e))
 or_some None b e h = inr (refl, h)
 or_some (Some x) b e h = inl h
 
@@ -111,7 +111,7 @@ block_grown : (x : Module) (f : Function) (c : Block) (bs : List Block) (j : ℕ
 block_grown x f c bs j none rest zero b less at = let same : c ≡ b = cc at in subst (λ (z : Block). NoneBefore x f z.instrs (length z.instrs)) same none
 block_grown x f c bs j none rest (suc a) b less at = rest a b (omega (arith, less)) at
 
-none_in_blocks : (x : Module) (f : Function) (place : ℕ) (bs : List Block) → fault_in_blocks x f place bs ≡ None → NoneOf x f bs (length bs)
+pub none_in_blocks : (x : Module) (f : Function) (place : ℕ) (bs : List Block) → fault_in_blocks x f place bs ≡ None → NoneOf x f bs (length bs)
 none_in_blocks x f place [] e = λ a b less at. cc at
 none_in_blocks x f place (c ∷ bs) e =
     let o = neither_some (fault_in_block x f place None c.instrs) (fault_in_blocks x f (length c.instrs + place) bs) e in
@@ -165,7 +165,7 @@ first_in_blocks x f place (c ∷ bs) e h = by (or_some (fault_in_block x f place
 
 -- Functions.
 
-unless_wrapper : (x : Module) (g : Function) → is_wrapper g ≡ false → fault_in_function x g ≡ fault_in_blocks x g 0 (blocks_of g)
+pub unless_wrapper : (x : Module) (g : Function) → is_wrapper g ≡ false → fault_in_function x g ≡ fault_in_blocks x g 0 (blocks_of g)
 unless_wrapper x g plain = ap (λ (w : Bool). cond w None (fault_in_blocks x g 0 (blocks_of g))) plain
 
 some_in_blocks : (x : Module) (g : Function) (w : Bool) (e : ImageFault) → cond w None (fault_in_blocks x g 0 (blocks_of g)) ≡ Some e → fault_in_blocks x g 0 (blocks_of g) ≡ Some e

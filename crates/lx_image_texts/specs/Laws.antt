@@ -7,8 +7,9 @@ use Rattle.lx_ir.specs.Lawful.{IsLawful, IsPlain}
 use Rattle.lx_ir.specs.Faults.{FirstFault}
 use Rattle.lx_annot.specs.declared.interface.Interface.{Interface}
 use Rattle.lx_propagate.specs.Slots.{annotated_of, conflict_of}
-use Rattle.lx_image_texts.specs.ImageFaults.{WrapperDiffers, ImageFault, without_wrappers, first_image_fault}
+use Rattle.lx_image_texts.specs.ImageFaults.{ImageFault, without_wrappers, first_image_fault}
 use Rattle.lx_image_texts.specs.Named.{IsNamed}
+use Rattle.lx_image_texts.specs.WrapperFaults.{IsWrapperFault}
 use Rattle.lx_image_texts.specs.Programs.{program_of, IsClosed}
 use Rattle.lx_image_texts.specs.Spared.{is_spared}
 use Rattle.lx_image_texts.specs.Guards.{function_text, Guards}
@@ -30,8 +31,8 @@ pub record IsExact (i : Interface) (x : Module) : Type 0 where
 pub record ImageLaws : Type 0 where
   -- for every image that can be read, and that verifies
   pub exact : (i : Interface) (x : Module) → IsLawful x → FirstFault x None → IsExact i x
-  -- a fault that is named is really there: at the instruction that it names, where it is not of a wrapper or of the whole text
-  pub named : (i : Interface) (x : Module) (e : ImageFault) → first_image_fault i x ≡ Some e → IsNamed x e ⊎ (e.kind ≡ WrapperDiffers)
+  -- a fault that is named is really there: at the instruction that it names, or, where nothing is wrong with one, of the whole text
+  pub named : (i : Interface) (x : Module) (e : ImageFault) → first_image_fault i x ≡ Some e → IsNamed x e ⊎ IsWrapperFault i x e
   -- a lawful module names nothing but its own
   pub closed : (m : Module) → IsLawful m → IsClosed m
   -- with all guards, and without those of spared stores, it is an image of the module

@@ -9,4 +9,5 @@ pub mod ProgramLaws
 pub mod Programs
 pub mod Spared
 pub mod Watched
+pub mod WrapperFaults
 pub mod WrapperText
