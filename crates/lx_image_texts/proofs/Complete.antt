@@ -119,10 +119,10 @@ values_clean i m x v (a ∷ xs) l =
 
 -- calls
 
-any_at : (p : Function → Bool) (fs : List Function) (k : ℕ) (f : Function) → slice_get fs k ≡ Some f → p f ≡ true → list_any p fs ≡ true
-any_at p [] k f e t = none_some e
-any_at p (g ∷ fs) zero f e t = ap (λ (b : Bool). b || list_any p fs) (ap p (some_same e) ∙ t)
-any_at p (g ∷ fs) (suc k) f e t = ap (λ (b : Bool). p g || b) (any_at p fs k f e t) ∙ or_true (p g)
+pub any_at : {A : Type 0} (p : A → Bool) (xs : List A) (k : ℕ) (x : A) → slice_get xs k ≡ Some x → p x ≡ true → list_any p xs ≡ true
+any_at p [] k x e t = none_some e
+any_at p (y ∷ xs) zero x e t = ap (λ (b : Bool). b || list_any p xs) (ap p (some_same e) ∙ t)
+any_at p (y ∷ xs) (suc k) x e t = ap (λ (b : Bool). p y || b) (any_at p xs k x e t) ∙ or_true (p y)
 
 defined_at : (fs : List Function) (k : ℕ) (f : Function) → list_all is_defined fs ≡ true → slice_get fs k ≡ Some f → is_defined f ≡ true
 defined_at [] k f a e = none_some e

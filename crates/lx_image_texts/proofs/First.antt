@@ -1,8 +1,9 @@
 -- The fault of an instruction is the first.
-use Rattle.std.proofs.Common.{◌≡◌, ◌⊎◌, inl, inr, refl, sym, ◌∙◌, ap, subst, arith, ℕ, zero, suc, ◌+◌, ◌<◌, Bool, true, false, List, [], ◌∷◌, length, Option, Some, None, slice_get}
-use Rattle.std.specs.Prelude.{option_map, cond}
+use Rattle.std.proofs.Common.{◌≡◌, ◌⊎◌, inl, inr, refl, sym, ◌∙◌, ap, subst, arith, ℕ, zero, suc, ◌+◌, ◌<◌, Bool, true, false, List, [], ◌∷◌, ◌++◌, length, Option, Some, None, slice_get}
+use Rattle.std.specs.Prelude.{option_map, cond, flat_map, take}
 use Rattle.std.specs.Option.{option_or}
-use Rattle.lx_words.proofs.Options.{map_none, neither_some}
+use Rattle.lx_words.proofs.Options.{map_none, map_some, neither_some}
+use Rattle.lx_words.proofs.Tests.{zero_more, more_onto}
 use Rattle.lx_ir.specs.declared.module.Block.{Block}
 use Rattle.lx_ir.specs.declared.module.Function.{Function}
 use Rattle.lx_ir.specs.declared.module.Module.{Module}
@@ -60,32 +61,36 @@ none_in_block x f place before (y ∷ is) e =
 
 -- the first in a block
 
-record InBlock (x : Module) (f : Function) (before : Option Op) (is : List Instr) (e : ImageFault) : Type 0 where
+record InBlock (x : Module) (f : Function) (place : ℕ) (before : Option Op) (is : List Instr) (e : ImageFault) : Type 0 where
   n : ℕ
   i : Instr
   at : slice_get is n ≡ Some i
   kind : kind_of x f before is n i ≡ Some e.kind
   front : NoneUpTo x f before is n
-
-kind_some : (f : Function) (place : ℕ) (y : Instr) (o : Option Kind) (e : ImageFault) → option_map (fault_at f place y) o ≡ Some e → o ≡ Some e.kind
-kind_some f place y None e h = cc h
-kind_some f place y (Some k) e h = let same : fault_at f place y k ≡ e = cc h in ap (λ (z : ImageFault). Some z.kind) same
+  line : e.line ≡ i.line
+  name : e.function ≡ f.name
+  number : e.place ≡ n + place
 
 none_yet : (x : Module) (f : Function) (before : Option Op) (is : List Instr) → NoneUpTo x f before is 0
 none_yet x f before is a i less at = absurd (omega (arith, less))
 
-first_in_block : (x : Module) (f : Function) (place : ℕ) (before : Option Op) (is : List Instr) (e : ImageFault) → fault_in_block x f place before is ≡ Some e → InBlock x f before is e
+first_in_block : (x : Module) (f : Function) (place : ℕ) (before : Option Op) (is : List Instr) (e : ImageFault) → fault_in_block x f place before is ≡ Some e → InBlock x f place before is e
 first_in_block x f place before [] e h = cc h
 first_in_block x f place before (y ∷ is) e h = by (or_some (option_map (fault_at f place y) (kind_at x f before y.op (first_op is))) (fault_in_block x f (suc place) (Some y.op) is) e h) (λ there. first_in_block x f (suc place) (Some y.op) is e there)
   where
-    by : (option_map (fault_at f place y) (kind_at x f before y.op (first_op is)) ≡ Some e) ⊎ ((option_map (fault_at f place y) (kind_at x f before y.op (first_op is)) ≡ None) × (fault_in_block x f (suc place) (Some y.op) is ≡ Some e)) → (fault_in_block x f (suc place) (Some y.op) is ≡ Some e → InBlock x f (Some y.op) is e) → InBlock x f before (y ∷ is) e
-    by (inl here) more = record {
-      n = 0;
-      i = y;
-      at = refl;
-      kind = ap (kind_at x f before y.op) (sym (next_of is)) ∙ kind_some f place y (kind_at x f before y.op (first_op is)) e here;
-      front = none_yet x f before (y ∷ is);
-    }
+    by : (option_map (fault_at f place y) (kind_at x f before y.op (first_op is)) ≡ Some e) ⊎ ((option_map (fault_at f place y) (kind_at x f before y.op (first_op is)) ≡ None) × (fault_in_block x f (suc place) (Some y.op) is ≡ Some e)) → (fault_in_block x f (suc place) (Some y.op) is ≡ Some e → InBlock x f (suc place) (Some y.op) is e) → InBlock x f place before (y ∷ is) e
+    by (inl here) more =
+        let m = map_some (fault_at f place y) (kind_at x f before y.op (first_op is)) e here in
+        record {
+          n = 0;
+          i = y;
+          at = refl;
+          kind = ap (kind_at x f before y.op) (sym (next_of is)) ∙ (m.1 ∙ ap (λ (z : ImageFault). Some z.kind) m.2);
+          front = none_yet x f before (y ∷ is);
+          line = ap (λ (z : ImageFault). z.line) (sym m.2);
+          name = ap (λ (z : ImageFault). z.function) (sym m.2);
+          number = ap (λ (z : ImageFault). z.place) (sym m.2) ∙ zero_more place;
+        }
     by (inr (none, there)) more =
         let r = more there in
         record {
@@ -94,6 +99,9 @@ first_in_block x f place before (y ∷ is) e h = by (or_some (option_map (fault_
           at = r.at;
           kind = sym (step_kind x f before y is r.n r.i) ∙ r.kind;
           front = grown x f before y is r.n (map_none (fault_at f place y) (kind_at x f before y.op (first_op is)) none) r.front;
+          line = r.line;
+          name = r.name;
+          number = r.number ∙ more_onto r.n place;
         }
 
 -- Blocks.
@@ -104,7 +112,7 @@ here_kind x f is n i = ap (λ (z : Option Op). kind_at x f z i.op (op_at is (suc
 none_here : (x : Module) (f : Function) (is : List Instr) (n : ℕ) → NoneUpTo x f None is n → NoneBefore x f is n
 none_here x f is n none a i less at = sym (here_kind x f is a i) ∙ none a i less at
 
-abbrev NoneOf : Module → Function → List Block → ℕ → Type 0
+abbrev pub NoneOf : Module → Function → List Block → ℕ → Type 0
 NoneOf x f bs j = (a : ℕ) (b : Block) → a < j → slice_get bs a ≡ Some b → NoneBefore x f b.instrs (length b.instrs)
 
 block_grown : (x : Module) (f : Function) (c : Block) (bs : List Block) (j : ℕ) → NoneBefore x f c.instrs (length c.instrs) → NoneOf x f bs j → NoneOf x f (c ∷ bs) (suc j)
@@ -117,25 +125,35 @@ none_in_blocks x f place (c ∷ bs) e =
     let o = neither_some (fault_in_block x f place None c.instrs) (fault_in_blocks x f (length c.instrs + place) bs) e in
     block_grown x f c bs (length bs) (none_here x f c.instrs (length c.instrs) (none_in_block x f place None c.instrs o.0)) (none_in_blocks x f (length c.instrs + place) bs o.1)
 
-record InBlocks (x : Module) (f : Function) (bs : List Block) (e : ImageFault) : Type 0 where
-  j : ℕ
-  b : Block
-  n : ℕ
-  i : Instr
-  block : slice_get bs j ≡ Some b
-  instr : slice_get b.instrs n ≡ Some i
-  kind : kind_here x f b.instrs n i ≡ Some e.kind
-  before : NoneBefore x f b.instrs n
-  blocks : NoneOf x f bs j
+pub record InBlocks (x : Module) (f : Function) (place : ℕ) (bs : List Block) (e : ImageFault) : Type 0 where
+  pub j : ℕ
+  pub b : Block
+  pub n : ℕ
+  pub i : Instr
+  pub block : slice_get bs j ≡ Some b
+  pub instr : slice_get b.instrs n ≡ Some i
+  pub kind : kind_here x f b.instrs n i ≡ Some e.kind
+  pub before : NoneBefore x f b.instrs n
+  pub blocks : NoneOf x f bs j
+  pub line : e.line ≡ i.line
+  pub name : e.function ≡ f.name
+  pub number : e.place ≡ n + (length (flat_map (λ (c : Block). c.instrs) (take j bs)) + place)
+
+length_join : {A : Type 0} (xs ys : List A) → length (xs ++ ys) ≡ length ys + length xs
+length_join [] ys = omega arith
+length_join (x ∷ xs) ys = let ih : length (xs ++ ys) ≡ length ys + length xs = length_join xs ys in omega (arith, ih)
+
+behind_block : (a b c d n : ℕ) → n ≡ a + b → d + (a + (b + c)) ≡ d + (n + c)
+behind_block a b c d n e = omega (arith, e)
 
 no_block_yet : (x : Module) (f : Function) (bs : List Block) → NoneOf x f bs 0
 no_block_yet x f bs a b less at = absurd (omega (arith, less))
 
-first_in_blocks : (x : Module) (f : Function) (place : ℕ) (bs : List Block) (e : ImageFault) → fault_in_blocks x f place bs ≡ Some e → InBlocks x f bs e
+first_in_blocks : (x : Module) (f : Function) (place : ℕ) (bs : List Block) (e : ImageFault) → fault_in_blocks x f place bs ≡ Some e → InBlocks x f place bs e
 first_in_blocks x f place [] e h = cc h
 first_in_blocks x f place (c ∷ bs) e h = by (or_some (fault_in_block x f place None c.instrs) (fault_in_blocks x f (length c.instrs + place) bs) e h) (λ there. first_in_blocks x f (length c.instrs + place) bs e there)
   where
-    by : (fault_in_block x f place None c.instrs ≡ Some e) ⊎ ((fault_in_block x f place None c.instrs ≡ None) × (fault_in_blocks x f (length c.instrs + place) bs ≡ Some e)) → (fault_in_blocks x f (length c.instrs + place) bs ≡ Some e → InBlocks x f bs e) → InBlocks x f (c ∷ bs) e
+    by : (fault_in_block x f place None c.instrs ≡ Some e) ⊎ ((fault_in_block x f place None c.instrs ≡ None) × (fault_in_blocks x f (length c.instrs + place) bs ≡ Some e)) → (fault_in_blocks x f (length c.instrs + place) bs ≡ Some e → InBlocks x f (length c.instrs + place) bs e) → InBlocks x f place (c ∷ bs) e
     by (inl here) more =
         let r = first_in_block x f place None c.instrs e here in
         record {
@@ -148,6 +166,9 @@ first_in_blocks x f place (c ∷ bs) e h = by (or_some (fault_in_block x f place
           kind = sym (here_kind x f c.instrs r.n r.i) ∙ r.kind;
           before = none_here x f c.instrs r.n r.front;
           blocks = no_block_yet x f (c ∷ bs);
+          line = r.line;
+          name = r.name;
+          number = r.number ∙ ap (λ (m : ℕ). r.n + m) (zero_more place);
         }
     by (inr (none, there)) more =
         let r = more there in
@@ -161,6 +182,9 @@ first_in_blocks x f place (c ∷ bs) e h = by (or_some (fault_in_block x f place
           kind = r.kind;
           before = r.before;
           blocks = block_grown x f c bs r.j (none_here x f c.instrs (length c.instrs) (none_in_block x f place None c.instrs none)) r.blocks;
+          line = r.line;
+          name = r.name;
+          number = r.number ∙ behind_block (length (flat_map (λ (d : Block). d.instrs) (take r.j bs))) (length c.instrs) place r.n (length (c.instrs ++ flat_map (λ (d : Block). d.instrs) (take r.j bs))) (length_join c.instrs (flat_map (λ (d : Block). d.instrs) (take r.j bs)));
         }
 
 -- Functions.
@@ -168,19 +192,20 @@ first_in_blocks x f place (c ∷ bs) e h = by (or_some (fault_in_block x f place
 pub unless_wrapper : (x : Module) (g : Function) → is_wrapper g ≡ false → fault_in_function x g ≡ fault_in_blocks x g 0 (blocks_of g)
 unless_wrapper x g plain = ap (λ (w : Bool). cond w None (fault_in_blocks x g 0 (blocks_of g))) plain
 
-some_in_blocks : (x : Module) (g : Function) (w : Bool) (e : ImageFault) → cond w None (fault_in_blocks x g 0 (blocks_of g)) ≡ Some e → fault_in_blocks x g 0 (blocks_of g) ≡ Some e
-some_in_blocks x g true e h = cc h
-some_in_blocks x g false e h = h
+some_in_blocks : (x : Module) (g : Function) (w : Bool) (e : ImageFault) → is_wrapper g ≡ w → cond w None (fault_in_blocks x g 0 (blocks_of g)) ≡ Some e → (is_wrapper g ≡ false) × (fault_in_blocks x g 0 (blocks_of g) ≡ Some e)
+some_in_blocks x g true e is h = cc h
+some_in_blocks x g false e is h = (is, h)
 
-abbrev NoneFrom : Module → List Function → ℕ → Type 0
+abbrev pub NoneFrom : Module → List Function → ℕ → Type 0
 NoneFrom x fs k = (a : ℕ) (g : Function) → a < k → slice_get fs a ≡ Some g → is_wrapper g ≡ false → NoneInFront x g (length (blocks_of g))
 
-record InFunctions (x : Module) (fs : List Function) (e : ImageFault) : Type 0 where
-  k : ℕ
-  f : Function
-  at : slice_get fs k ≡ Some f
-  inside : InBlocks x f (blocks_of f) e
-  front : NoneFrom x fs k
+pub record InFunctions (x : Module) (fs : List Function) (e : ImageFault) : Type 0 where
+  pub k : ℕ
+  pub f : Function
+  pub at : slice_get fs k ≡ Some f
+  pub program : is_wrapper f ≡ false
+  pub inside : InBlocks x f 0 (blocks_of f) e
+  pub front : NoneFrom x fs k
 
 no_function_yet : (x : Module) (fs : List Function) → NoneFrom x fs 0
 no_function_yet x fs a g less at plain = absurd (omega (arith, less))
@@ -191,15 +216,17 @@ function_grown x h fs k none rest zero g less at plain =
     none_in_blocks x g 0 (blocks_of g) (sym (unless_wrapper x g plain) ∙ sym (ap (fault_in_function x) same) ∙ none)
 function_grown x h fs k none rest (suc a) g less at plain = rest a g (omega (arith, less)) at plain
 
-first_in_functions : (x : Module) (fs : List Function) (e : ImageFault) → first_some (fault_in_function x) fs ≡ Some e → InFunctions x fs e
+pub first_in_functions : (x : Module) (fs : List Function) (e : ImageFault) → first_some (fault_in_function x) fs ≡ Some e → InFunctions x fs e
 first_in_functions x [] e h = cc h
 first_in_functions x (g ∷ fs) e h = by (or_some (fault_in_function x g) (first_some (fault_in_function x) fs) e h) (λ there. first_in_functions x fs e there)
   where
     by : (fault_in_function x g ≡ Some e) ⊎ ((fault_in_function x g ≡ None) × (first_some (fault_in_function x) fs ≡ Some e)) → (first_some (fault_in_function x) fs ≡ Some e → InFunctions x fs e) → InFunctions x (g ∷ fs) e
-    by (inl here) more = record { k = 0; f = g; at = refl; inside = first_in_blocks x g 0 (blocks_of g) e (some_in_blocks x g (is_wrapper g) e here); front = no_function_yet x (g ∷ fs) }
+    by (inl here) more =
+        let s = some_in_blocks x g (is_wrapper g) e refl here in
+        record { k = 0; f = g; at = refl; program = s.0; inside = first_in_blocks x g 0 (blocks_of g) e s.1; front = no_function_yet x (g ∷ fs) }
     by (inr (none, there)) more =
         let r = more there in
-        record { k = suc r.k; f = r.f; at = r.at; inside = r.inside; front = function_grown x g fs r.k none r.front }
+        record { k = suc r.k; f = r.f; at = r.at; program = r.program; inside = r.inside; front = function_grown x g fs r.k none r.front }
 
 pub is_first : (x : Module) (e : ImageFault) → first_some (fault_in_function x) x.functions ≡ Some e → IsFirst x e
 is_first x e h =

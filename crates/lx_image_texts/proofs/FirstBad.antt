@@ -4,7 +4,7 @@ use Rattle.std.specs.Prelude.{cond, find}
 use Rattle.lx_words.proofs.Options.{some_none, none_some, some_same, neither_some}
 use Rattle.lx_words.proofs.Tests.{no_less, one_down}
 use Rattle.lx_ir.specs.Faults.{first_some}
-use Rattle.lx_image_texts.specs.WrapperFaults.{AllAre, IsFirstBad}
+use Rattle.lx_image_texts.specs.Named.{AllAre, IsFirstBad}
 use Rattle.lx_image_texts.proofs.First.{or_some}
 
 -- one more in front of a list

@@ -3,7 +3,6 @@ use Rattle.std.proofs.Common.{◌≡◌, ◌⊎◌, inl, inr, refl, ap, sym, ◌
 use Rattle.std.specs.Prelude.{bytes_eq, cond, filter, find, option_map, is_some}
 use Rattle.std.specs.List.{list_all}
 use Rattle.std.specs.Option.{option_or}
-use Rattle.std.proofs.lemmas.Option.{slice_get_within}
 use Rattle.std.proofs.lemmas.Bool.{and_from, or_left, or_right}
 use Rattle.std.proofs.lemmas.List.Folds.{find-append}
 use Rattle.lx_words.proofs.Lists.{same_bytes, bytes_itself, map_append, found_is}
@@ -22,18 +21,19 @@ use Rattle.lx_ir.specs.declared.instr.Op.{Op}
 use Rattle.lx_ir.specs.Init.{Init, Plain, Empty, Bytes, Group, Inits, no_more, more}
 use Rattle.lx_ir.specs.Faults.{first_some}
 use Rattle.lx_ir.specs.Lawful.{is_own_name}
-use Rattle.lx_ir.specs.Lookup.{blocks_of, instrs_of, is_defined}
+use Rattle.lx_ir.specs.Lookup.{instrs_of, is_defined}
 use Rattle.lx_ir.specs.Text.{symbol_name}
 use Rattle.lx_annot.specs.declared.interface.Interface.{Interface}
 use Rattle.lx_slot_types.specs.Gets.{below, gets, slot_of}
 use Rattle.lx_slot_types.specs.Texts.{differ, slot_text}
 use Rattle.lx_propagate.specs.Slots.{Conflict, conflict, conflict_with, conflict_at, conflict_from, conflict_of, other_slot}
-use Rattle.lx_image_texts.specs.ImageFaults.{Kind, BareStore, GuardDiffers, BareIndirect, WrapperDiffers, BodyReached, StrayGuard, ImageFault, kind_if, is_stray, differs, is_bare_store, is_bare_call, mark_kind, reaches_body, constant_mentions, init_mentions, inits_mention, is_wrapper, fault_in_function, wrapper_fault, global_fault, import_fault, same_line, different_from, same_head, difference, compared, missing_fault, misplaced, defined_names, conflict_fault, without_body, without_wrappers, not_own, right_wrappers, whole_fault}
-use Rattle.lx_image_texts.specs.Named.{IsWrong}
-use Rattle.lx_image_texts.specs.Watched.{op_before, op_at}
+use Rattle.lx_image_texts.specs.ImageFaults.{ImageFault, constant_mentions, init_mentions, inits_mention, is_wrapper, fault_in_function, wrapper_fault, global_fault, import_fault, same_line, different_from, same_head, difference, compared, missing_fault, misplaced, defined_names, conflict_fault, without_body, without_wrappers, not_own, right_wrappers, whole_fault}
+use Rattle.lx_image_texts.specs.Named.{AllAre, IsFirstBad, IsRightCode}
+use Rattle.lx_image_texts.specs.Watched.{op_at}
 use Rattle.lx_image_texts.specs.WrapperText.{wrappers_of}
-use Rattle.lx_image_texts.specs.WrapperFaults.{AllAre, IsFirstBad, Tells, IsRightCode, Holds, Mentions, SomeMentions, IsOwnGlobal, NoOwnGlobal, IsGlobalFault, IsOwnImport, NoOwnImport, IsImportFault, IsNamedAs, StandsFor, IsThere, IsMissing, HasOther, IsSameHead, HasOtherHead, IsOther, AllThere, IsLackedWrapper, order_of, IsInPlace, IsPlaceFault, GetsTwo, IsConflictFault, IsWrapperFault}
-use Rattle.lx_image_texts.proofs.First.{or_some, none_in_blocks, unless_wrapper}
+use Rattle.lx_image_texts.specs.WrapperFaults.{Tells, Holds, Mentions, SomeMentions, IsOwnGlobal, NoOwnGlobal, IsGlobalFault, IsOwnImport, NoOwnImport, IsImportFault, IsNamedAs, StandsFor, IsThere, IsMissing, HasOther, IsSameHead, HasOtherHead, IsOther, AllThere, IsLackedWrapper, order_of, IsInPlace, IsPlaceFault, GetsTwo, IsConflictFault, IsWrapperFault}
+use Rattle.lx_image_texts.proofs.First.{or_some}
+use Rattle.lx_image_texts.proofs.RightCode.{right_code}
 use Rattle.lx_image_texts.proofs.FirstBad.{all_none, all_more, bad_here, bad_more, first_found, none_found, passed, none_passed}
 use Rattle.lx_image_texts.proofs.Comparing.{ops, line_is, differ_by, same_text, heads_same}
 use Rattle.lx_image_texts.proofs.Ordering.{placed_by}
@@ -55,31 +55,7 @@ no_fault : (b : Bool) (f : ImageFault) → cond b (Some f) None ≡ None → b �
 no_fault true f h = some_none h
 no_fault false f h = refl
 
--- an instruction at which nothing is found is right
-
-kind_none : (b : Bool) (k : Kind) → kind_if b k ≡ None → b ≡ true → ⊥
-kind_none true k h e = some_none h
-kind_none false k h e = false_true e
-
-right : (x : Module) (f : Function) (before : Option Op) (o : Op) (next : Option Op) → option_or (mark_kind x f before o next) (kind_if (reaches_body x o) BodyReached) ≡ None → (kind : Kind) → IsWrong x f before o next kind → ⊥
-right x f before o next h =
-    let one = neither_some (mark_kind x f before o next) (kind_if (reaches_body x o) BodyReached) h in
-    let two = neither_some (kind_if (is_stray next o) StrayGuard) (option_or (kind_if (differs next o) GuardDiffers) (option_or (kind_if (is_bare_store x f before o) BareStore) (kind_if (is_bare_call before o) BareIndirect))) one.0 in
-    let three = neither_some (kind_if (differs next o) GuardDiffers) (option_or (kind_if (is_bare_store x f before o) BareStore) (kind_if (is_bare_call before o) BareIndirect)) two.1 in
-    let four = neither_some (kind_if (is_bare_store x f before o) BareStore) (kind_if (is_bare_call before o) BareIndirect) three.1 in
-    by (kind_none (is_bare_store x f before o) BareStore four.0) (kind_none (differs next o) GuardDiffers three.0) (kind_none (is_bare_call before o) BareIndirect four.1) (kind_none (reaches_body x o) BodyReached one.1) (kind_none (is_stray next o) StrayGuard two.0)
-  where
-    by : (is_bare_store x f before o ≡ true → ⊥) → (differs next o ≡ true → ⊥) → (is_bare_call before o ≡ true → ⊥) → (reaches_body x o ≡ true → ⊥) → (is_stray next o ≡ true → ⊥) → (kind : Kind) → IsWrong x f before o next kind → ⊥
-    by a b c d s BareStore w = a w
-    by a b c d s GuardDiffers w = b w
-    by a b c d s BareIndirect w = c w
-    by a b c d s WrapperDiffers w = w
-    by a b c d s BodyReached w = d w
-    by a b c d s StrayGuard w = s w
-
-right_code : (x : Module) (f : Function) → fault_in_function x f ≡ None → IsRightCode x f
-right_code x f h plain j b block n i instr =
-    right x f (op_before b.instrs n) i.op (op_at b.instrs (suc n)) (none_in_blocks x f 0 (blocks_of f) (sym (unless_wrapper x f plain) ∙ h) j b (slice_get_within (blocks_of f) j b block) block n i (slice_get_within b.instrs n i instr) instr)
+-- code without a fault
 
 right_all : (x : Module) → first_some (fault_in_function x) x.functions ≡ None → AllAre (λ n f. IsRightCode x f) x.functions
 right_all x h = none_found (λ n f. IsRightCode x f) (fault_in_function x) x.functions (λ n f at none. right_code x f none) h

@@ -1,5 +1,5 @@
 -- What the definitions of images say.
-use Rattle.std.specs.Prelude.{◌≡◌, ℕ, Some, None, map, slice_get, ◌⊎◌}
+use Rattle.std.specs.Prelude.{◌≡◌, ℕ, true, Some, None, map, slice_get, ◌⊎◌}
 use Rattle.lx_ir.specs.declared.module.Function.{Function}
 use Rattle.lx_ir.specs.declared.module.Module.{Module}
 use Rattle.lx_ir.specs.declared.instr.Op.{Op}
@@ -12,6 +12,7 @@ use Rattle.lx_image_texts.specs.Named.{IsNamed}
 use Rattle.lx_image_texts.specs.WrapperFaults.{IsWrapperFault}
 use Rattle.lx_image_texts.specs.Programs.{program_of, IsClosed}
 use Rattle.lx_image_texts.specs.Spared.{is_spared}
+use Rattle.lx_image_texts.specs.SparedStores.{IsToOwnStack}
 use Rattle.lx_image_texts.specs.Guards.{function_text, Guards}
 use Rattle.lx_image_texts.specs.Erased.{erased_functions}
 use Rattle.lx_image_texts.specs.Instrumented.{leaves_none, leaves_spared, GuardsBut}
@@ -31,7 +32,7 @@ pub record IsExact (i : Interface) (x : Module) : Type 0 where
 pub record ImageLaws : Type 0 where
   -- for every image that can be read, and that verifies
   pub exact : (i : Interface) (x : Module) → IsLawful x → FirstFault x None → IsExact i x
-  -- a fault that is named is really there: at the instruction that it names, or, where nothing is wrong with one, of the whole text
+  -- a fault that is named is really there, and it is the first: at the instruction that it names, or else of the whole text
   pub named : (i : Interface) (x : Module) (e : ImageFault) → first_image_fault i x ≡ Some e → IsNamed x e ⊎ IsWrapperFault i x e
   -- a lawful module names nothing but its own
   pub closed : (m : Module) → IsLawful m → IsClosed m
@@ -45,3 +46,6 @@ pub record ImageLaws : Type 0 where
   pub agrees : (i : Interface) (m x : Module) → Guards i m x → conflict_of i (without_wrappers x) ≡ None
   -- a store is spared in an image exactly where it is in its module
   pub alike : (i : Interface) (m x : Module) (k : ℕ) (f g : Function) (o : Op) → Guards i m x → slice_get m.functions k ≡ Some f → slice_get x.functions k ≡ Some g → is_spared x g o ≡ is_spared m f o
+  -- a store is spared just where it goes to bytes of its function's own stack whose address the function lets go nowhere
+  pub keeps : (m : Module) (f : Function) (o : Op) → is_spared m f o ≡ true → IsToOwnStack m f o
+  pub spares : (m : Module) (f : Function) (o : Op) → IsToOwnStack m f o → is_spared m f o ≡ true

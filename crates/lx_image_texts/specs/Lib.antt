@@ -8,6 +8,7 @@ pub mod Named
 pub mod ProgramLaws
 pub mod Programs
 pub mod Spared
+pub mod SparedStores
 pub mod Watched
 pub mod WrapperFaults
 pub mod WrapperText

@@ -1,11 +1,10 @@
 -- Where a fault of the whole text stands, in words of its own: by places in lists and by equal texts.
-use Rattle.std.specs.Prelude.{◌≡◌, ◌⊎◌, ◌<◌, ℕ, suc, true, false, not, ◌&&◌, Some, None, List, ◌++◌, length, map, filter, slice_get}
+use Rattle.std.specs.Prelude.{◌≡◌, ◌⊎◌, ◌<◌, ℕ, true, false, not, ◌&&◌, Some, None, List, ◌++◌, length, map, filter, slice_get}
 use Rattle.lx_ir.specs.declared.module.Symbol.{Symbol}
 use Rattle.lx_ir.specs.declared.module.Pointer.TheVariants as pointer
 use Rattle.lx_ir.specs.declared.module.Constant.{Constant}
 use Rattle.lx_ir.specs.declared.module.Constant.TheVariants as constant
 use Rattle.lx_ir.specs.declared.module.GlobalVar.{GlobalVar}
-use Rattle.lx_ir.specs.declared.module.Block.{Block}
 use Rattle.lx_ir.specs.declared.module.Function.{Function}
 use Rattle.lx_ir.specs.declared.module.Module.{Module}
 use Rattle.lx_ir.specs.declared.instr.Instr.{Instr}
@@ -17,20 +16,9 @@ use Rattle.lx_annot.specs.declared.interface.Interface.{Interface}
 use Rattle.lx_slot_types.specs.Gets.{gets}
 use Rattle.lx_slot_types.specs.Texts.{slot_text}
 use Rattle.lx_image_texts.specs.Guards.{function_text}
-use Rattle.lx_image_texts.specs.ImageFaults.{Kind, WrapperDiffers, ImageFault, is_wrapper, without_wrappers, right_wrappers}
-use Rattle.lx_image_texts.specs.Named.{IsWrong}
-use Rattle.lx_image_texts.specs.Watched.{op_before, op_at}
-
--- so is each of a list, by its place
-abbrev pub AllAre : {A : Type 0} → (ℕ → A → Type 0) → List A → Type 0
-AllAre {A} Good xs = (n : ℕ) (y : A) → slice_get xs n ≡ Some y → Good n y
-
--- the first of a list that is bad: all before it are good
-pub record IsFirstBad {A : Type 0} (Good Bad : ℕ → A → Type 0) (xs : List A) (x : A) : Type 0 where
-  pub place : ℕ
-  pub at : slice_get xs place ≡ Some x
-  pub bad : Bad place x
-  pub before : (n : ℕ) (y : A) → n < place → slice_get xs n ≡ Some y → Good n y
+use Rattle.lx_image_texts.specs.ImageFaults.{WrapperDiffers, ImageFault, is_wrapper, without_wrappers, right_wrappers}
+use Rattle.lx_image_texts.specs.Named.{AllAre, IsFirstBad, IsRightCode}
+use Rattle.lx_image_texts.specs.Watched.{op_at}
 
 -- what a fault of this kind tells
 pub record Tells (e : ImageFault) (l : ℕ) (name : List ℕ) (n : ℕ) : Type 0 where
@@ -38,13 +26,6 @@ pub record Tells (e : ImageFault) (l : ℕ) (name : List ℕ) (n : ℕ) : Type 0
   pub line : e.line ≡ l
   pub function : e.function ≡ name
   pub place : e.place ≡ n
-
--- Nothing is wrong with any instruction of a function that is no wrapper.
-abbrev pub IsRight : Module → Function → List Instr → ℕ → Instr → Type 0
-IsRight x f is n i = (kind : Kind) → IsWrong x f (op_before is n) i.op (op_at is (suc n)) kind → ⊥
-
-abbrev pub IsRightCode : Module → Function → Type 0
-IsRightCode x f = is_wrapper f ≡ false → AllAre (λ j (b : Block). AllAre (IsRight x f b.instrs) b.instrs) (blocks_of f)
 
 -- First, a global that has a name which images alone have, or whose initialiser mentions one.
 

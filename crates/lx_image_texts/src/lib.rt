@@ -13,9 +13,9 @@ ghost use Rattle.lx_image_texts.specs.Laws.{ImageLaws};
 ghost use Rattle.lx_image_texts.specs.ProgramLaws.{ImageProgramLaws};
 
 /// A lawful, verified text has no fault as an image exactly where some module that names nothing but its own has this image, and that
-/// module is then what erasing gives. A fault that is told at an instruction is there, and one that is told of the whole text is the first of
-/// its globals, imports, wrappers, places and annotations. With all guards, and without those of spared stores, a text is an image of its
-/// module; slot types and spared stores are the module's.
+/// module is then what erasing gives. A fault that is told at an instruction is there, and is the first; one that is told of the whole text is
+/// the first of its globals, imports, wrappers, places and annotations. With all guards, and without those of spared stores, a text is an
+/// image of its module; slot types and spared stores are the module's, and a store is spared just where it goes to its function's own stack.
 pub fn image_laws()
     ensures { ImageLaws }
 {}
