@@ -8,6 +8,7 @@ pub mod Early
 pub mod Elements
 pub mod Ends
 pub mod Finding
+pub mod FirstFaults
 pub mod Firsts
 pub mod FreeConstants
 pub mod FreeForms

@@ -20,6 +20,7 @@ ghost use Rattle.lx_ir_complete.specs.RoundTripLaws.{PrintedIsRead, RoundTrips};
 ghost use Rattle.lx_ir_complete.specs.UnlimitedLaws.{StatementsAreUnlimited};
 ghost use Rattle.lx_ir_complete.specs.RefusalLaws.{CallsAreRefused, InstructionsAreRefused};
 ghost use Rattle.lx_ir_complete.specs.StatementRefusalLaws.{BodiesAreRefused, StatementsAreRefused};
+ghost use Rattle.lx_ir_complete.specs.FaultOfText.{FirstFaultsAreTold, ModulesOrFaults, OneFirstFault};
 ghost use Rattle.lx_ir_complete.specs.Laws.{ModulesAreRead, OneModuleInGrammar, FaultyTextsAreNone, TextsHaveTokens, TextsAreAnswered, TextsAreRefused, RefusedTokensStandNowhere};
 
 use lx_ir_lawful::forgotten_laws;
@@ -164,4 +165,18 @@ pub fn refused_text_laws()
     ensures nowhere { RefusedTokensStandNowhere }
 {
     statement_laws();
+}
+
+/// The first fault of a text by the grammar: the text is no module, a byte that is told begins no token, and the token at which the first
+/// reading stops stands there in no module, where the fault is not a name that is defined twice. Each text is a module or has one such
+/// fault, and not two.
+pub fn first_fault_laws()
+    ensures told { FirstFaultsAreTold }
+    ensures one { OneFirstFault }
+    ensures answered { ModulesOrFaults }
+{
+    module_laws();
+    module_is_read_laws();
+    every_text_laws();
+    refused_text_laws();
 }
