@@ -37,11 +37,11 @@ use Rattle.lx_ir_statements.specs.declared.form.Statement.{Statement}
 use Rattle.lx_ir_statements.specs.declared.form.Statement.TheVariants as statements
 use Rattle.lx_ir_statements.specs.declared.defined.Defined.{Defined}
 use Rattle.lx_ir_statements.specs.Defined.{is_block_write, is_imported_twice}
-use Rattle.lx_ir_statements.specs.Statements.{symbol_name, next_symbol, symbol_at, import_name_at, new_type_at, type_statement_at, global_at, import_behind, function_behind, statement_by, statement_at}
+use Rattle.lx_ir_statements.specs.Statements.{symbol_name, next_symbol, symbol_at, import_name_at, new_function_name_at, new_type_at, type_statement_at, global_at, import_behind, function_behind, statement_by, statement_at}
 use Rattle.lx_ir_statements.specs.Grammar.{IsSymbol, IsNewType, is_declare_word, is_define_word, IsImport, IsOpening, IsFunction, IsGlobal, IsStatement}
 use Rattle.lx_ir_statements.specs.Laws.{begins_statement, may_follow}
 use Rattle.lx_ir_statements.proofs.TypeNames.{local_name_is, new_type_again}
-use Rattle.lx_ir_statements.proofs.GlobalLaws.{new_symbol_reads, global_again}
+use Rattle.lx_ir_statements.proofs.GlobalLaws.{global_again}
 
 -- What may follow a statement.
 
@@ -158,30 +158,33 @@ module _ (context : Context) (form : TextForm) (places : List Token) (defined : 
 
   -- Functions.
 
-  function_again : InstrLaws context form → (name : ℕ) (ret : Option Scalar) (head : Head) (blocks : List Block) (opening back us : List Tok) → has_number defined.symbols name ≡ false → (IsResult ret then IsSymbol name then IsHead context head then Repeated IsAttribute then IsMark OpenBrace) opening → IsBody context form places head.numbered head.registers blocks back us → function_behind context form places defined (opening ++ (back ++ us)) ≡ Ok (statements.Function name ret head.params blocks, us)
-  function_again laws name ret head blocks opening back us new (f, b1, r, (n, b2, s, (h, b3, hs, (a, b4, attrs, (o, k, g), w4), w3), w2), w1) body =
+  function_name_reads : (name : ℕ) → has_number defined.symbols name ≡ false → is_block_write context name ≡ false → Reads (new_function_name_at context defined) name (IsSymbol name)
+  function_name_reads name new plain ts us (t, e, g) = rw (g, e, new, plain) refl
+
+  function_again : InstrLaws context form → (name : ℕ) (ret : Option Scalar) (head : Head) (blocks : List Block) (opening back us : List Tok) → has_number defined.symbols name ≡ false → is_block_write context name ≡ false → (IsResult ret then IsSymbol name then IsHead context head then Repeated IsAttribute then IsMark OpenBrace) opening → IsBody context form places head.numbered head.registers blocks back us → function_behind context form places defined (opening ++ (back ++ us)) ≡ Ok (statements.Function name ret head.params blocks, us)
+  function_again laws name ret head blocks opening back us new plain (f, b1, r, (n, b2, s, (h, b3, hs, (a, b4, attrs, (o, k, g), w4), w3), w2), w1) body =
       let rest = back ++ us in
       let e4 : b3 ++ rest ≡ a ++ (o ∷ rest) = rw (w4, g) (append_assoc a (o ∷ []) rest) in
       let e3 : b2 ++ rest ≡ h ++ (a ++ (o ∷ rest)) = rw w3 (append_assoc h b3 rest ∙ ap (λ r. h ++ r) e4) in
       let e2 : b1 ++ rest ≡ n ++ (h ++ (a ++ (o ∷ rest))) = rw w2 (append_assoc n b2 rest ∙ ap (λ r. n ++ r) e3) in
       let whole : opening ++ rest ≡ f ++ (n ++ (h ++ (a ++ (o ∷ rest)))) = rw w1 (append_assoc f b1 rest ∙ ap (λ r. f ++ r) e2) in
       let result = result_reads ret f (n ++ (h ++ (a ++ (o ∷ rest)))) r in
-      let named = new_symbol_reads defined name new n (h ++ (a ++ (o ∷ rest))) s in
+      let named = function_name_reads name new plain n (h ++ (a ++ (o ∷ rest))) s in
       let head' = heads_again context head h (a ++ (o ∷ rest)) hs in
       let over = function_attributes_again tt a (o ∷ rest) (brace_no_word o.kind k) attrs in
       let blocks' = body_again context form laws places head.numbered head.registers blocks back us body in
       rw (whole, result, named, head', over, k, blocks') refl
 
-  functions_again : InstrLaws context form → (name : ℕ) (ret : Option Scalar) (params : List Parameter) (blocks : List Block) (ts us : List Tok) → has_number defined.symbols name ≡ false → IsFunction context form places name ret params blocks ts us → statement_at context form places defined (ts ++ us) ≡ Ok (statements.Function name ret params blocks, us)
-  functions_again laws name ret params blocks ts us new (head, front, back, (f, b, (t, e, g), r, w), body, same, v) =
+  functions_again : InstrLaws context form → (name : ℕ) (ret : Option Scalar) (params : List Parameter) (blocks : List Block) (ts us : List Tok) → has_number defined.symbols name ≡ false → is_block_write context name ≡ false → IsFunction context form places name ret params blocks ts us → statement_at context form places defined (ts ++ us) ≡ Ok (statements.Function name ret params blocks, us)
+  functions_again laws name ret params blocks ts us new plain (head, front, back, (f, b, (t, e, g), r, w), body, same, v) =
       let whole : ts ++ us ≡ t ∷ (b ++ (back ++ us)) = rw v (append_assoc front back us ∙ rw (w, g) refl) in
       ap (λ r. statement_at context form places defined r) whole
       ∙ define_statement t (b ++ (back ++ us)) (define_is t.kind e)
-      ∙ function_again laws name ret head blocks b back us new r body
+      ∙ function_again laws name ret head blocks b back us new plain r body
       ∙ ap (λ ps. Ok (statements.Function name ret ps blocks, us)) same
 
   pub statement_again : InstrLaws context form → (s : Statement) (ts us : List Tok) → may_follow us ≡ true → IsStatement context form places defined s ts us → statement_at context form places defined (ts ++ us) ≡ Ok (s, us)
   statement_again laws (statements.Type name ty) ts us follow (new, is) = types_again name ty ts us new is
   statement_again laws (statements.Global name constant ty init) ts us follow (new, is) = globals_again name constant ty init ts us new follow is
   statement_again laws (statements.Import name ret params) ts us follow (may, is) = imports_again name ret params ts us may follow is
-  statement_again laws (statements.Function name ret params blocks) ts us follow (new, is) = functions_again laws name ret params blocks ts us new is
+  statement_again laws (statements.Function name ret params blocks) ts us follow (new, plain, is) = functions_again laws name ret params blocks ts us new plain is

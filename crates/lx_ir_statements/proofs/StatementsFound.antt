@@ -13,7 +13,7 @@ use Rattle.lx_ir.specs.declared.types.Scalar.{Scalar}
 use Rattle.lx_ir.specs.declared.module.Block.{Block}
 use Rattle.lx_ir.specs.IrType.{IrType, One, Array, Struct, Packed, Named}
 use Rattle.lx_ir.specs.Layout.{is_struct}
-use Rattle.lx_ir_terms.specs.declared.fault.FaultKind.TheVariants.{Twice}
+use Rattle.lx_ir_terms.specs.declared.fault.FaultKind.TheVariants.{Twice, OutOfProfile}
 use Rattle.lx_ir_terms.specs.Context.{Context, type_number}
 use Rattle.lx_ir_terms.specs.Reading.{Read, ◌>>=◌, at, has, behind, is_mark, next_at, mark_at}
 use Rattle.lx_ir_terms.specs.Types.{written_type_at, flat_of, named_type, depth_limit, always_refused}
@@ -26,7 +26,7 @@ use Rattle.lx_ir_constants.specs.Constants.{first_name}
 use Rattle.lx_ir_calls.specs.declared.intrinsics.TextForm.{TextForm}
 use Rattle.lx_ir_operands.specs.Grammar.{Repeated, IsAttribute}
 use Rattle.lx_ir_statements.specs.declared.head.Head.{Head}
-use Rattle.lx_ir_statements.specs.Numbers.{has_number}
+use Rattle.lx_ir_statements.specs.Numbers.{has_number, has_some}
 use Rattle.lx_ir_statements.specs.Words.{import_attributes_at, function_attributes_at}
 use Rattle.lx_ir_statements.specs.Parameters.{local_name, parameters_at}
 use Rattle.lx_ir_statements.specs.Imports.{import_parameters_at}
@@ -41,10 +41,10 @@ use Rattle.lx_ir_statements.proofs.BlockLaws.{body_found}
 use Rattle.lx_ir_statements.specs.declared.form.Statement.{Statement}
 use Rattle.lx_ir_statements.specs.declared.form.Statement.TheVariants as statements
 use Rattle.lx_ir_statements.specs.declared.defined.Defined.{Defined}
-use Rattle.lx_ir_statements.specs.Defined.{is_block_write, is_imported_twice}
-use Rattle.lx_ir_statements.specs.Statements.{is_type_word, opens_struct, refused_here, struct_at, new_type_at, type_statement_at, symbol_name, next_symbol, symbol_at, import_name_at, new_symbol_at, global_at, import_behind, function_behind, statement_by, statement_at}
+use Rattle.lx_ir_statements.specs.Defined.{is_block_write, is_imported_twice, names_block_write}
+use Rattle.lx_ir_statements.specs.Statements.{is_type_word, opens_struct, refused_here, struct_at, new_type_at, type_statement_at, symbol_name, next_symbol, symbol_at, import_name_at, new_function_name_at, global_at, import_behind, function_behind, statement_by, statement_at}
 use Rattle.lx_ir_statements.specs.Grammar.{IsTypeName, IsStruct, IsNewType, IsSymbol, is_declare_word, is_define_word, IsImport, IsOpening, IsFunction, IsStatement}
-use Rattle.lx_ir_statements.proofs.GlobalLaws.{next_is, new_symbol_found, global_found}
+use Rattle.lx_ir_statements.proofs.GlobalLaws.{next_is, global_found}
 
 -- Types with names.
 
@@ -236,6 +236,21 @@ module _ (context : Context) (form : TextForm) (places : List Token) (defined : 
 
   -- Functions.
 
+  abbrev MayDefine : ℕ → Type 0
+  MayDefine name = (has_number defined.symbols name ≡ false) × (is_block_write context name ≡ false)
+
+  function_name_found_by : (a b : Bool) (ts us : List Tok) (name : ℕ) → has_some defined.symbols (next_symbol ts) ≡ a → names_block_write context (next_symbol ts) ≡ b
+      → unless a (Err (at Twice ts)) (unless b (Err (at OutOfProfile ts)) (symbol_at ts)) ≡ Ok (name, us) → MayDefine name × ((front : List Tok) × IsSymbol name front × (ts ≡ front ++ us))
+  function_name_found_by true b ts us name h k e = cc
+  function_name_found_by false true ts us name h k e = cc
+  function_name_found_by false false ts us name h k e =
+      let w = pick_finds (λ t. symbol_name t.kind t.name) always_refused ts us name e in
+      let n = next_is w.1.0 w.0 ts us name w.1.1 w.1.2 w.2 in
+      ((subst (λ m. has_some defined.symbols m ≡ false) n h, subst (λ m. names_block_write context m ≡ false) n k), (w.0, w.1, w.2))
+
+  function_name_found : (ts us : List Tok) (name : ℕ) → new_function_name_at context defined ts ≡ Ok (name, us) → MayDefine name × ((front : List Tok) × IsSymbol name front × (ts ≡ front ++ us))
+  function_name_found ts us name e = function_name_found_by (has_some defined.symbols (next_symbol ts)) (names_block_write context (next_symbol ts)) ts us name refl refl e
+
   abbrev behind_brace : ℕ → Option Scalar → Head → Unit {0} × List Tok → Read Statement
   behind_brace name ret head o = blocks_at context form places head.numbered head.registers o.1 >>= λ bs. Ok (statements.Function name ret head.params bs.0, bs.1)
 
@@ -249,19 +264,19 @@ module _ (context : Context) (form : TextForm) (places : List Token) (defined : 
   behind_function_name ret n = parameters_at context n.1 >>= behind_head n.0 ret
 
   abbrev behind_function_result : Option Scalar × List Tok → Read Statement
-  behind_function_result r = new_symbol_at defined r.1 >>= behind_function_name r.0
+  behind_function_result r = new_function_name_at context defined r.1 >>= behind_function_name r.0
 
   functions_found : InstrLaws context form → (t : Tok) (ts us : List Tok) (s : Statement) → is_define_word t.kind ≡ true → function_behind context form places defined ts ≡ Ok (s, us) → Found s (t ∷ ts) us
   functions_found laws t ts us s d e =
       let r = bind_ok (passed_result_at true ts) behind_function_result (s, us) e in
-      let n = bind_ok (new_symbol_at defined r.0.1) (behind_function_name r.0.0) (s, us) r.2 in
+      let n = bind_ok (new_function_name_at context defined r.0.1) (behind_function_name r.0.0) (s, us) r.2 in
       let h = bind_ok (parameters_at context n.0.1) (behind_head n.0.0 r.0.0) (s, us) n.2 in
       let a = bind_ok (function_attributes_at h.0.1) (behind_words n.0.0 r.0.0 h.0.0) (s, us) h.2 in
       let o = bind_ok (mark_at OpenBrace a.0.1) (behind_brace n.0.0 r.0.0 h.0.0) (s, us) a.2 in
       let b = bind_ok (blocks_at context form places h.0.0.numbered h.0.0.registers o.0.1) (λ bs. Ok (statements.Function n.0.0 r.0.0 h.0.0.params bs.0, bs.1)) (s, us) o.2 in
       let l = ok_same (statements.Function n.0.0 r.0.0 h.0.0.params b.0.0) s b.0.1 us b.2 in
       let r' = result_finds ts r.0.1 r.0.0 r.1 in
-      let n' = new_symbol_found defined r.0.1 n.0.1 n.0.0 n.1 in
+      let n' = function_name_found r.0.1 n.0.1 n.0.0 n.1 in
       let h' = heads_found context n.0.1 h.0.1 h.0.0 h.1 in
       let a' = function_attributes_found h.0.1 a.0.1 a.0.0 a.1 in
       let o' = next_finds (is_mark OpenBrace) a.0.1 o.0.1 o.0.0 o.1 in
@@ -280,7 +295,7 @@ module _ (context : Context) (form : TextForm) (places : List Token) (defined : 
       let opens : IsOpening context n.0.0 r.0.0 h.0.0 opening = (t ∷ [], b1, (t, d, refl), (r'.0, b2, r'.1, (n'.1.0, b3, n'.1.1, (h'.0, b4, h'.1, (a'.0, o'.0, a'.1, o'.1, refl), refl), refl), refl), refl) in
       let body : IsBody context form places h.0.0.numbered h.0.0.registers b.0.0 b'.0 us = subst (λ x. IsBody context form places h.0.0.numbered h.0.0.registers b.0.0 b'.0 x) l.1 b'.1 in
       let is : IsFunction context form places n.0.0 r.0.0 h.0.0.params b.0.0 (opening ++ b'.0) us = (h.0.0, opening, b'.0, opens, body, refl, refl) in
-      (opening ++ b'.0, subst (λ x. IsStatement context form places defined x (opening ++ b'.0) us) l.0 (n'.0, is), whole)
+      (opening ++ b'.0, subst (λ x. IsStatement context form places defined x (opening ++ b'.0) us) l.0 (n'.0.0, n'.0.1, is), whole)
 
   -- Statements.
 

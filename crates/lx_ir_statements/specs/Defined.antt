@@ -32,3 +32,8 @@ with_statement context defined (statements.Function name ret params blocks) = wi
 abbrev pub is_imported_twice : Context → Defined → Option ℕ → Bool
 is_imported_twice context defined None = false
 is_imported_twice context defined (Some name) = has_number defined.symbols name && not (is_block_write context name)
+
+-- A block write has this name.
+abbrev pub names_block_write : Context → Option ℕ → Bool
+names_block_write context None = false
+names_block_write context (Some name) = is_block_write context name

@@ -114,4 +114,4 @@ IsStatement context form places defined (statements.Global name constant ty init
 IsStatement context form places defined (statements.Import name ret params) ts us =
     ((has_number defined.symbols name ≡ false) ⊎ (is_block_write context name ≡ true)) × IsImport name ret params ts
 IsStatement context form places defined (statements.Function name ret params blocks) ts us =
-    (has_number defined.symbols name ≡ false) × IsFunction context form places name ret params blocks ts us
+    (has_number defined.symbols name ≡ false) × (is_block_write context name ≡ false) × IsFunction context form places name ret params blocks ts us

@@ -8,7 +8,7 @@ use Rattle.lx_ir_tokens.specs.declared.token.Mark.TheVariants.{Comma, Equal, Ope
 use Rattle.lx_ir_tokens.specs.declared.keyword.StatementWord.TheVariants as words
 use Rattle.lx_ir_tokens.specs.declared.keyword.Keyword.TheVariants as keywords
 use Rattle.lx_ir.specs.IrType.{IrType}
-use Rattle.lx_ir_terms.specs.declared.fault.FaultKind.TheVariants.{Twice}
+use Rattle.lx_ir_terms.specs.declared.fault.FaultKind.TheVariants.{Twice, OutOfProfile}
 use Rattle.lx_ir_terms.specs.Context.{Context}
 use Rattle.lx_ir_terms.specs.Reading.{Read, ◌>>=◌, at, refusal, refused, behind, pick_at, is_mark, has, next_at, mark_at}
 use Rattle.lx_ir_terms.specs.Types.{always_refused, depth_limit, written_type_at}
@@ -25,7 +25,7 @@ use Rattle.lx_ir_statements.specs.Blocks.{blocks_at}
 use Rattle.lx_ir_statements.specs.declared.form.Statement.{Statement}
 use Rattle.lx_ir_statements.specs.declared.form.Statement.TheVariants as statements
 use Rattle.lx_ir_statements.specs.declared.defined.Defined.{Defined}
-use Rattle.lx_ir_statements.specs.Defined.{is_imported_twice}
+use Rattle.lx_ir_statements.specs.Defined.{is_imported_twice, names_block_write}
 
 -- Types with names.
 
@@ -81,6 +81,13 @@ new_symbol_at defined ts = if has_some defined.symbols (next_symbol ts) then Err
 abbrev pub import_name_at : Context → Defined → List Tok → Read ℕ
 import_name_at context defined ts = if is_imported_twice context defined (next_symbol ts) then Err (at Twice ts) else symbol_at ts
 
+-- the same of a function with a body, which is no block write: no text defines one
+abbrev pub new_function_name_at : Context → Defined → List Tok → Read ℕ
+new_function_name_at context defined ts =
+    if has_some defined.symbols (next_symbol ts) then Err (at Twice ts)
+    else if names_block_write context (next_symbol ts) then Err (at OutOfProfile ts)
+    else symbol_at ts
+
 -- Globals.
 
 -- whether a global is constant
@@ -125,7 +132,7 @@ import_behind context defined ts = do
 abbrev pub function_behind : Context → TextForm → List Token → Defined → List Tok → Read Statement
 function_behind context form places defined ts = do
   r ← passed_result_at true ts
-  n ← new_symbol_at defined r.1
+  n ← new_function_name_at context defined r.1
   h ← parameters_at context n.1
   a ← function_attributes_at h.1
   o ← mark_at OpenBrace a.1

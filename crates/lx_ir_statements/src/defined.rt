@@ -2,7 +2,7 @@
 
 ghost use Rattle.std.specs.Prelude.{◌≡◌, OnOk};
 ghost use Rattle.lx_ir_statements.specs.Numbers.{has_number};
-ghost use Rattle.lx_ir_statements.specs.Defined.{nothing_defined, is_block_write, with_statement, is_imported_twice};
+ghost use Rattle.lx_ir_statements.specs.Defined.{nothing_defined, is_block_write, with_statement, is_imported_twice, names_block_write};
 
 use crate::Numbers;
 use crate::form::Statement;
@@ -24,6 +24,16 @@ pub fn is_block_write(context: &Context<'_>, name: u32) -> bool
     ensures { result ≡ is_block_write context.now name }
 {
     block_write_named(context.bytes(name)).is_some()
+}
+
+/// Whether a name, where there is one, is a block write's.
+pub fn names_block_write(context: &Context<'_>, name: Option<u32>) -> bool
+    ensures { result ≡ names_block_write context.now name }
+{
+    match name {
+        Some(name) => is_block_write(context, name),
+        None => false,
+    }
 }
 
 impl Defined {

@@ -6,7 +6,7 @@ ghost use Rattle.lx_ir_statements.specs.Statements.{function_behind};
 
 use crate::defined::Defined;
 use crate::form::Statement;
-use crate::symbols::new_symbol;
+use crate::symbols::new_function_name;
 use crate::{blocks, function_attributes, parameters};
 use lx_ir_calls::TextForm;
 use lx_ir_terms::{Context, ReadError, Reader};
@@ -27,7 +27,7 @@ pub fn function(
     ensures shrinks { length reader.new ≤ length reader.old }
 {
     let ret = reader.passed_result(true)?;
-    let name = new_symbol(reader, defined)?;
+    let name = new_function_name(reader, context, defined)?;
     let head = parameters(alloc, reader, context)?;
     function_attributes(reader)?;
     reader.mark(Mark::OpenBrace)?;

@@ -19,8 +19,9 @@ use std::alloc::Global;
 /// A statement, where the statements before define these names. `places` are those of all tokens of the text: an
 /// instruction's line is that of its first token.
 ///
-/// A fault is at the first token that cannot stand where it stands, at a word, type or number outside the profile, at a name
-/// that is defined a second time, or at one that names nothing in a complete context.
+/// A fault is at the first token that cannot stand where it stands, at a word, type or number outside the profile, at the name of
+/// a block write where a function has a body, at a name that is defined a second time, or at one that names nothing in a complete
+/// context.
 pub fn statement(
     alloc: Global,
     reader: &mut Reader<'_>,

@@ -2,9 +2,9 @@
 
 ghost use Rattle.std.specs.Prelude.{◌≡◌, ◌≤◌, length};
 ghost use Rattle.lx_ir_terms.specs.Reading.{Gives};
-ghost use Rattle.lx_ir_statements.specs.Statements.{symbol_name, next_symbol, symbol_at, new_symbol_at, import_name_at};
+ghost use Rattle.lx_ir_statements.specs.Statements.{symbol_name, next_symbol, symbol_at, new_symbol_at, import_name_at, new_function_name_at};
 
-use crate::defined::Defined;
+use crate::defined::{Defined, names_block_write};
 use lx_ir_terms::{Context, FaultKind, ReadError, Reader};
 use lx_ir_tokens::{Kind, Tok};
 
@@ -62,6 +62,26 @@ pub fn import_name(
 {
     if defined.is_imported_twice(context, next_symbol(reader)) {
         return Err(reader.fault(FaultKind::Twice));
+    }
+    let name = symbol(reader)?;
+    Ok(name)
+}
+
+/// The name of a function with a body, which no statement before defines, and which is no block write's.
+pub fn new_function_name(
+    reader: &mut Reader<'_>,
+    context: &Context<'_>,
+    defined: &Defined,
+) -> Result<u32, ReadError>
+    ensures reads { Gives result reader.new (new_function_name_at context.now defined.now reader.old) }
+    ensures shrinks { length reader.new ≤ length reader.old }
+{
+    let next = next_symbol(reader);
+    if defined.symbols.has_some(next) {
+        return Err(reader.fault(FaultKind::Twice));
+    }
+    if names_block_write(context, next) {
+        return Err(reader.fault(FaultKind::OutOfProfile));
     }
     let name = symbol(reader)?;
     Ok(name)
