@@ -93,7 +93,7 @@ some_token : (c : Context) (form : TextForm) (places : List Token) (defined : De
 some_token c form places defined (statements.Type name ty) ts us (fresh, (f, b, (t, k, local, ty_name, e), rest, w)) = one_first t f b ts e w
 some_token c form places defined (statements.Global name constant ty init) ts us (fresh, (f, b, (t, n, e), rest, w)) = one_first t f b ts e w
 some_token c form places defined (statements.Import name ret params) ts us (may, (f, b, (t, k, e), rest, w)) = one_first t f b ts e w
-some_token c form places defined (statements.Function name ret params blocks) ts us (fresh, (head, before, behind, (f, b, (t, k, e), rest, w), body, same, whole)) =
+some_token c form places defined (statements.Function name ret params blocks) ts us (fresh, plain, (head, before, behind, (f, b, (t, k, e), rest, w), body, same, whole)) =
     let one = one_first t f b before e w in
     let size : length ts ≡ length before + length behind = ap length whole ∙ length-append before behind in
     omega (arith, one, size)

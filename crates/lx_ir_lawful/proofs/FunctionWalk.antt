@@ -55,6 +55,8 @@ module _ (form : TextForm) (places : List Token) (full : Context) (toks : List T
     pub ts : List Tok
     pub us : List Tok
     pub is : IsFunction (with_registers full (table_of (registers_in full.names t))) form places name ret params blocks ts us
+    -- no text defines a block write
+    pub plain : is_block_write full name ≡ false
     pub there : tokens_left left toks ≡ ts ++ us
     pub defined : Defined
     pub front : List Tok
@@ -76,9 +78,9 @@ module _ (form : TextForm) (places : List Token) (full : Context) (toks : List T
     kept_good d t (statements.Global name constant ty init) line left earlier ts us front back is there first here g = record { imports = g.imports; functions = g.functions }
     kept_good d t (statements.Import name ret params) line left earlier ts us front back is there first here g =
         import_good (is_block_write full name) (with_defined full d (statements.Import name ret params)) (import_of (bytes_of full name) ret params line) (imported (bytes_of full name) ret params line) (record { imports = g.imports; functions = g.functions })
-    kept_good d t (statements.Function name ret params blocks) line left earlier ts us front back (fresh, is) there first here g =
+    kept_good d t (statements.Function name ret params blocks) line left earlier ts us front back (fresh, plain, is) there first here g =
         let said : SaidTwice t name ret params blocks =
-        record { left = left; ts = ts; us = us; is = is; there = there; defined = earlier; front = front; back = back; first = first; here = here } in
+        record { left = left; ts = ts; us = us; is = is; plain = plain; there = there; defined = earlier; front = front; back = back; first = first; here = here } in
         record {
           imports = g.imports;
           functions = one_more q d.functions (function_of full t name ret params blocks line) g.functions (each t name ret params blocks line said);

@@ -1,5 +1,5 @@
 -- The functions of a module that is read are lawful.
-use Rattle.std.proofs.Common.{◌≡◌, ℕ, ◌+◌, ◌<◌, Bool, true, false, not, ◌||◌, List, [], ◌∷◌, length, map, refl, sym, ◌∙◌, subst}
+use Rattle.std.proofs.Common.{◌≡◌, ℕ, ◌+◌, ◌<◌, Bool, true, false, not, ◌&&◌, ◌||◌, List, [], ◌∷◌, length, map, refl, sym, ◌∙◌, subst}
 use Rattle.std.specs.Prelude.{◌^◌, flat_map, if◌then◌else◌}
 use Rattle.std.specs.List.{list_all}
 use Rattle.std.proofs.lemmas.Bool.{and_parts, and_from}
@@ -22,7 +22,7 @@ use Rattle.lx_ir_lawful.proofs.NamesOnce.{names_once}
 use Rattle.lx_ir_lawful.proofs.TokenNames.{tokens_are_named}
 use Rattle.lx_ir_lawful.proofs.FewNames.{names_are_few}
 use Rattle.lx_ir_lawful.proofs.Sizes.{body_all}
-use Rattle.lx_ir_lawful.specs.OnceLaws.{is_first_or_defined}
+use Rattle.lx_ir_lawful.specs.OnceLaws.{is_first_or_defined, has_plain_name}
 use Rattle.lx_ir_lawful.proofs.SymbolsOnce.{symbols_are_once}
 use Rattle.lx_ir_lawful.proofs.Imports.{imports_are_first}
 use Rattle.lx_ir_lawful.specs.FunctionLaws.{last_context}
@@ -40,15 +40,17 @@ defined_or_import : (defined body imported : Bool) → (not defined || body) ≡
 defined_or_import true body imported h g = h
 defined_or_import false body imported h g = g
 
-all_lawful : (m : Module) (fs : List Function) → list_all is_name (map (λ f. f.name) fs) ≡ true → list_all (has_body m) fs ≡ true → list_all is_first_or_defined fs ≡ true → list_all (is_lawful_function m) fs ≡ true
-all_lawful m [] named bodies imports = refl
-all_lawful m (f ∷ fs) named bodies imports =
+all_lawful : (m : Module) (fs : List Function) → list_all is_name (map (λ f. f.name) fs) ≡ true → list_all (has_body m) fs ≡ true → list_all is_first_or_defined fs ≡ true → list_all has_plain_name fs ≡ true → list_all (is_lawful_function m) fs ≡ true
+all_lawful m [] named bodies imports plain = refl
+all_lawful m (f ∷ fs) named bodies imports plain =
     let name = and_parts (is_name f.name) (list_all is_name (map (λ f. f.name) fs)) named in
     let body = and_parts (has_body m f) (list_all (has_body m) fs) bodies in
     let first = and_parts (is_first_or_defined f) (list_all is_first_or_defined fs) imports in
+    let own = and_parts (has_plain_name f) (list_all has_plain_name fs) plain in
     and_from (is_lawful_function m f) (list_all (is_lawful_function m) fs)
-    (and_from (is_name f.name) (if is_defined f then is_lawful_body m f else is_lawful_import f) name.0 (defined_or_import (is_defined f) (is_lawful_body m f) (is_lawful_import f) body.0 first.0))
-    (all_lawful m fs name.1 body.1 first.1)
+    (and_from (is_name f.name && has_plain_name f) (if is_defined f then is_lawful_body m f else is_lawful_import f) (and_from (is_name f.name) (has_plain_name f) name.0 own.0)
+    (defined_or_import (is_defined f) (is_lawful_body m f) (is_lawful_import f) body.0 first.0))
+    (all_lawful m fs name.1 body.1 first.1 own.1)
 
 pub functions_are_lawful : (form : TextForm) (text : List ℕ) (m : Module) (is : IsModule form text m) → Tells m (last_context form text m is) → Names form m (last_context form text m is) → length is.ir.toks + 1 < 2 ^ 32 → list_all (is_lawful_function m) m.functions ≡ true
 functions_are_lawful form text m is tells known few =
@@ -58,10 +60,11 @@ functions_are_lawful form text m is tells known few =
     let bodies : list_all (has_body m) m.functions ≡ true =
     functions_pass form text m is (has_body m) (λ name ret params line. refl)
     (λ t name ret params blocks line said.
-    body_of m full form is.ir.places is.ir.toks tells known once (tokens_are_named text is.ir is.reads) counted few t said.left line name ret params blocks said.ts said.us said.front said.back said.defined said.is said.there said.first said.here) in
+    body_of m full form is.ir.places is.ir.toks tells known once (tokens_are_named text is.ir is.reads) counted few t said.left line name ret params blocks said.ts said.us said.front said.back said.defined said.plain said.is said.there said.first said.here) in
     let names = and_parts (list_all is_name (map (λ g. g.name) m.globals)) (list_all is_name (map (λ f. f.name) m.functions))
     (sym (list_all-append is_name (map (λ g. g.name) m.globals) (map (λ f. f.name) m.functions)) ∙ (symbols_are_once form text m is).names) in
-    all_lawful m m.functions names.1 bodies (imports_are_first form text m is).imports
+    let imports = imports_are_first form text m is in
+    all_lawful m m.functions names.1 bodies imports.imports imports.plain
 
 -- Programs have no lines of images.
 

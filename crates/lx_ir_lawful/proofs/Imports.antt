@@ -1,4 +1,4 @@
--- The imports of a module that is read stand first, and keep no names.
+-- The imports of a module that is read stand first, and keep no names; no function has the name of a block write.
 use Rattle.std.proofs.Common.{◌≡◌, ℕ, Bool, true, false, not, ◌&&◌, ◌||◌, Option, Some, None, is_some, List, [], ◌∷◌, ◌++◌, length, map, bytes_eq, nat_eq, refl, ap, ◌∙◌, subst}
 use Rattle.std.specs.Prelude.{if◌then◌else◌, codes}
 use Rattle.std.specs.List.{list_all}
@@ -20,14 +20,15 @@ use Rattle.lx_ir_calls.specs.Writes.{block_write_named}
 use Rattle.lx_ir_statements.specs.declared.form.Statement.{Statement}
 use Rattle.lx_ir_statements.specs.declared.form.Statement.TheVariants as statements
 use Rattle.lx_ir_statements.specs.Defined.{is_block_write}
-use Rattle.lx_ir_tables.specs.Numbering.{Numbering}
+use Rattle.lx_ir_statements.specs.Grammar.{IsStatement}
+use Rattle.lx_ir_tables.specs.Numbering.{Numbering, table_of}
 use Rattle.lx_ir_read.specs.declared.first.Found.{Found}
 use Rattle.lx_ir_read.specs.declared.draft.Draft.{Draft}
-use Rattle.lx_ir_read.specs.Again.{no_draft, registers_in, with_defined, with_declared, nameless, import_of, local_names, kept}
+use Rattle.lx_ir_read.specs.Again.{no_draft, registers_in, with_registers, with_defined, with_declared, nameless, import_of, local_names, kept}
 use Rattle.lx_ir_read.specs.Fault.{line_shown}
 use Rattle.lx_ir_read.specs.Reading.{tables_of, full_context}
 use Rattle.lx_ir_read.specs.Grammar.{AddAll, IsModule}
-use Rattle.lx_ir_lawful.specs.OnceLaws.{HasLawfulImports, is_first_or_defined}
+use Rattle.lx_ir_lawful.specs.OnceLaws.{HasLawfulImports, is_first_or_defined, has_plain_name}
 
 -- Names of block writes.
 
@@ -64,10 +65,10 @@ nameless_all (p ∷ ps) = and_from true (list_all (λ q. nat_eq (length q.name) 
 abbrev is_import : Function → Bool
 is_import f = not (is_defined f) && is_lawful_import f
 
-import_is : (name : List ℕ) (ret : Option Scalar) (params : List Scalar) (line : ℕ) → is_written name ≡ false → is_import (import_of name ret params line) ≡ true
-import_is name ret params line h =
+import_is : (name : List ℕ) (ret : Option Scalar) (params : List Scalar) (line : ℕ) → is_import (import_of name ret params line) ≡ true
+import_is name ret params line =
     and_from true (is_lawful_import (import_of name ret params line)) refl
-    (and_from (list_all (λ p. nat_eq (length p.name) 0) (map nameless params) && true) (not (is_written name)) (and_from (list_all (λ p. nat_eq (length p.name) 0) (map nameless params)) true (nameless_all params) refl) (ap not h))
+    (and_from (list_all (λ p. nat_eq (length p.name) 0) (map nameless params)) true (nameless_all params) refl)
 
 one_more : (p : Function → Bool) (xs : List Function) (x : Function) → list_all p xs ≡ true → p x ≡ true → list_all p (xs ++ x ∷ []) ≡ true
 one_more p xs x h g = list_all-append p xs (x ∷ []) ∙ and_from (list_all p xs) (p x && true) h (and_from (p x) true g refl)
@@ -75,24 +76,48 @@ one_more p xs x h g = list_all-append p xs (x ∷ []) ∙ and_from (list_all p x
 record Apart (d : Draft) : Type 0 where
   imports : list_all is_import d.imports ≡ true
   functions : list_all is_defined d.functions ≡ true
+  plain_imports : list_all has_plain_name d.imports ≡ true
+  plain : list_all has_plain_name d.functions ≡ true
 
-import_apart : (b : Bool) (d : Draft) (f : Function) → (b ≡ false → is_import f ≡ true) → Apart d → Apart (if b then d else with_declared d f)
-import_apart true d f h g = g
-import_apart false d f h g = record { imports = one_more is_import d.imports f g.imports (h refl); functions = g.functions }
+import_apart : (b : Bool) (d : Draft) (f : Function) → is_import f ≡ true → (b ≡ false → has_plain_name f ≡ true) → Apart d → Apart (if b then d else with_declared d f)
+import_apart true d f i h g = g
+import_apart false d f i h g = record {
+  imports = one_more is_import d.imports f g.imports i;
+  functions = g.functions;
+  plain_imports = one_more has_plain_name d.imports f g.plain_imports (h refl);
+  plain = g.plain;
+}
 
-kept_apart : (full : Context) (d : Draft) (s : Statement) (registers : Numbering) (line : ℕ) → Apart d → Apart (kept full registers line (with_defined full d s) s)
-kept_apart full d (statements.Type name ty) registers line g = record { imports = g.imports; functions = g.functions }
-kept_apart full d (statements.Global name constant ty init) registers line g = record { imports = g.imports; functions = g.functions }
-kept_apart full d (statements.Import name ret params) registers line g =
-    import_apart (is_block_write full name) (with_defined full d (statements.Import name ret params)) (import_of (bytes_of full name) ret params line) (λ h. import_is (bytes_of full name) ret params line (no_write (bytes_of full name) h)) (record { imports = g.imports; functions = g.functions })
-kept_apart full d (statements.Function name ret params blocks) registers line g =
+same_functions : (d e : Draft) → d.imports ≡ e.imports → d.functions ≡ e.functions → Apart d → Apart e
+same_functions d e i f g = record {
+  imports = subst (λ v. list_all is_import v ≡ true) i g.imports;
+  functions = subst (λ v. list_all is_defined v ≡ true) f g.functions;
+  plain_imports = subst (λ v. list_all has_plain_name v ≡ true) i g.plain_imports;
+  plain = subst (λ v. list_all has_plain_name v ≡ true) f g.plain;
+}
+
+plain_name : (full : Context) (name : ℕ) → is_block_write full name ≡ false → not (is_written (bytes_of full name)) ≡ true
+plain_name full name h = ap not (no_write (bytes_of full name) h)
+
+kept_apart : (full : Context) (form : TextForm) (places : List Token) (d : Draft) (s : Statement) (registers : Numbering) (line : ℕ) (front back : List Tok) → IsStatement (with_registers full (table_of registers)) form places d.defined s front back → Apart d → Apart (kept full registers line (with_defined full d s) s)
+kept_apart full form places d (statements.Type name ty) registers line front back is g = same_functions d _ refl refl g
+kept_apart full form places d (statements.Global name constant ty init) registers line front back is g = same_functions d _ refl refl g
+kept_apart full form places d (statements.Import name ret params) registers line front back is g =
+    import_apart (is_block_write full name) (with_defined full d (statements.Import name ret params)) (import_of (bytes_of full name) ret params line) (import_is (bytes_of full name) ret params line) (plain_name full name)
+    (same_functions d (with_defined full d (statements.Import name ret params)) refl refl g)
+kept_apart full form places d (statements.Function name ret params blocks) registers line front back (fresh, plain, is) g =
     let f : Function = record { name = bytes_of full name; params = params; locals = local_names full.names (length params) registers; ret = ret; blocks = Some blocks; line = line } in
-    record { imports = g.imports; functions = one_more is_defined d.functions f g.functions refl }
+    record {
+      imports = g.imports;
+      functions = one_more is_defined d.functions f g.functions refl;
+      plain_imports = g.plain_imports;
+      plain = one_more has_plain_name d.functions f g.plain (plain_name full name plain);
+    }
 
 all_apart : (form : TextForm) (places : List Token) (full : Context) (toks : List Tok) (fs : List Found) (d e : Draft) → AddAll full form places toks d fs e → Apart d → Apart e
 all_apart form places full toks [] d e says g = subst Apart says g
 all_apart form places full toks (f ∷ fs) d e (m, (s, front, back, is, w, k), rest) g =
-    all_apart form places full toks fs m e rest (subst Apart k (kept_apart full d s (registers_in full.names f.statement) (line_shown places f.left) g))
+    all_apart form places full toks fs m e rest (subst Apart k (kept_apart full form places d s (registers_in full.names f.statement) (line_shown places f.left) front back is g))
 
 -- The functions of the module.
 
@@ -132,5 +157,9 @@ all_or_lawful (i ∷ is) fs h g =
 
 pub imports_are_first : (form : TextForm) (text : List ℕ) (m : Module) → IsModule form text m → HasLawfulImports m
 imports_are_first form text m is =
-    let g = all_apart form is.ir.places (full_context is.ir (tables_of form is.ir is.statements) true) is.ir.toks is.statements no_draft is.draft is.says (record { imports = refl; functions = refl }) in
-    subst HasLawfulImports is.is (record { first = first_imports is.draft.imports is.draft.functions g.imports g.functions; imports = all_or_lawful is.draft.imports is.draft.functions g.imports g.functions })
+    let g = all_apart form is.ir.places (full_context is.ir (tables_of form is.ir is.statements) true) is.ir.toks is.statements no_draft is.draft is.says (record { imports = refl; functions = refl; plain_imports = refl; plain = refl }) in
+    subst HasLawfulImports is.is (record {
+      first = first_imports is.draft.imports is.draft.functions g.imports g.functions;
+      imports = all_or_lawful is.draft.imports is.draft.functions g.imports g.functions;
+      plain = list_all-append has_plain_name is.draft.imports is.draft.functions ∙ and_from (list_all has_plain_name is.draft.imports) (list_all has_plain_name is.draft.functions) g.plain_imports g.plain;
+    })

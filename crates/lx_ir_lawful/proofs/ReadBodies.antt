@@ -1,5 +1,5 @@
 -- A function that is read again has a lawful body.
-use Rattle.std.proofs.Common.{◌≡◌, ℕ, zero, suc, ◌-◌, ◌+◌, ◌<◌, ◌≤◌, true, Option, Some, None, is_some, List, [], ◌∷◌, ◌++◌, length, map, drop, refl, sym, ap, ◌∙◌, subst, arith}
+use Rattle.std.proofs.Common.{◌≡◌, ℕ, zero, suc, ◌-◌, ◌+◌, ◌<◌, ◌≤◌, true, false, Option, Some, None, is_some, List, [], ◌∷◌, ◌++◌, length, map, drop, refl, sym, ap, ◌∙◌, subst, arith}
 use Rattle.std.specs.Prelude.{unwrap_or}
 use Rattle.std.specs.List.{AllByRecursion}
 use Rattle.std.proofs.Math.Seq.{drop-append_seam}
@@ -18,6 +18,7 @@ use Rattle.lx_ir_calls.specs.declared.intrinsics.TextForm.{TextForm}
 use Rattle.lx_ir_statements.specs.declared.form.Statement.{Statement}
 use Rattle.lx_ir_statements.specs.declared.form.Statement.TheVariants as statements
 use Rattle.lx_ir_statements.specs.declared.defined.Defined.{Defined}
+use Rattle.lx_ir_statements.specs.Defined.{is_block_write}
 use Rattle.lx_ir_statements.specs.Grammar.{IsFunction, IsStatement}
 use Rattle.lx_ir_tables.specs.Numbering.{numbering, table_of, own_numbers}
 use Rattle.lx_ir_tables.specs.Registers.{registers_of}
@@ -119,17 +120,17 @@ module _ (m : Module) (full : Context) (form : TextForm) (places : List Token) (
   few_names = omega (arith, counted, few)
 
   pub body_of : (t : Statement) (left line name : ℕ) (ret : Option Scalar) (params : List Parameter) (blocks : List Block) (ts us front back : List Tok) (defined : Defined)
-      → IsFunction (by_registers t) form places name ret params blocks ts us → tokens_left left toks ≡ ts ++ us
+      → is_block_write full name ≡ false → IsFunction (by_registers t) form places name ret params blocks ts us → tokens_left left toks ≡ ts ++ us
       → IsStatement (unknown_context full.names) form places defined t front back → tokens_left left toks ≡ front ++ back
       → is_lawful_body m (record { name = bytes_of full name; params = params; locals = local_names names (length params) (registers_in names t); ret = ret; blocks = Some blocks; line = line }) ≡ true
-  body_of t left line name ret params blocks ts us front back defined (head, opening, body, (f, b, word, (f2, b2, result, (f3, b3, symbol, (f4, b4, opened, rest, w4), w3), w2), w), is, same, whole) there first here =
+  body_of t left line name ret params blocks ts us front back defined plain (head, opening, body, (f, b, word, (f2, b2, result, (f3, b3, symbol, (f4, b4, opened, rest, w4), w3), w2), w), is, same, whole) there first here =
       let c : Context = by_registers t in
       let own : List (Option ℕ) = own_numbers 0 (length names) in
       let h = head_seen c own head f4 opened in
       let ys = body_seen c own form places head.numbered head.registers blocks body us is in
       let also : IsFunction (unknown_context names) form places name ret params ys.0 ts us =
       (head, opening, body, (f, b, word, (f2, b2, result, (f3, b3, symbol, (f4, b4, h, rest, w4), w3), w2), w), ys.1, same, whole) in
-      let it : statements.Function name ret params ys.0 ≡ t = same_function (unknown_context names) form places name ret params ys.0 ts us also defined t front back first (sym there ∙ here) in
+      let it : statements.Function name ret params ys.0 ≡ t = same_function (unknown_context names) form places name ret params ys.0 ts us plain also defined t front back first (sym there ∙ here) in
       let all = among names toks ts us (tokens_left left toks) there (among_left names toks left named) in
       let parts = among names toks opening body ts whole all.0 in
       let one = among names toks f b opening w parts.0 in

@@ -32,9 +32,9 @@ module _ (c : Context) (registers : List (Option ℕ)) (form : TextForm) (places
         (refl, refl),
       )
   statement_seen (statements.Import name ret params) ts us h = (statements.Import name ret params, h, (refl, refl, refl))
-  statement_seen (statements.Function name ret params blocks) ts us (fresh, (head, front, back, (f, b, word, (f2, b2, result, (f3, b3, symbol, (f4, b4, opened, rest, w4), w3), w2), w), body, same, whole)) =
+  statement_seen (statements.Function name ret params blocks) ts us (fresh, plain, (head, front, back, (f, b, word, (f2, b2, result, (f3, b3, symbol, (f4, b4, opened, rest, w4), w3), w2), w), body, same, whole)) =
       let ys = body_seen c registers form places head.numbered head.registers blocks back us body in (
         statements.Function name ret params ys.0,
-        (fresh, (head, front, back, (f, b, word, (f2, b2, result, (f3, b3, symbol, (f4, b4, head_seen c registers head f4 opened, rest, w4), w3), w2), w), ys.1, same, whole)),
+        (fresh, plain, (head, front, back, (f, b, word, (f2, b2, result, (f3, b3, symbol, (f4, b4, head_seen c registers head f4 opened, rest, w4), w3), w2), w), ys.1, same, whole)),
         (refl, refl, refl, ys.2),
       )

@@ -81,7 +81,7 @@ begins_type c form places defined (statements.Global name constant ty init) ts u
     first_is t f b ts back w3 w ∙ symbol_is_not t.kind t.name name e
 begins_type c form places defined (statements.Import name ret params) ts us back (may, (f, b, (t, e, w3), rest, w)) =
     first_is t f b ts back w3 w ∙ declare_is_not t.kind e
-begins_type c form places defined (statements.Function name ret params blocks) ts us back (fresh, (head, front, rest, (f, b, (t, e, w3), opening, w), body, same, whole)) =
+begins_type c form places defined (statements.Function name ret params blocks) ts us back (fresh, plain, (head, front, rest, (f, b, (t, e, w3), opening, w), body, same, whole)) =
     first_of t f b front rest ts back w3 w whole ∙ define_is_not t.kind e
 
 -- the tokens that are left at a place
@@ -216,7 +216,7 @@ module _ (form : TextForm) (places : List Token) (full : Context) (toks : List T
       subst (Good p) k
       (good_import (is_block_write full name) (with_defined full d (statements.Import name ret params)) (import_of (bytes_of full name) ret params line) refl
       (record { types = g.types; globals = g.globals; imports = g.imports; functions = g.functions }))
-  kept_good registers line defined d e (statements.Function name ret params blocks) front back (fresh, (head, before, behind, opening, body, same, w)) g k =
+  kept_good registers line defined d e (statements.Function name ret params blocks) front back (fresh, plain, (head, before, behind, opening, body, same, w)) g k =
       let f : Function = record { name = bytes_of full name; params = params; locals = local_names full.names (length params) registers; ret = ret; blocks = Some blocks; line = line } in
       subst (Good p) k
       (record {

@@ -168,7 +168,7 @@ told_by_tokens c form places defined (statements.Global name constant ty init) t
 told_by_tokens c form places defined (statements.Import name ret params) ts us back (may, (f, b, (t, k, e), (f2, b2, result, (f3, b3, symbol, rest, w3), w2), w)) =
     begins t f b ts back (kinds.Word (keywords.Statement words.Declare)) (Some name) e w (declare_is t.kind k)
     (goes_over f b ts back (is_free is_declare_word refl f (t, k, e)) w ∙ goes_over f2 b2 b back (result_free ret f2 result) w2 ∙ said name f3 b3 b2 back symbol w3)
-told_by_tokens c form places defined (statements.Function name ret params blocks) ts us back (fresh, (head, before, behind, (f, b, (t, k, e), (f2, b2, result, (f3, b3, symbol, rest, w3), w2), w), body, same, whole)) =
+told_by_tokens c form places defined (statements.Function name ret params blocks) ts us back (fresh, plain, (head, before, behind, (f, b, (t, k, e), (f2, b2, result, (f3, b3, symbol, rest, w3), w2), w), body, same, whole)) =
     begins_before t f b before behind ts back (kinds.Word (keywords.Statement words.Define)) (Some name) e w whole (define_is t.kind k)
     (ap first_global (ap (λ v. v ++ back) whole ∙ append_assoc before behind back)
     ∙ goes_over f b before (behind ++ back) (is_free is_define_word refl f (t, k, e)) w ∙ goes_over f2 b2 b (behind ++ back) (result_free ret f2 result) w2 ∙ said name f3 b3 b2 (behind ++ back) symbol w3)

@@ -223,7 +223,7 @@ module _ (form : TextForm) (places : List Token) (full : Context) (toks : List T
       let same : (if is_block_write full name then e else with_declared e x).defined ≡ e.defined = import_defined (is_block_write full name) e (with_declared e x) refl in
       subst (λ v. Symbols names once v (if is_block_write full name then e else with_declared e x).defined.symbols) said
       (subst (λ v. Symbols names once (symbols_in (if is_block_write full name then d else with_declared d x)) v.symbols) (sym same) good)
-  kept_good d (statements.Function name ret params blocks) registers line left front back (fresh, (head, before, behind, (f, b, word, (f2, b2, result, (f3, b3, symbol, rest, w3), w2), w), body, same, whole)) there g =
+  kept_good d (statements.Function name ret params blocks) registers line left front back (fresh, plain, (head, before, behind, (f, b, word, (f2, b2, result, (f3, b3, symbol, rest, w3), w2), w), body, same, whole)) there g =
       let opening = first_part (IsTokenNamed names) before behind front whole (tokens_at left front back there) in
       let all = second_part (IsTokenNamed names) f2 b2 b w2 (second_part (IsTokenNamed names) f b before w opening) in
       let n = symbol_named name f3 symbol (first_part (IsTokenNamed names) f3 b3 b2 w3 all) in
