@@ -4,7 +4,6 @@ use Rattle.std.specs.Prelude.{if◌then◌else◌}
 use Rattle.lx_annot.specs.declared.interface.Interface.{Interface}
 use Rattle.lx_annot_expressions.specs.Tokens.{Tok}
 use Rattle.lx_annot_expressions.specs.declared.fault.Fault.{Fault}
-use Rattle.lx_annot_expressions.specs.declared.fault.FaultKind.TheVariants.{Statement}
 use Rattle.lx_annot_expressions.specs.Reading.{Read, ◌>>=◌, at}
 use Rattle.lx_annot_read.proofs.Aside.{Same as SameAside, SameRead as SameStatement}
 use Rattle.lx_annot_laws.proofs.Local.{Local, Plain}
@@ -51,7 +50,7 @@ alike_local R read other plain alike = record {
       let r = plain.reads front us vs x e look in
       ok_alike R (read (front ++ vs)) (other (front ++ vs)) x vs (alike (front ++ vs)) (r.1 ∙ ap (λ y. Ok (y, vs)) (sym r.2));
   stops = plain.stops;
-  faults = λ front us vs f tidy a e left look. err_alike R (read (front ++ vs)) (other (front ++ vs)) (at Statement vs) (alike (front ++ vs)) (plain.faults front us vs f tidy a e left look);
+  faults = λ front us vs f bound a e left look. err_alike R (read (front ++ vs)) (other (front ++ vs)) (at f.kind vs) (alike (front ++ vs)) (plain.faults front us vs f bound a e left look);
 }
 
 -- Interfaces that are the same, lines aside.

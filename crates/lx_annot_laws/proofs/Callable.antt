@@ -7,15 +7,15 @@ use Rattle.lx_annot.specs.declared.expr.Ty.TheVariants as ty
 use Rattle.lx_annot.specs.declared.interface.Parameter.{Parameter}
 use Rattle.lx_annot_expressions.specs.Tokens.{Tok}
 use Rattle.lx_annot_expressions.specs.declared.fault.Fault.{Fault}
-use Rattle.lx_annot_expressions.specs.declared.fault.FaultKind.TheVariants.{Statement}
-use Rattle.lx_annot_expressions.specs.Reading.{Read, ◌>>=◌, refused, behind, has, next_at, steps_at, adding_at}
+use Rattle.lx_annot_expressions.specs.Reading.{Read, ◌>>=◌, at, refused, behind, has, next_at, steps_at, adding_at}
 use Rattle.lx_annot_expressions.specs.Exprs.{names_of_params}
 use Rattle.lx_annot_terms.specs.Lists.{Known}
 use Rattle.lx_annot_terms.specs.Signatures.{param_name_at}
 use Rattle.lx_annot_terms.specs.Clauses.{clauses_at}
 use Rattle.lx_cproto.specs.Types.{type_at, is_void, value_type_at}
 use Rattle.lx_cproto.specs.Params.{param_behind, some_params_at, is_void_alone, params_at, enclosed_params_at, callable_at}
-use Rattle.lx_annot_laws.proofs.Local.{Looks, has_looks, Tidy, no_longer, Plain, ok_err, pure_plain, then_plain, last_plain, over_plain, refused_plain, next_plain}
+use Rattle.lx_annot_laws.specs.RefusedPartLaws.{is_refusal}
+use Rattle.lx_annot_laws.proofs.Local.{Looks, has_looks, Bound, no_longer, Plain, ok_err, pure_plain, then_plain, last_plain, over_plain, refused_plain, next_plain}
 use Rattle.lx_annot_laws.proofs.Loops.{Hungry, over_hungry, then_hungry, further_plain, wary_plain}
 use Rattle.lx_annot_laws.proofs.Clauses.{param_name_plain, clauses_plain}
 use Rattle.lx_annot_laws.proofs.Types.{tail_at, tail_plain, type_plain, type_hungry, type_of_void}
@@ -69,7 +69,7 @@ some_params_hungry =
     then_hungry (λ ts. type_at ts >>= valued >>= named_by []) further (then_hungry (λ ts. type_at ts >>= valued) (named_by []) (then_hungry type_at valued type_hungry valued_plain) (named_plain [])) further_params
 
 -- parameters that begin with `void` fail behind it
-void_fails : (t : Tok) (ts : List Tok) (f : Fault) → bytes_eq t.bytes (codes "void") ≡ true → f.kind ≡ Statement → some_params_at (t ∷ ts) ≡ Err f → f.left ≡ suc (length ts) → ⊥
+void_fails : (t : Tok) (ts : List Tok) (f : Fault) → bytes_eq t.bytes (codes "void") ≡ true → is_refusal f.kind ≡ true → some_params_at (t ∷ ts) ≡ Err f → f.left ≡ suc (length ts) → ⊥
 void_fails t ts f b a e left =
     let is : params_of (tail_at (Some ty.Void) ts) ≡ Err f = ap params_of (sym (type_of_void t ts ((bytes_eq-Decides t.bytes (codes "void")).0 b))) ∙ sym (some_are (t ∷ ts)) ∙ e in
     let s = (params_plain_from (tail_at (Some ty.Void)) (tail_plain (Some ty.Void))).stops ts f a is in
@@ -85,13 +85,13 @@ params_hungry : (k : Bool) → Hungry (params_by k)
 params_hungry true = over_hungry []
 params_hungry false = some_params_hungry
 
-waits_by : (t : Tok) (ts vs : List Tok) (f : Fault) (void close : Bool) → bytes_eq t.bytes (codes "void") ≡ void → Tidy (t ∷ ts) → f.kind ≡ Statement → params_by (void && close) (t ∷ ts) ≡ Err f → f.left ≡ suc (length ts) → params_by (void && has (codes ")") vs) (t ∷ vs) ≡ refused (t ∷ vs)
-waits_by t ts vs f true true v tidy a e left = absurd (ok_err {A = List Parameter} ts [] f e)
-waits_by t ts vs f true false v tidy a e left = absurd (void_fails t ts f v a e left)
-waits_by t ts vs f false close v tidy a e left = some_params_plain.faults [] (t ∷ ts) (t ∷ vs) f tidy a e left refl
+waits_by : (t : Tok) (ts vs : List Tok) (f : Fault) (void close : Bool) → bytes_eq t.bytes (codes "void") ≡ void → Bound f.kind (t ∷ ts) → is_refusal f.kind ≡ true → params_by (void && close) (t ∷ ts) ≡ Err f → f.left ≡ suc (length ts) → params_by (void && has (codes ")") vs) (t ∷ vs) ≡ Err (at f.kind (t ∷ vs))
+waits_by t ts vs f true true v bound a e left = absurd (ok_err {A = List Parameter} ts [] f e)
+waits_by t ts vs f true false v bound a e left = absurd (void_fails t ts f v a e left)
+waits_by t ts vs f false close v bound a e left = some_params_plain.faults [] (t ∷ ts) (t ∷ vs) f bound a e left refl
 
-params_waits : (t : Tok) (ts vs : List Tok) (f : Fault) → Tidy (t ∷ ts) → f.kind ≡ Statement → params_by (is_void_alone (t ∷ ts)) (t ∷ ts) ≡ Err f → f.left ≡ suc (length ts) → params_by (is_void_alone (t ∷ vs)) (t ∷ vs) ≡ refused (t ∷ vs)
-params_waits t ts vs f tidy a e left = waits_by t ts vs f (bytes_eq t.bytes (codes "void")) (has (codes ")") ts) refl tidy a e left
+params_waits : (t : Tok) (ts vs : List Tok) (f : Fault) → Bound f.kind (t ∷ ts) → is_refusal f.kind ≡ true → params_by (is_void_alone (t ∷ ts)) (t ∷ ts) ≡ Err f → f.left ≡ suc (length ts) → params_by (is_void_alone (t ∷ vs)) (t ∷ vs) ≡ Err (at f.kind (t ∷ vs))
+params_waits t ts vs f bound a e left = waits_by t ts vs f (bytes_eq t.bytes (codes "void")) (has (codes ")") ts) refl bound a e left
 
 params_plain : Plain params_at
 params_plain = wary_plain is_void_alone (λ ts. Ok ([], behind ts)) some_params_at (over_plain []) some_params_plain void_steady params_hungry params_waits

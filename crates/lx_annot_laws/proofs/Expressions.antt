@@ -1,18 +1,19 @@
 -- Expressions hang on the tokens that they are, and on the one behind them.
 use Rattle.std.proofs.Common.{◌≡◌, ℕ, zero, suc, ◌≤◌, Bool, true, false, Option, Some, None, List, [], ◌∷◌, length, Ok, Err, refl, sym, ap, ◌∙◌, subst, arith, bytes_eq, codes}
-use Rattle.std.specs.Prelude.{if◌then◌else◌, ◌&&◌}
+use Rattle.std.specs.Prelude.{if◌then◌else◌, ◌&&◌, not}
 use Rattle.lx_words.specs.declared.token.TokenKind.TheVariants as kinds
 use Rattle.lx_annot.specs.declared.expr.Mark.{Mark}
 use Rattle.lx_annot.specs.Expr.{Expr, Load64, Unary, Binary}
 use Rattle.lx_annot_expressions.specs.Tokens.{Tok}
 use Rattle.lx_annot_expressions.specs.declared.fault.Fault.{Fault}
-use Rattle.lx_annot_expressions.specs.declared.fault.FaultKind.TheVariants.{Statement, Unknown}
+use Rattle.lx_annot_expressions.specs.declared.fault.FaultKind.TheVariants.{Unknown}
 use Rattle.lx_annot_expressions.specs.Reading.{Read, ◌>>=◌, at, has, behind, refused, picked, next_at, unless_word}
 use Rattle.lx_annot_expressions.specs.Operators.{levels, operator_next, prefix_next}
 use Rattle.lx_annot_expressions.specs.Exprs.{Scope, flat_of, flat_at, bracketed_at, may_open, begins_load, load_at, primary_at, chain_by, chain_at, joined_at, level_at, operand_by, operand_at, expr_at}
 use Rattle.lx_annot_expressions.proofs.Parts.{ok_same}
 use Rattle.lx_annot_terms.proofs.ListReads.{other_text}
-use Rattle.lx_annot_laws.proofs.Local.{Looks, has_looks, Tidy, no_longer, Same, same_fault, Plain, pure_plain, then_plain, last_plain, refused_plain, if_plain, choose_local, behind_local, fuel_local, next_plain, pick_plain}
+use Rattle.lx_annot_laws.specs.RefusedPartLaws.{is_refusal, is_bound}
+use Rattle.lx_annot_laws.proofs.Local.{Looks, has_looks, Bound, no_longer, Same, same_fault, Plain, pure_plain, then_plain, last_plain, refused_plain, if_plain, choose_local, behind_local, fuel_local, next_plain, pick_plain}
 use Rattle.lx_annot_laws.proofs.Loops.{bound_alike, shorter, Hungry, pick_hungry, next_hungry, then_hungry, if_hungry, behind_hungry, wary_plain}
 
 -- `(E)`
@@ -37,17 +38,19 @@ open_looks (u ∷ us) (v ∷ vs) l = has_looks (codes "(") (u ∷ us) (v ∷ vs)
 load_steady : (t : Tok) (us vs : List Tok) → Looks us vs → begins_load (t ∷ us) ≡ begins_load (t ∷ vs)
 load_steady t us vs l = ap (λ b. bytes_eq t.bytes (codes "load64") && b) (open_looks us vs l)
 
--- a word that no name stands for is no fault of this kind
-word_unknown : (o : Option Expr) (ts : List Tok) (f : Fault) → f.kind ≡ Statement → picked o Unknown ts ≡ Err f → ⊥
-word_unknown (Some e) ts f a r = cc
-word_unknown None ts f a r = let s = ap (λ (k : Fault). k.kind) (same_fault {A = Expr} (at Unknown ts) f r) ∙ a in cc
+-- the word `load64`, where no name is that, is no fault that is spoken of
+word_unknown : (o : Option Expr) (bytes : List ℕ) (ts : List Tok) (f : Fault) → bytes_eq bytes (codes "load64") ≡ true → is_bound f.kind bytes ≡ true → picked o Unknown ts ≡ Err f → ⊥
+word_unknown (Some e) bytes ts f l b r = cc
+word_unknown None bytes ts f l b r =
+    let both : false ≡ true = sym (ap not l) ∙ ap (λ (k : Fault). is_bound k.kind bytes) (same_fault {A = Expr} (at Unknown ts) f r) ∙ b in
+    cc
 
 module _ (scope : Scope) where
   flat_plain : Plain (flat_at scope)
   flat_plain = pick_plain (λ t. flat_of scope t.kind t.bytes) (unless_word Unknown)
 
-  flat_word : (t : Tok) (ts : List Tok) (f : Fault) → t.kind ≡ kinds.Word → f.kind ≡ Statement → flat_at scope (t ∷ ts) ≡ Err f → ⊥
-  flat_word t ts f w a r = word_unknown (flat_of scope t.kind t.bytes) (t ∷ ts) f a (subst (λ k. picked (flat_of scope t.kind t.bytes) (unless_word Unknown k) (t ∷ ts) ≡ Err f) w r)
+  flat_word : (t : Tok) (ts : List Tok) (f : Fault) → bytes_eq t.bytes (codes "load64") ≡ true → t.kind ≡ kinds.Word → is_bound f.kind t.bytes ≡ true → flat_at scope (t ∷ ts) ≡ Err f → ⊥
+  flat_word t ts f l w b r = word_unknown (flat_of scope t.kind t.bytes) t.bytes (t ∷ ts) f l b (subst (λ k. picked (flat_of scope t.kind t.bytes) (unless_word Unknown k) (t ∷ ts) ≡ Err f) w r)
 
   module _ (expr : List Tok → Read Expr) (h : Plain expr) where
     abbrev loaded : List Tok → Read Expr
@@ -76,24 +79,24 @@ module _ (scope : Scope) where
     primary_hungry false = unloaded_hungry
 
     -- a load fails behind its word
-    load_fails : (t : Tok) (ts : List Tok) (f : Fault) → f.kind ≡ Statement → load_at expr (t ∷ ts) ≡ Err f → f.left ≡ suc (length ts) → ⊥
+    load_fails : (t : Tok) (ts : List Tok) (f : Fault) → is_refusal f.kind ≡ true → load_at expr (t ∷ ts) ≡ Err f → f.left ≡ suc (length ts) → ⊥
     load_fails t ts f a e left = let s = loaded_plain.stops ts f a e in absurd (omega (arith, no_longer s.0 ts s.1 s.2, s.3, left))
 
-    bracket_by : (t : Tok) (ts : List Tok) (f : Fault) (b : Bool) → b ≡ false → t.kind ≡ kinds.Word → f.kind ≡ Statement → (if b then bracketed_at expr (t ∷ ts) else flat_at scope (t ∷ ts)) ≡ Err f → ⊥
-    bracket_by t ts f true n w a e = cc
-    bracket_by t ts f false n w a e = flat_word t ts f w a e
+    bracket_by : (t : Tok) (ts : List Tok) (f : Fault) (b : Bool) → b ≡ false → bytes_eq t.bytes (codes "load64") ≡ true → t.kind ≡ kinds.Word → is_bound f.kind t.bytes ≡ true → (if b then bracketed_at expr (t ∷ ts) else flat_at scope (t ∷ ts)) ≡ Err f → ⊥
+    bracket_by t ts f true n l w b e = cc
+    bracket_by t ts f false n l w b e = flat_word t ts f l w b e
 
     -- the word `load64` alone is a name
-    name_fails : (t : Tok) (ts : List Tok) (f : Fault) → bytes_eq t.bytes (codes "load64") ≡ true → t.kind ≡ kinds.Word → f.kind ≡ Statement → unloaded (t ∷ ts) ≡ Err f → ⊥
-    name_fails t ts f load w a e = bracket_by t ts f (has (codes "(") (t ∷ ts)) (other_text (codes "load64") (codes "(") (t ∷ ts) load refl) w a e
+    name_fails : (t : Tok) (ts : List Tok) (f : Fault) → bytes_eq t.bytes (codes "load64") ≡ true → t.kind ≡ kinds.Word → is_bound f.kind t.bytes ≡ true → unloaded (t ∷ ts) ≡ Err f → ⊥
+    name_fails t ts f load w b e = bracket_by t ts f (has (codes "(") (t ∷ ts)) (other_text (codes "load64") (codes "(") (t ∷ ts) load refl) load w b e
 
-    waits_by : (t : Tok) (ts vs : List Tok) (f : Fault) (load k : Bool) → bytes_eq t.bytes (codes "load64") ≡ load → begins_load (t ∷ ts) ≡ k → Tidy (t ∷ ts) → f.kind ≡ Statement → primary k (t ∷ ts) ≡ Err f → f.left ≡ suc (length ts) → primary (load && may_open vs) (t ∷ vs) ≡ refused (t ∷ vs)
-    waits_by t ts vs f load true l k tidy a e left = absurd (load_fails t ts f a e left)
-    waits_by t ts vs f true false l k tidy a e left = absurd (name_fails t ts f l (tidy.0 l) a e)
-    waits_by t ts vs f false false l k tidy a e left = unloaded_plain.faults [] (t ∷ ts) (t ∷ vs) f tidy a e left refl
+    waits_by : (t : Tok) (ts vs : List Tok) (f : Fault) (load k : Bool) → bytes_eq t.bytes (codes "load64") ≡ load → begins_load (t ∷ ts) ≡ k → Bound f.kind (t ∷ ts) → is_refusal f.kind ≡ true → primary k (t ∷ ts) ≡ Err f → f.left ≡ suc (length ts) → primary (load && may_open vs) (t ∷ vs) ≡ Err (at f.kind (t ∷ vs))
+    waits_by t ts vs f load true l k bound a e left = absurd (load_fails t ts f a e left)
+    waits_by t ts vs f true false l k bound a e left = absurd (name_fails t ts f l (bound.0.0 l) bound.1 e)
+    waits_by t ts vs f false false l k bound a e left = unloaded_plain.faults [] (t ∷ ts) (t ∷ vs) f bound a e left refl
 
-    primary_waits : (t : Tok) (ts vs : List Tok) (f : Fault) → Tidy (t ∷ ts) → f.kind ≡ Statement → primary (begins_load (t ∷ ts)) (t ∷ ts) ≡ Err f → f.left ≡ suc (length ts) → primary (begins_load (t ∷ vs)) (t ∷ vs) ≡ refused (t ∷ vs)
-    primary_waits t ts vs f tidy a e left = waits_by t ts vs f (bytes_eq t.bytes (codes "load64")) (begins_load (t ∷ ts)) refl refl tidy a e left
+    primary_waits : (t : Tok) (ts vs : List Tok) (f : Fault) → Bound f.kind (t ∷ ts) → is_refusal f.kind ≡ true → primary (begins_load (t ∷ ts)) (t ∷ ts) ≡ Err f → f.left ≡ suc (length ts) → primary (begins_load (t ∷ vs)) (t ∷ vs) ≡ Err (at f.kind (t ∷ vs))
+    primary_waits t ts vs f bound a e left = waits_by t ts vs f (bytes_eq t.bytes (codes "load64")) (begins_load (t ∷ ts)) refl refl bound a e left
 
     primary_plain : Plain (primary_at scope expr)
     primary_plain = wary_plain begins_load (load_at expr) unloaded load_plain unloaded_plain load_steady primary_hungry primary_waits

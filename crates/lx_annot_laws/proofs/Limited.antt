@@ -1,5 +1,5 @@
 -- What is read of the next 1,024 tokens, of two texts whose tokens are the same up to one of them.
-use Rattle.std.proofs.Common.{◌≡◌, ◌⊎◌, inl, inr, ℕ, zero, suc, ◌+◌, ◌-◌, ◌≤◌, true, Option, Some, None, List, [], ◌∷◌, ◌++◌, length, take, Result, Ok, Err, refl, sym, ap, ◌∙◌, subst, arith, bytes_eq, codes, slice_get, All}
+use Rattle.std.proofs.Common.{◌≡◌, ◌⊎◌, inl, inr, ℕ, zero, suc, ◌+◌, ◌-◌, ◌≤◌, true, false, Option, Some, None, List, [], ◌∷◌, ◌++◌, length, take, Result, Ok, Err, refl, sym, ap, ◌∙◌, subst, arith, bytes_eq, codes, slice_get, All}
 use Rattle.std.proofs.lemmas.List.{length-append, length-map, length-take, map-append, append_cancel_left}
 use Rattle.std.proofs.lemmas.List.Elements.{All-head, All-tail}
 use Rattle.std.proofs.lemmas.Slice.Eq.{bytes_eq-Decides}
@@ -18,14 +18,18 @@ use Rattle.lx_annot_expressions.specs.Tokens.{Tok, tok_of, toks_of, most_tokens}
 use Rattle.lx_annot_expressions.specs.declared.fault.Fault.{Fault}
 use Rattle.lx_annot_expressions.specs.declared.fault.FaultKind.{FaultKind}
 use Rattle.lx_annot_expressions.specs.declared.fault.FaultKind.TheVariants as parts
-use Rattle.lx_annot_expressions.specs.Reading.{Read, at, refused}
+use Rattle.lx_annot_expressions.specs.Reading.{Read, at}
 use Rattle.lx_annot_read.specs.declared.fault.Kind.TheVariants as kinds
+use Rattle.lx_annot_read.specs.declared.fault.Kind.{Kind}
 use Rattle.lx_annot_read.specs.declared.fault.Met.{Met}
-use Rattle.lx_annot_read.specs.Faults.{kind_of, met_as, last_line, lexical, met_at_end, met_at}
+use Rattle.lx_annot_read.specs.declared.fault.InterfaceFault.TheVariants as faults
+use Rattle.lx_annot_read.specs.Faults.{kind_of, fault_of, answered, met_as, last_line, lexical, met_at_end, met_at}
 use Rattle.lx_annot_read.specs.Said.{what_of}
 use Rattle.lx_annot_read.specs.Texts.{window, rest_behind, place_of, fault_in, seen, limited}
 use Rattle.lx_annot_grammar.proofs.TextLaws.{room, further, limited_read, limited_ok, front_found}
-use Rattle.lx_annot_laws.proofs.Local.{Looks, Tidy, Split, no_longer, same_split, Local}
+use Rattle.lx_annot_laws.specs.RefusedLaws.{is_refused}
+use Rattle.lx_annot_laws.specs.RefusedPartLaws.{is_refusal, is_bound}
+use Rattle.lx_annot_laws.proofs.Local.{Looks, Tidy, Bound, Split, no_longer, same_split, Local}
 
 -- The tokens of a text have the bytes of some words as words alone.
 
@@ -132,15 +136,19 @@ module _ (text other : List ℕ) where
   further_look stop stop' front front' rest rest' e l =
       subst (λ k. Looks (further text stop front rest) (toks_of other (take (most_tokens - k) rest'))) (count_alike front front' e) (taken_look (room text stop front) rest rest' l)
 
-taken_tidy : (text : List ℕ) (r : ℕ) (t : Token) (more : List Token) → Tidy (tok_of text t ∷ []) → Tidy (toks_of text (take r (t ∷ more)))
-taken_tidy text zero t more h = tt
-taken_tidy text (suc r) t more h = h
+taken_bound : (kind : FaultKind) (text : List ℕ) (r : ℕ) (t : Token) (more : List Token) → Bound kind (tok_of text t ∷ []) → Bound kind (toks_of text (take r (t ∷ more)))
+taken_bound kind text zero t more h = tt
+taken_bound kind text (suc r) t more h = h
 
 -- A fault that is spoken of: at a token, or at the end of the text.
 
 -- what is met where a token cannot stand
-abbrev pub refused_at : List ℕ → Token → Met
-refused_at text t = met_as kinds.Statement t.line (bytes_of text t)
+abbrev pub refused_at : Kind → List ℕ → Token → Met
+refused_at kind text t = met_as kind t.line (bytes_of text t)
+
+-- a fault that is spoken of
+abbrev pub IsSpoken : Met → Type 0
+IsSpoken met = is_refused (answered met) ≡ true
 
 -- what is met where the tokens end
 abbrev pub IsEnded : Option Stop → List Token → Met → Type 0
@@ -152,18 +160,27 @@ pub record FailsAt {A : Type 0} (text : List ℕ) (stop : Option Stop) (tokens :
   pub token : Token
   pub more : List Token
   pub whole : tokens ≡ before ++ token ∷ more
-  pub is : met ≡ refused_at text token
+  pub is : met ≡ refused_at met.kind text token
   pub short : length before ≤ most_tokens
   pub fault : Fault
-  pub kind : fault.kind ≡ parts.Statement
+  pub kind : is_refusal fault.kind ≡ true
+  pub named : kind_of fault.kind ≡ met.kind
+  pub bound : is_bound fault.kind (bytes_of text token) ≡ true
   pub failed : read (toks_of text before ++ further text stop before (token ∷ more)) ≡ Err fault
   pub left : fault.left ≡ length (further text stop before (token ∷ more))
 
-kind_is : (k : FaultKind) → kind_of k ≡ kinds.Statement → k ≡ parts.Statement
-kind_is parts.Statement e = refl
-kind_is parts.Unknown e = cc
-kind_is parts.Twice e = cc
-kind_is parts.NeedsSize e = cc
+-- the token of such a fault is named by its bytes
+word_is : (k : FaultKind) → is_refusal k ≡ true → (t : TokenKind) (bytes : List ℕ) → what_of k t bytes ≡ bytes
+word_is parts.Statement a t bytes = refl
+word_is parts.Unknown a t bytes = refl
+word_is parts.Twice a t bytes = cc
+word_is parts.NeedsSize a t bytes = cc
+
+spoken_is : (k : FaultKind) (line : ℕ) (t : TokenKind) (bytes : List ℕ) → is_refused (fault_of (kind_of k) line (what_of k t bytes)) ≡ true → (is_refusal k ≡ true) × (is_bound k bytes ≡ true)
+spoken_is parts.Statement line t bytes h = (refl, refl)
+spoken_is parts.Unknown line t bytes h = (refl, h)
+spoken_is parts.Twice line t bytes h = cc
+spoken_is parts.NeedsSize line t bytes h = cc
 
 abbrev SameAnswer : {A : Type 0} → Result A Met → Result A Met → Type 0
 SameAnswer a b = a ≡ b
@@ -178,19 +195,20 @@ err_by a b (Err d) p q = let x : d ≡ a = cc in let y : d ≡ b = cc in sym x �
 pub same_met : {A : Type 0} (a b : Met) → SameAnswer {A = A} (Err a) (Err b) → a ≡ b
 same_met {A} a b e = err_by {A = A} a b (Err a) refl e
 
-pub lexical_other : (s : Stop) (met : Met) → lexical s ≡ met → met.kind ≡ kinds.Statement → ⊥
-lexical_other s met e k = let both : kinds.Lexical ≡ kinds.Statement = ap (λ (m : Met). m.kind) e ∙ k in cc
+pub lexical_other : (s : Stop) (met : Met) → lexical s ≡ met → IsSpoken met → ⊥
+lexical_other s met e k = let both : false ≡ true = ap (λ (m : Met). is_refused (answered m)) e ∙ k in cc
 
-pub ended_by : (stop : Option Stop) (tokens : List Token) (met : Met) → met.kind ≡ kinds.Statement → met_at_end tokens stop ≡ met → IsEnded stop tokens met
+pub ended_by : (stop : Option Stop) (tokens : List Token) (met : Met) → IsSpoken met → met_at_end tokens stop ≡ met → IsEnded stop tokens met
 ended_by None tokens met k e = (refl, sym e)
 ended_by (Some s) tokens met k e = absurd (lexical_other s met e k)
 
-module _ {A : Type 0} (text : List ℕ) (stop : Option Stop) (tokens : List Token) (read : List Tok → Read A) (stops : (ts : List Tok) (f : Fault) → f.kind ≡ parts.Statement → read ts ≡ Err f → Split ts f.left) (met : Met) (kind : met.kind ≡ kinds.Statement) where
+module _ {A : Type 0} (text : List ℕ) (stop : Option Stop) (tokens : List Token) (read : List Tok → Read A) (stops : (ts : List Tok) (f : Fault) → is_refusal f.kind ≡ true → read ts ≡ Err f → Split ts f.left) (met : Met) (spoken : IsSpoken met) where
   at_token : (f : Fault) (t : Token) → read (seen text tokens) ≡ Err f → place_of tokens f.left ≡ Some t → met_at text stop tokens f.kind (Some t) ≡ met → FailsAt text stop tokens read met
   at_token f t e place is =
-      let statement : f.kind ≡ parts.Statement = kind_is f.kind (ap (λ (m : Met). m.kind) is ∙ kind) in
+      let k = spoken_is f.kind t.line t.kind (bytes_of text t) (ap (λ (m : Met). is_refused (answered m)) is ∙ spoken) in
+      let named : kind_of f.kind ≡ met.kind = ap (λ (m : Met). m.kind) is in
       let p = parted tokens (length (window tokens) - f.left) t place in
-      let s = stops (seen text tokens) f statement e in
+      let s = stops (seen text tokens) f k.0 e in
       let less : length s.1 ≤ length (seen text tokens) = no_longer s.0 (seen text tokens) s.1 s.2 in
       let size : length (seen text tokens) ≡ length (window tokens) = length-map (window tokens) (tok_of text) in
       let most : length (window tokens) ≤ most_tokens = (let m = length-take most_tokens tokens in omega (arith, m)) in
@@ -208,16 +226,18 @@ module _ {A : Type 0} (text : List ℕ) (stop : Option Stop) (tokens : List Toke
         token = t;
         more = p.1;
         whole = p.2;
-        is = sym is ∙ ap (λ k. met_as (kind_of k) t.line (what_of k t.kind (bytes_of text t))) statement;
+        is = sym is ∙ ap (λ w. met_as (kind_of f.kind) t.line w) (word_is f.kind k.0 t.kind (bytes_of text t)) ∙ ap (λ n. met_as n t.line (bytes_of text t)) named;
         short = short;
         fault = f;
-        kind = statement;
+        kind = k.0;
+        named = named;
+        bound = k.1;
         failed = ap read (sym (seen_front text stop p.0 (t ∷ p.1) short)) ∙ ap (λ r. read (seen text r)) (sym p.2) ∙ e;
         left = left;
       }
 
   by_place : (f : Fault) (o : Option Token) → read (seen text tokens) ≡ Err f → place_of tokens f.left ≡ o → met_at text stop tokens f.kind o ≡ met → FailsAt text stop tokens read met ⊎ IsEnded stop tokens met
-  by_place f None e place is = inr (ended_by stop tokens met kind is)
+  by_place f None e place is = inr (ended_by stop tokens met spoken is)
   by_place f (Some t) e place is = inl (at_token f t e place is)
 
   by_read : (r : Read A) → read (seen text tokens) ≡ r → limited text stop tokens r ≡ Err met → FailsAt text stop tokens read met ⊎ IsEnded stop tokens met
@@ -230,16 +250,17 @@ module _ {A : Type 0} (text : List ℕ) (stop : Option Stop) (tokens : List Toke
 -- Of another text with the same tokens up to that one, reading fails there too.
 pub fails_again : {A : Type 0} (R : A → A → Type 0) (text : List ℕ) (stop : Option Stop) (tokens : List Token) (read reads : List Tok → Read A) (met : Met) (f : FailsAt text stop tokens read met) → Local R read reads → Tidy (tok_of text f.token ∷ [])
     → (other : List ℕ) (stop' : Option Stop) (before : List Token) (token : Token) (more : List Token) → toks_of text (f.before ++ f.token ∷ []) ≡ toks_of other (before ++ token ∷ [])
-    → limited other stop' (before ++ token ∷ more) (reads (seen other (before ++ token ∷ more))) ≡ Err (refused_at other token)
+    → limited other stop' (before ++ token ∷ more) (reads (seen other (before ++ token ∷ more))) ≡ Err (refused_at met.kind other token)
 fails_again {A} R text stop tokens read reads met f local tidy other stop' before token more alike =
     let same = last_alike text other f.before before f.token token alike in
     let count : length f.before ≡ length before = count_alike text other f.before before same.0 in
     let short : length before ≤ most_tokens = (let s = f.short in omega (arith, s, count)) in
     let look = further_look text other stop stop' f.before before (f.token ∷ f.more) (token ∷ more) same.0 (ap Some same.1) in
-    let stops = local.faults (toks_of text f.before) (further text stop f.before (f.token ∷ f.more)) (further other stop' before (token ∷ more)) f.fault (taken_tidy text (room text stop f.before) f.token f.more tidy) f.kind f.failed f.left look in
-    let there : reads (seen other (before ++ token ∷ more)) ≡ refused (further other stop' before (token ∷ more)) = ap reads (seen_front other stop' before (token ∷ more) short ∙ ap (λ r. r ++ further other stop' before (token ∷ more)) (sym same.0)) ∙ stops in
+    let stops = local.faults (toks_of text f.before) (further text stop f.before (f.token ∷ f.more)) (further other stop' before (token ∷ more)) f.fault (taken_bound f.fault.kind text (room text stop f.before) f.token f.more (tidy, f.bound)) f.kind f.failed f.left look in
+    let there : reads (seen other (before ++ token ∷ more)) ≡ Err (at f.fault.kind (further other stop' before (token ∷ more))) = ap reads (seen_front other stop' before (token ∷ more) short ∙ ap (λ r. r ++ further other stop' before (token ∷ more)) (sym same.0)) ∙ stops in
     let place : place_of (before ++ token ∷ more) (length (further other stop' before (token ∷ more))) ≡ Some token = ap (slice_get (before ++ token ∷ more)) (front_count other stop' before (token ∷ more) short) ∙ at_length before token more in
-    ap (limited other stop' (before ++ token ∷ more)) there ∙ ap (λ o. Err (met_at other stop' (before ++ token ∷ more) parts.Statement o)) place
+    ap (limited other stop' (before ++ token ∷ more)) there ∙ ap (λ o. Err (met_at other stop' (before ++ token ∷ more) f.fault.kind o)) place
+    ∙ ap (λ w. Err (met_as (kind_of f.fault.kind) token.line w)) (word_is f.fault.kind f.kind token.kind (bytes_of other token)) ∙ ap (λ n. Err (met_as n token.line (bytes_of other token))) f.named
 
 -- A front of the tokens is read, and of another text with the same tokens up to the next one it is read too.
 pub record Passes {A : Type 0} (R : A → A → Type 0) (text : List ℕ) (stop : Option Stop) (tokens : List Token) (read : List Tok → Read A) (x : A) (rest : List Token) : Type 0 where

@@ -7,7 +7,7 @@ use Rattle.lx_annot.specs.declared.interface.Item.{Item}
 use Rattle.lx_annot.specs.Expr.{Expr}
 use Rattle.lx_annot.specs.Action.{Action, If}
 use Rattle.lx_annot_expressions.specs.Tokens.{Tok}
-use Rattle.lx_annot_expressions.specs.declared.fault.FaultKind.TheVariants.{Statement, Unknown, NeedsSize}
+use Rattle.lx_annot_expressions.specs.declared.fault.FaultKind.TheVariants.{Unknown, NeedsSize}
 use Rattle.lx_annot_expressions.specs.Reading.{Read, ◌>>=◌, at, has, behind, refused, next_at, pick_at, always_refused, unless_word, steps_at, adding_at}
 use Rattle.lx_annot_expressions.specs.Names.{known_of, known_at}
 use Rattle.lx_annot_expressions.specs.Exprs.{Scope, expr_at, bracketed_at}
@@ -23,9 +23,6 @@ use Rattle.lx_annot_laws.proofs.Expressions.{expr_plain, enclosed_plain}
 pub known_plain : (names : List (List ℕ)) → Plain (known_at names)
 known_plain names = pick_plain (λ t. known_of names t.kind t.bytes) (unless_word Unknown)
 
-other_kind : NeedsSize ≡ Statement → ⊥
-other_kind e = cc
-
 ends_looks : (place : Within) (us vs : List Tok) → Looks us vs → ends place us ≡ ends place vs
 ends_looks within.Action us vs l = has_looks (codes ")") us vs l
 ends_looks within.Iterator us vs l = λ i. has_looks (codes ";") us vs l i || has_looks (codes "}") us vs l i
@@ -34,7 +31,7 @@ ends_looks within.Iterator us vs l = λ i. has_looks (codes ";") us vs l i || ha
 size_mark_local : (place : Within) (w z : List Tok) → Local Same (size_mark_at place w) (size_mark_at place z)
 size_mark_local place w z =
     if_local Same (has (codes ",")) (has (codes ",")) (has_looks (codes ",")) (λ ts. Ok (tt, behind ts)) (λ ts. Ok (tt, behind ts)) (λ ts. if ends place ts then Err (at NeedsSize w) else refused ts) (λ ts. if ends place ts then Err (at NeedsSize z) else refused ts) (over_plain tt)
-    (if_local Same (ends place) (ends place) (ends_looks place) (λ ts. Err (at NeedsSize w)) (λ ts. Err (at NeedsSize z)) (λ ts. refused ts) (λ ts. refused ts) (other_fault {A = Unit {0}} Same (λ ts. at NeedsSize w) (λ ts. at NeedsSize z) (λ ts e. other_kind e)) (refused_plain {A = Unit {0}}))
+    (if_local Same (ends place) (ends place) (ends_looks place) (λ ts. Err (at NeedsSize w)) (λ ts. Err (at NeedsSize z)) (λ ts. refused ts) (λ ts. refused ts) (other_fault {A = Unit {0}} Same (λ ts. at NeedsSize w) (λ ts. at NeedsSize z) (λ ts. refl)) (refused_plain {A = Unit {0}}))
 
 module _ (scope : Scope) (known : Known) where
   abbrev with_size : Expr → Unit {0} × List Tok → Read CapSpec

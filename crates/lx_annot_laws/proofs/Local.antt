@@ -9,7 +9,7 @@ use Rattle.lx_annot_expressions.specs.declared.fault.FaultKind.{FaultKind}
 use Rattle.lx_annot_expressions.specs.declared.fault.FaultKind.TheVariants.{Statement}
 use Rattle.lx_annot_expressions.specs.Reading.{Read, ◌>>=◌, at, has, behind, refused, pick_at, picked, next_at}
 use Rattle.lx_annot_expressions.proofs.Parts.{ok_same}
-use Rattle.lx_annot_laws.specs.RefusedPartLaws.{IsTidy, IsSteady}
+use Rattle.lx_annot_laws.specs.RefusedPartLaws.{IsTidy, is_refusal, is_bound, IsSteady}
 
 -- Looking ahead by one token.
 
@@ -43,6 +43,11 @@ something_looks u us (v ∷ vs) l = let s : v ≡ u = cc in ap (λ t. t ∷ vs) 
 abbrev pub Tidy : List Tok → Type 0
 Tidy [] = Unit {0}
 Tidy (t ∷ ts) = IsTidy t
+
+-- the next token is tidy and at fault whatever follows it, or there is none
+abbrev pub Bound : FaultKind → List Tok → Type 0
+Bound kind [] = Unit {0}
+Bound kind (t ∷ ts) = IsTidy t × (is_bound kind t.bytes ≡ true)
 
 -- Two ways to divide tokens.
 
@@ -87,8 +92,8 @@ Split ts left = (front : List Tok) × (rest : List Tok) × (ts ≡ front ++ rest
 pub record Local {A : Type 0} (R : A → A → Type 0) (read other : List Tok → Read A) : Type 0 where
   pub ends : (ts us : List Tok) (x : A) → read ts ≡ Ok (x, us) → (front : List Tok) × (ts ≡ front ++ us)
   pub reads : (front us vs : List Tok) (x : A) → read (front ++ us) ≡ Ok (x, us) → Looks us vs → (y : A) × (other (front ++ vs) ≡ Ok (y, vs)) × R x y
-  pub stops : (ts : List Tok) (f : Fault) → f.kind ≡ Statement → read ts ≡ Err f → Split ts f.left
-  pub faults : (front us vs : List Tok) (f : Fault) → Tidy us → f.kind ≡ Statement → read (front ++ us) ≡ Err f → f.left ≡ length us → Looks us vs → other (front ++ vs) ≡ refused vs
+  pub stops : (ts : List Tok) (f : Fault) → is_refusal f.kind ≡ true → read ts ≡ Err f → Split ts f.left
+  pub faults : (front us vs : List Tok) (f : Fault) → Bound f.kind us → is_refusal f.kind ≡ true → read (front ++ us) ≡ Err f → f.left ≡ length us → Looks us vs → other (front ++ vs) ≡ Err (at f.kind vs)
 
 abbrev pub Plain : {A : Type 0} → (List Tok → Read A) → Type 0
 Plain read = Local Same read read
@@ -102,7 +107,7 @@ steady R read l ts f a e =
       rest = s.1;
       whole = s.2;
       left = s.3;
-      again = λ t more us c tidy. l.faults s.0 (t ∷ more) (t ∷ us) f tidy a (ap read (sym (s.2 ∙ ap (λ r. s.0 ++ r) c)) ∙ e) (s.3 ∙ ap length c) refl;
+      again = λ t more us c tidy bound. l.faults s.0 (t ∷ more) (t ∷ us) f (tidy, bound) a (ap read (sym (s.2 ∙ ap (λ r. s.0 ++ r) c)) ∙ e) (s.3 ∙ ap length c) refl;
     }
 
 -- One token.
@@ -119,12 +124,11 @@ pure_local R x y related = record {
 }
 
 -- a fault at the next token
-fault_there : {A : Type 0} (kind : FaultKind) (front us vs : List Tok) (f : Fault) → f.kind ≡ Statement → SameRead {A = A} (Err (at kind (front ++ us))) (Err f) → f.left ≡ length us → SameRead {A = A} (Err (at kind (front ++ vs))) (refused vs)
-fault_there {A} kind [] us vs f a e left =
+fault_there : {A : Type 0} (kind : FaultKind) (front us vs : List Tok) (f : Fault) → SameRead {A = A} (Err (at kind (front ++ us))) (Err f) → f.left ≡ length us → SameRead {A = A} (Err (at kind (front ++ vs))) (Err (at f.kind vs))
+fault_there {A} kind [] us vs f e left =
     let s : at kind us ≡ f = same_fault {A = A} (at kind us) f e in
-    let k : kind ≡ Statement = ap (λ (g : Fault). g.kind) s ∙ a in
-    ap (λ x. Err (at x vs)) k
-fault_there {A} kind (u ∷ front) us vs f a e left =
+    ap (λ (g : Fault). Err (at g.kind vs)) s
+fault_there {A} kind (u ∷ front) us vs f e left =
     let s : at kind (u ∷ front ++ us) ≡ f = same_fault {A = A} (at kind (u ∷ front ++ us)) f e in
     let count : suc (length front + length us) ≡ f.left = sym (ap suc (length-append front us)) ∙ ap (λ (g : Fault). g.left) s in
     absurd (omega (arith, count, left))
@@ -134,14 +138,14 @@ fault_local {A} R kind = record {
   ends = λ ts us x e. absurd (err_ok (at kind ts) x us e);
   reads = λ front us vs x e l. absurd (err_ok (at kind (front ++ us)) x us e);
   stops = λ ts f a e. ([], ts, refl, sym (ap (λ (g : Fault). g.left) (same_fault {A = A} (at kind ts) f e)));
-  faults = λ front us vs f t a e left l. fault_there {A = A} kind front us vs f a e left;
+  faults = λ front us vs f t a e left l. fault_there {A = A} kind front us vs f e left;
 }
 
-not_asked : {A : Type 0} (d f : Fault) → (d.kind ≡ Statement → ⊥) → f.kind ≡ Statement → SameRead {A = A} (Err d) (Err f) → ⊥
-not_asked {A} d f n a e = n (ap (λ (k : Fault). k.kind) (same_fault {A = A} d f e) ∙ a)
+not_asked : {A : Type 0} (d f : Fault) → is_refusal d.kind ≡ false → is_refusal f.kind ≡ true → SameRead {A = A} (Err d) (Err f) → ⊥
+not_asked {A} d f n a e = let both : false ≡ true = sym n ∙ ap (λ (k : Fault). is_refusal k.kind) (same_fault {A = A} d f e) ∙ a in cc
 
 -- a fault that is not spoken of
-pub other_fault : {A : Type 0} (R : A → A → Type 0) (g h : List Tok → Fault) → ((ts : List Tok) → (g ts).kind ≡ Statement → ⊥) → Local {A = A} R (λ ts. Err (g ts)) (λ ts. Err (h ts))
+pub other_fault : {A : Type 0} (R : A → A → Type 0) (g h : List Tok → Fault) → ((ts : List Tok) → is_refusal ((g ts).kind) ≡ false) → Local {A = A} R (λ ts. Err (g ts)) (λ ts. Err (h ts))
 other_fault {A} R g h silent = record {
   ends = λ ts us x e. absurd (err_ok (g ts) x us e);
   reads = λ front us vs x e l. absurd (err_ok (g (front ++ us)) x us e);
@@ -179,14 +183,14 @@ module _ {A B : Type 0} (R : A → A → Type 0) (S : B → B → Type 0) (read 
       let begun : (other (front ++ vs) >>= h (front ++ vs)) ≡ h (front ++ vs) (one.0, s.0 ++ vs) = ap (λ (r : Read A). r >>= h (front ++ vs)) (ap other there ∙ one.1) in
       (two.0, begun ∙ two.1, two.2)
 
-  bound_stops : (ts : List Tok) (f : Fault) (r : Read A) → f.kind ≡ Statement → read ts ≡ r → (r >>= g ts) ≡ Err f → Split ts f.left
+  bound_stops : (ts : List Tok) (f : Fault) (r : Read A) → is_refusal f.kind ≡ true → read ts ≡ r → (r >>= g ts) ≡ Err f → Split ts f.left
   bound_stops ts f (Err d) a w e = first.stops ts f a (w ∙ ap (λ (k : Fault). Err k) (same_fault {A = B} d f e))
   bound_stops ts f (Ok x) a w e =
       let k = first.ends ts x.1 x.0 w in
       let s = ((next_here ts x.1 x.0 w).1).stops x.1 f a e in
       (k.0 ++ s.0, s.1, k.1 ∙ ap (λ r. k.0 ++ r) s.2 ∙ sym (append_assoc k.0 s.0 s.1), s.3)
 
-  bound_faults : (front us vs : List Tok) (f : Fault) (r : Read A) → Tidy us → f.kind ≡ Statement → read (front ++ us) ≡ r → (r >>= g (front ++ us)) ≡ Err f → f.left ≡ length us → Looks us vs → (other (front ++ vs) >>= h (front ++ vs)) ≡ refused vs
+  bound_faults : (front us vs : List Tok) (f : Fault) (r : Read A) → Bound f.kind us → is_refusal f.kind ≡ true → read (front ++ us) ≡ r → (r >>= g (front ++ us)) ≡ Err f → f.left ≡ length us → Looks us vs → (other (front ++ vs) >>= h (front ++ vs)) ≡ Err (at f.kind vs)
   bound_faults front us vs f (Err d) t a w e left l =
       ap (λ (r : Read A). r >>= h (front ++ vs)) (first.faults front us vs f t a (w ∙ ap (λ (k : Fault). Err k) (same_fault {A = B} d f e)) left l)
   bound_faults front us vs f (Ok x) t a w e left l =
@@ -252,12 +256,12 @@ module _ {A : Type 0} (R : A → A → Type 0) (read other : List Tok → Read A
   behind_reads [] (u ∷ us) vs x e k = let f = l.ends us (u ∷ us) x e in absurd (omega (arith, no_longer f.0 us (u ∷ us) f.1))
   behind_reads (t ∷ front) us vs x e k = l.reads front us vs x e k
 
-  behind_stops : (ts : List Tok) (f : Fault) → f.kind ≡ Statement → read (behind ts) ≡ Err f → Split ts f.left
+  behind_stops : (ts : List Tok) (f : Fault) → is_refusal f.kind ≡ true → read (behind ts) ≡ Err f → Split ts f.left
   behind_stops [] f a e = l.stops [] f a e
   behind_stops (t ∷ ts) f a e = let s = l.stops ts f a e in (t ∷ s.0, s.1, ap (λ r. t ∷ r) s.2, s.3)
 
-  behind_faults : (front us vs : List Tok) (f : Fault) → Tidy us → f.kind ≡ Statement → read (behind (front ++ us)) ≡ Err f → f.left ≡ length us → Looks us vs → other (behind (front ++ vs)) ≡ refused vs
-  behind_faults [] [] vs f t a e left k = subst (λ r. other (behind r) ≡ refused r) (sym (nothing_looks vs k)) (l.faults [] [] [] f tt a e left refl)
+  behind_faults : (front us vs : List Tok) (f : Fault) → Bound f.kind us → is_refusal f.kind ≡ true → read (behind (front ++ us)) ≡ Err f → f.left ≡ length us → Looks us vs → other (behind (front ++ vs)) ≡ Err (at f.kind vs)
+  behind_faults [] [] vs f t a e left k = subst (λ r. other (behind r) ≡ Err (at f.kind r)) (sym (nothing_looks vs k)) (l.faults [] [] [] f tt a e left refl)
   behind_faults [] (u ∷ us) vs f t a e left k = let s = l.stops us f a e in absurd (omega (arith, no_longer s.0 us s.1 s.2, s.3, left))
   behind_faults (u ∷ front) us vs f t a e left k = l.faults front us vs f t a e left k
 

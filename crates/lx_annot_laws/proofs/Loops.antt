@@ -5,10 +5,10 @@ use Rattle.lx_words.specs.declared.token.TokenKind.{TokenKind}
 use Rattle.lx_annot_expressions.specs.Tokens.{Tok}
 use Rattle.lx_annot_expressions.specs.declared.fault.Fault.{Fault}
 use Rattle.lx_annot_expressions.specs.declared.fault.FaultKind.{FaultKind}
-use Rattle.lx_annot_expressions.specs.declared.fault.FaultKind.TheVariants.{Statement}
-use Rattle.lx_annot_expressions.specs.Reading.{Read, ◌>>=◌, has, behind, refused, pick_at, picked, next_at, steps_at, adding_at}
+use Rattle.lx_annot_expressions.specs.Reading.{Read, ◌>>=◌, at, has, behind, refused, pick_at, picked, next_at, steps_at, adding_at}
 use Rattle.lx_annot_expressions.proofs.Parts.{ok_same, bind_ok}
-use Rattle.lx_annot_laws.proofs.Local.{Looks, has_looks, looks_on, nothing_looks, something_looks, Tidy, no_longer, Same, Plain, pure_plain, then_plain, last_plain, if_local, behind_local, fuel_local}
+use Rattle.lx_annot_laws.specs.RefusedPartLaws.{is_refusal}
+use Rattle.lx_annot_laws.proofs.Local.{Looks, has_looks, looks_on, nothing_looks, something_looks, Bound, no_longer, Same, Plain, pure_plain, then_plain, last_plain, if_local, behind_local, fuel_local}
 
 -- Two readers that go on alike do the same.
 pub bound_alike : {A B : Type 0} (r s : Read A) (g h : A × List Tok → Read B) → r ≡ s → ((x : A) (us : List Tok) → r ≡ Ok (x, us) → g (x, us) ≡ h (x, us)) → (r >>= g) ≡ (s >>= h)
@@ -78,7 +78,7 @@ module _ {A : Type 0} (c : List Tok → Bool) (a b : List Tok → Read A) (first
   chosen_plain false = second
 
   module _ (hungry : (k : Bool) → Hungry (chosen k))
-      (waits : (t : Tok) (ts vs : List Tok) (f : Fault) → Tidy (t ∷ ts) → f.kind ≡ Statement → chosen (c (t ∷ ts)) (t ∷ ts) ≡ Err f → f.left ≡ suc (length ts) → chosen (c (t ∷ vs)) (t ∷ vs) ≡ refused (t ∷ vs)) where
+      (waits : (t : Tok) (ts vs : List Tok) (f : Fault) → Bound f.kind (t ∷ ts) → is_refusal f.kind ≡ true → chosen (c (t ∷ ts)) (t ∷ ts) ≡ Err f → f.left ≡ suc (length ts) → chosen (c (t ∷ vs)) (t ∷ vs) ≡ Err (at f.kind (t ∷ vs))) where
     wary_reads : (front us vs : List Tok) (x : A) → chosen (c (front ++ us)) (front ++ us) ≡ Ok (x, us) → Looks us vs → (y : A) × (chosen (c (front ++ vs)) (front ++ vs) ≡ Ok (y, vs)) × (x ≡ y)
     wary_reads [] [] vs x e l = (x, subst (λ r. chosen (c r) r ≡ Ok (x, r)) (sym (nothing_looks vs l)) e, refl)
     wary_reads [] (u ∷ us) vs x e l = let h = hungry (c (u ∷ us)) u us (u ∷ us) x e in absurd (omega (arith, h))
@@ -86,9 +86,9 @@ module _ {A : Type 0} (c : List Tok → Bool) (a b : List Tok → Read A) (first
         let r = (chosen_plain (c (t ∷ front ++ us))).reads (t ∷ front) us vs x e l in
         (r.0, ap (λ k. chosen k (t ∷ front ++ vs)) (sym (steady t (front ++ us) (front ++ vs) (looks_on front us vs l))) ∙ r.1, r.2)
 
-    wary_faults : (front us vs : List Tok) (f : Fault) → Tidy us → f.kind ≡ Statement → chosen (c (front ++ us)) (front ++ us) ≡ Err f → f.left ≡ length us → Looks us vs → chosen (c (front ++ vs)) (front ++ vs) ≡ refused vs
-    wary_faults [] [] vs f t a e left l = subst (λ r. chosen (c r) r ≡ refused r) (sym (nothing_looks vs l)) ((chosen_plain (c [])).faults [] [] [] f tt a e left refl)
-    wary_faults [] (u ∷ us) vs f t a e left l = subst (λ r. chosen (c r) r ≡ refused r) (sym (something_looks u us vs l)) (waits u us (behind vs) f t a e left)
+    wary_faults : (front us vs : List Tok) (f : Fault) → Bound f.kind us → is_refusal f.kind ≡ true → chosen (c (front ++ us)) (front ++ us) ≡ Err f → f.left ≡ length us → Looks us vs → chosen (c (front ++ vs)) (front ++ vs) ≡ Err (at f.kind vs)
+    wary_faults [] [] vs f t a e left l = subst (λ r. chosen (c r) r ≡ Err (at f.kind r)) (sym (nothing_looks vs l)) ((chosen_plain (c [])).faults [] [] [] f tt a e left refl)
+    wary_faults [] (u ∷ us) vs f t a e left l = subst (λ r. chosen (c r) r ≡ Err (at f.kind r)) (sym (something_looks u us vs l)) (waits u us (behind vs) f t a e left)
     wary_faults (u ∷ front) us vs f t a e left l =
         ap (λ k. chosen k (u ∷ front ++ vs)) (sym (steady u (front ++ us) (front ++ vs) (looks_on front us vs l)))
         ∙ (chosen_plain (c (u ∷ front ++ us))).faults (u ∷ front) us vs f t a e left l

@@ -18,14 +18,15 @@ use Rattle.lx_annot_read.specs.declared.head.Version.TheVariants as versions
 use Rattle.lx_annot_read.specs.Interfaces.{iterator_at}
 use Rattle.lx_cproto.specs.Types.{without_const, struct_at, type_at}
 use Rattle.lx_cproto.specs.Statements.{Declared, now, prototype_at, reftype_statement_at, begins_struct, opening_at, with_interface, outside_at, step_by, step_at}
-use Rattle.lx_annot_laws.proofs.Local.{Looks, has_looks, looks_on, nothing_looks, something_looks, Tidy, no_longer, Same, same_fault, Plain, pure_plain, if_plain, behind_local}
+use Rattle.lx_annot_laws.specs.RefusedPartLaws.{is_refusal}
+use Rattle.lx_annot_laws.proofs.Local.{Looks, has_looks, looks_on, nothing_looks, something_looks, Tidy, Bound, no_longer, Same, same_fault, Plain, pure_plain, if_plain, behind_local}
 use Rattle.lx_annot_laws.proofs.Loops.{shorter, Hungry, then_hungry, if_hungry, behind_hungry}
 use Rattle.lx_annot_laws.proofs.Statements.{iterator_plain}
 use Rattle.lx_annot_laws.proofs.Types.{tail_at, tail_plain, struct_tail, struct_tail_plain, type_hungry, type_of_struct}
 use Rattle.lx_annot_laws.proofs.PrototypeStatements.{behind_type, behind_type_plain, behind_type_hungry, prototype_is, prototype_from, prototype_plain, prototype_hungry, reftype_statement_plain, with_plain, brace_behind, brace_plain, opening_is, opening_plain, opening_hungry, inside_plain, inside_hungry}
 
 -- a fault that stands further than the first token
-too_far : {A : Type 0} (read : List Tok → Read A) → Plain read → (ts : List Tok) (f : Fault) → f.kind ≡ Statement → read ts ≡ Err f → f.left ≡ suc (length ts) → ⊥
+too_far : {A : Type 0} (read : List Tok → Read A) → Plain read → (ts : List Tok) (f : Fault) → is_refusal f.kind ≡ true → read ts ≡ Err f → f.left ≡ suc (length ts) → ⊥
 too_far read h ts f a e left = let s = h.stops ts f a e in absurd (omega (arith, no_longer s.0 ts s.1 s.2, s.3, left))
 
 -- No word: neither a name nor `const`.
@@ -33,9 +34,19 @@ too_far read h ts f a e left = let s = h.stops ts f a e in absurd (omega (arith,
 abbrev NoWord : Tok → Type 0
 NoWord s = word_of s.kind s.bytes ≡ None
 
+-- no word stands there, and it is refused as a token that no rule takes
+abbrev NoWordAt : Tok → Fault → Type 0
+NoWordAt s f = NoWord s × (f.kind ≡ Statement)
+
 no_const_by : (s : Tok) (b : Bool) → (b ≡ true → s.kind ≡ kinds.Word) → NoWord s → b ≡ false
 no_const_by s true word none = let w : word_of kinds.Word s.bytes ≡ None = subst (λ k. word_of k s.bytes ≡ None) (word refl) none in cc
 no_const_by s false word none = refl
+
+abbrev SameDeclaration : Read Declared → Read Declared → Type 0
+SameDeclaration r s = r ≡ s
+
+statement_met : (ts : List Tok) (f : Fault) → SameDeclaration (refused ts) (Err f) → f.kind ≡ Statement
+statement_met ts f e = sym (ap (λ (g : Fault). g.kind) (same_fault {A = Declared} (at Statement ts) f e))
 
 -- the name of a struct, where one is picked
 abbrev struct_by : Option (List ℕ) → List Tok → Read (Option Ty)
@@ -77,18 +88,18 @@ module _ (line : ℕ) (d : Declared) where
   proto_refuses t s vs b tidy none =
       struct_proto t (s ∷ vs) b ∙ ap proto_of (struct_word_refused s vs none (no_const_by s (bytes_eq s.bytes (codes "const")) tidy.1 none))
 
-  word_by : (s : Tok) (ts : List Tok) (f : Fault) (o : Option (List ℕ)) → word_of s.kind s.bytes ≡ o → f.kind ≡ Statement → proto_of (struct_by o (s ∷ ts) >>= λ x. tail_at x.0 x.1) ≡ Err f → f.left ≡ suc (length ts) → NoWord s
-  word_by s ts f None w a e left = w
+  word_by : (s : Tok) (ts : List Tok) (f : Fault) (o : Option (List ℕ)) → word_of s.kind s.bytes ≡ o → is_refusal f.kind ≡ true → proto_of (struct_by o (s ∷ ts) >>= λ x. tail_at x.0 x.1) ≡ Err f → f.left ≡ suc (length ts) → NoWordAt s f
+  word_by s ts f None w a e left = (w, statement_met (s ∷ ts) f e)
   word_by s ts f (Some n) w a e left = absurd (too_far (λ us. proto_of (tail_at None us)) (proto_from (tail_at None) (tail_plain None)) ts f a e left)
 
   abbrev struct_from : List Tok → Read Ty
   struct_from ts = struct_at ts >>= λ x. tail_at x.0 x.1
 
-  const_by : (s : Tok) (ts : List Tok) (f : Fault) (b : Bool) → f.kind ≡ Statement → proto_of (struct_from (if b then without_const ts else s ∷ ts)) ≡ Err f → f.left ≡ suc (length ts) → NoWord s
+  const_by : (s : Tok) (ts : List Tok) (f : Fault) (b : Bool) → is_refusal f.kind ≡ true → proto_of (struct_from (if b then without_const ts else s ∷ ts)) ≡ Err f → f.left ≡ suc (length ts) → NoWordAt s f
   const_by s ts f true a e left = absurd (too_far (λ us. proto_of (struct_tail us)) (proto_from struct_tail struct_tail_plain) ts f a e left)
   const_by s ts f false a e left = word_by s ts f (word_of s.kind s.bytes) refl a e left
 
-  proto_no_word : (t s : Tok) (ts : List Tok) (f : Fault) → bytes_eq t.bytes (codes "struct") ≡ true → f.kind ≡ Statement → proto (t ∷ s ∷ ts) ≡ Err f → f.left ≡ suc (length ts) → NoWord s
+  proto_no_word : (t s : Tok) (ts : List Tok) (f : Fault) → bytes_eq t.bytes (codes "struct") ≡ true → is_refusal f.kind ≡ true → proto (t ∷ s ∷ ts) ≡ Err f → f.left ≡ suc (length ts) → NoWordAt s f
   proto_no_word t s ts f b a e left = const_by s ts f (has (codes "const") (s ∷ ts)) a (sym (struct_proto t (s ∷ ts) b) ∙ e) left
 
   -- A struct is refused at its name where no word stands there.
@@ -96,20 +107,20 @@ module _ (line : ℕ) (d : Declared) where
   abbrev opening_of : Option (List ℕ) → FaultKind → List Tok → Read Declared
   opening_of o kind ts = picked o kind ts >>= brace_behind d
 
-  named_opening : (o : Option (List ℕ)) (s : Tok) (ts : List Tok) (f : Fault) → f.kind ≡ Statement → opening_of o Twice (s ∷ ts) ≡ Err f → f.left ≡ suc (length ts) → ⊥
+  named_opening : (o : Option (List ℕ)) (s : Tok) (ts : List Tok) (f : Fault) → is_refusal f.kind ≡ true → opening_of o Twice (s ∷ ts) ≡ Err f → f.left ≡ suc (length ts) → ⊥
   named_opening (Some n) s ts f a e left = too_far (λ us. brace_behind d (n, us)) (brace_plain d n) ts f a e left
-  named_opening None s ts f a e left = let k = ap (λ (g : Fault). g.kind) (same_fault {A = Declared} (at Twice (s ∷ ts)) f e) ∙ a in cc
+  named_opening None s ts f a e left = let both : false ≡ true = ap (λ (g : Fault). is_refusal g.kind) (same_fault {A = Declared} (at Twice (s ∷ ts)) f e) ∙ a in cc
 
-  opening_kind : (s : Tok) (ts : List Tok) (f : Fault) (k : TokenKind) → f.kind ≡ Statement → opening_of (fresh_of d.structs k s.bytes) (unless_word Twice k) (s ∷ ts) ≡ Err f → f.left ≡ suc (length ts) → word_of k s.bytes ≡ None
+  opening_kind : (s : Tok) (ts : List Tok) (f : Fault) (k : TokenKind) → is_refusal f.kind ≡ true → opening_of (fresh_of d.structs k s.bytes) (unless_word Twice k) (s ∷ ts) ≡ Err f → f.left ≡ suc (length ts) → (word_of k s.bytes ≡ None) × (f.kind ≡ Statement)
   opening_kind s ts f kinds.Word a e left = absurd (named_opening (fresh_of d.structs kinds.Word s.bytes) s ts f a e left)
-  opening_kind s ts f kinds.Local a e left = refl
-  opening_kind s ts f kinds.Global a e left = refl
-  opening_kind s ts f kinds.Number a e left = refl
-  opening_kind s ts f kinds.Text a e left = refl
-  opening_kind s ts f kinds.Bytes a e left = refl
-  opening_kind s ts f kinds.Mark a e left = refl
+  opening_kind s ts f kinds.Local a e left = (refl, statement_met (s ∷ ts) f e)
+  opening_kind s ts f kinds.Global a e left = (refl, statement_met (s ∷ ts) f e)
+  opening_kind s ts f kinds.Number a e left = (refl, statement_met (s ∷ ts) f e)
+  opening_kind s ts f kinds.Text a e left = (refl, statement_met (s ∷ ts) f e)
+  opening_kind s ts f kinds.Bytes a e left = (refl, statement_met (s ∷ ts) f e)
+  opening_kind s ts f kinds.Mark a e left = (refl, statement_met (s ∷ ts) f e)
 
-  opening_no_word : (s : Tok) (ts : List Tok) (f : Fault) → f.kind ≡ Statement → opening_at d (s ∷ ts) ≡ Err f → f.left ≡ suc (length ts) → NoWord s
+  opening_no_word : (s : Tok) (ts : List Tok) (f : Fault) → is_refusal f.kind ≡ true → opening_at d (s ∷ ts) ≡ Err f → f.left ≡ suc (length ts) → NoWordAt s f
   opening_no_word s ts f a e left = opening_kind s ts f s.kind a (sym (opening_is d (s ∷ ts)) ∙ e) left
 
   other_opening : (s : Tok) (vs : List Tok) (k : TokenKind) → word_of k s.bytes ≡ None → opening_of (fresh_of d.structs k s.bytes) (unless_word Twice k) (s ∷ vs) ≡ refused (s ∷ vs)
@@ -154,12 +165,12 @@ module _ (line : ℕ) (d : Declared) where
       let l = type_hungry t (s ∷ ts) c.0.1 c.0.0 c.1 in
       subst (λ r. length r ≤ length ts) k.1 (second_taken c.0.1 ts b.0.1 c.0.0 b.0.0 l c.2)
 
-  first_waits : (t : Tok) (ts vs : List Tok) (f : Fault) (struct brace other : Bool) → bytes_eq t.bytes (codes "struct") ≡ struct → Tidy (t ∷ ts) → f.kind ≡ Statement → either (struct && brace) (t ∷ ts) ≡ Err f → f.left ≡ suc (length ts) → either (struct && other) (t ∷ vs) ≡ refused (t ∷ vs)
-  first_waits t ts vs f true true other s tidy a e left = absurd (too_far (opening_at d) (opening_plain d) ts f a e left)
-  first_waits t ts vs f true false other s tidy a e left = absurd (too_far (λ us. proto_of (struct_tail us)) (proto_from struct_tail struct_tail_plain) ts f a (sym (struct_proto t ts s) ∙ e) left)
-  first_waits t ts vs f false brace other s tidy a e left = proto_plain.faults [] (t ∷ ts) (t ∷ vs) f tidy a e left refl
+  first_waits : (t : Tok) (ts vs : List Tok) (f : Fault) (struct brace other : Bool) → bytes_eq t.bytes (codes "struct") ≡ struct → Bound f.kind (t ∷ ts) → is_refusal f.kind ≡ true → either (struct && brace) (t ∷ ts) ≡ Err f → f.left ≡ suc (length ts) → either (struct && other) (t ∷ vs) ≡ Err (at f.kind (t ∷ vs))
+  first_waits t ts vs f true true other s bound a e left = absurd (too_far (opening_at d) (opening_plain d) ts f a e left)
+  first_waits t ts vs f true false other s bound a e left = absurd (too_far (λ us. proto_of (struct_tail us)) (proto_from struct_tail struct_tail_plain) ts f a (sym (struct_proto t ts s) ∙ e) left)
+  first_waits t ts vs f false brace other s bound a e left = proto_plain.faults [] (t ∷ ts) (t ∷ vs) f bound a e left refl
 
-  no_word : (t s : Tok) (ts : List Tok) (f : Fault) (brace : Bool) → bytes_eq t.bytes (codes "struct") ≡ true → f.kind ≡ Statement → either brace (t ∷ s ∷ ts) ≡ Err f → f.left ≡ suc (length ts) → NoWord s
+  no_word : (t s : Tok) (ts : List Tok) (f : Fault) (brace : Bool) → bytes_eq t.bytes (codes "struct") ≡ true → is_refusal f.kind ≡ true → either brace (t ∷ s ∷ ts) ≡ Err f → f.left ≡ suc (length ts) → NoWordAt s f
   no_word t s ts f true b a e left = opening_no_word s ts f a e left
   no_word t s ts f false b a e left = proto_no_word t s ts f b a e left
 
@@ -167,9 +178,11 @@ module _ (line : ℕ) (d : Declared) where
   no_word_refused t s vs true b tidy none = opening_refuses s vs none
   no_word_refused t s vs false b tidy none = proto_refuses t s vs b tidy none
 
-  second_waits : (t s : Tok) (ts vs : List Tok) (f : Fault) (struct brace other : Bool) → bytes_eq t.bytes (codes "struct") ≡ struct → Tidy (s ∷ ts) → f.kind ≡ Statement → either (struct && brace) (t ∷ s ∷ ts) ≡ Err f → f.left ≡ suc (length ts) → either (struct && other) (t ∷ s ∷ vs) ≡ refused (s ∷ vs)
-  second_waits t s ts vs f true brace other b tidy a e left = no_word_refused t s vs other b tidy (no_word t s ts f brace b a e left)
-  second_waits t s ts vs f false brace other b tidy a e left = proto_plain.faults (t ∷ []) (s ∷ ts) (s ∷ vs) f tidy a e left refl
+  second_waits : (t s : Tok) (ts vs : List Tok) (f : Fault) (struct brace other : Bool) → bytes_eq t.bytes (codes "struct") ≡ struct → Bound f.kind (s ∷ ts) → is_refusal f.kind ≡ true → either (struct && brace) (t ∷ s ∷ ts) ≡ Err f → f.left ≡ suc (length ts) → either (struct && other) (t ∷ s ∷ vs) ≡ Err (at f.kind (s ∷ vs))
+  second_waits t s ts vs f true brace other b bound a e left =
+      let n = no_word t s ts f brace b a e left in
+      no_word_refused t s vs other b bound.0 n.0 ∙ ap (λ k. Err (at k (s ∷ vs))) (sym n.1)
+  second_waits t s ts vs f false brace other b bound a e left = proto_plain.faults (t ∷ []) (s ∷ ts) (s ∷ vs) f bound a e left refl
 
   third_steady : (t s : Tok) (front us vs : List Tok) → Looks us vs → begins_struct (t ∷ s ∷ (front ++ us)) ≡ begins_struct (t ∷ s ∷ (front ++ vs))
   third_steady t s front us vs l = ap (λ b. bytes_eq t.bytes (codes "struct") && b) (has_looks (codes "{") (front ++ us) (front ++ vs) (looks_on front us vs l))
@@ -186,17 +199,17 @@ module _ (line : ℕ) (d : Declared) where
       let r = (either_plain (begins_struct (t ∷ s ∷ (front ++ us)))).reads (t ∷ s ∷ front) us vs x e l in
       (r.0, ap (λ k. either k (t ∷ s ∷ (front ++ vs))) (sym (third_steady t s front us vs l)) ∙ r.1, r.2)
 
-  choice_faults : (front us vs : List Tok) (f : Fault) → Tidy us → f.kind ≡ Statement → struct_or_proto (front ++ us) ≡ Err f → f.left ≡ length us → Looks us vs → struct_or_proto (front ++ vs) ≡ refused vs
-  choice_faults [] [] vs f tidy a e left l = subst (λ r. struct_or_proto r ≡ refused r) (sym (nothing_looks vs l)) ((either_plain (begins_struct [])).faults [] [] [] f tt a e left refl)
-  choice_faults [] (u ∷ us) vs f tidy a e left l =
-      subst (λ r. struct_or_proto r ≡ refused r) (sym (something_looks u us vs l))
-      (first_waits u us (behind vs) f (bytes_eq u.bytes (codes "struct")) (has (codes "{") (behind us)) (has (codes "{") (behind (behind vs))) refl tidy a e left)
-  choice_faults (t ∷ []) [] vs f tidy a e left l = subst (λ r. struct_or_proto (t ∷ r) ≡ refused r) (sym (nothing_looks vs l)) ((either_plain (begins_struct (t ∷ []))).faults (t ∷ []) [] [] f tt a e left refl)
-  choice_faults (t ∷ []) (u ∷ us) vs f tidy a e left l =
-      subst (λ r. struct_or_proto (t ∷ r) ≡ refused r) (sym (something_looks u us vs l))
-      (second_waits t u us (behind vs) f (bytes_eq t.bytes (codes "struct")) (has (codes "{") us) (has (codes "{") (behind vs)) refl tidy a e left)
-  choice_faults (t ∷ s ∷ front) us vs f tidy a e left l =
-      ap (λ k. either k (t ∷ s ∷ (front ++ vs))) (sym (third_steady t s front us vs l)) ∙ (either_plain (begins_struct (t ∷ s ∷ (front ++ us)))).faults (t ∷ s ∷ front) us vs f tidy a e left l
+  choice_faults : (front us vs : List Tok) (f : Fault) → Bound f.kind us → is_refusal f.kind ≡ true → struct_or_proto (front ++ us) ≡ Err f → f.left ≡ length us → Looks us vs → struct_or_proto (front ++ vs) ≡ Err (at f.kind vs)
+  choice_faults [] [] vs f bound a e left l = subst (λ r. struct_or_proto r ≡ Err (at f.kind r)) (sym (nothing_looks vs l)) ((either_plain (begins_struct [])).faults [] [] [] f tt a e left refl)
+  choice_faults [] (u ∷ us) vs f bound a e left l =
+      subst (λ r. struct_or_proto r ≡ Err (at f.kind r)) (sym (something_looks u us vs l))
+      (first_waits u us (behind vs) f (bytes_eq u.bytes (codes "struct")) (has (codes "{") (behind us)) (has (codes "{") (behind (behind vs))) refl bound a e left)
+  choice_faults (t ∷ []) [] vs f bound a e left l = subst (λ r. struct_or_proto (t ∷ r) ≡ Err (at f.kind r)) (sym (nothing_looks vs l)) ((either_plain (begins_struct (t ∷ []))).faults (t ∷ []) [] [] f tt a e left refl)
+  choice_faults (t ∷ []) (u ∷ us) vs f bound a e left l =
+      subst (λ r. struct_or_proto (t ∷ r) ≡ Err (at f.kind r)) (sym (something_looks u us vs l))
+      (second_waits t u us (behind vs) f (bytes_eq t.bytes (codes "struct")) (has (codes "{") us) (has (codes "{") (behind vs)) refl bound a e left)
+  choice_faults (t ∷ s ∷ front) us vs f bound a e left l =
+      ap (λ k. either k (t ∷ s ∷ (front ++ vs))) (sym (third_steady t s front us vs l)) ∙ (either_plain (begins_struct (t ∷ s ∷ (front ++ us)))).faults (t ∷ s ∷ front) us vs f bound a e left l
 
   choice_plain : Plain struct_or_proto
   choice_plain = record {

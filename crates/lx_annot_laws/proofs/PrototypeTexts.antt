@@ -5,12 +5,11 @@ use Rattle.lx_words.specs.declared.token.Token.{Token}
 use Rattle.lx_words.specs.declared.token.Stop.{Stop}
 use Rattle.lx_words.specs.Lexemes.{lexeme_behind}
 use Rattle.lx_annot.specs.declared.interface.Interface.{Interface}
-use Rattle.lx_annot_read.specs.declared.fault.Kind.TheVariants as kinds
 use Rattle.lx_annot_read.specs.declared.fault.Met.{Met}
 use Rattle.lx_annot_read.specs.Faults.{lexical, met_at_end}
 use Rattle.lx_annot_read.specs.Texts.{seen, limited, ◌and_then◌, ended}
 use Rattle.lx_annot_laws.proofs.Local.{Local}
-use Rattle.lx_annot_laws.proofs.Limited.{AllTidy, HasWords, IsEnded, ok_met, same_met, lexical_other, ended_by}
+use Rattle.lx_annot_laws.proofs.Limited.{AllTidy, HasWords, IsSpoken, IsEnded, ok_met, same_met, lexical_other, ended_by}
 use Rattle.lx_annot_laws.proofs.Whole.{Stopped, loop, whole_at, whole_halts}
 use Rattle.lx_annot_laws.proofs.Alike.{alike_local}
 use Rattle.lx_annot_laws.proofs.Refused.{stand_nowhere}
@@ -48,22 +47,22 @@ text_is text stop tokens =
     then_alike (limited text stop tokens (head_at (seen text tokens))) (λ h. body_at text stop (length h.1) nothing h.1 and_then λ d. end_at tokens stop d) (λ h. loop step_at text stop (length h.1) nothing h.1 and_then λ d. end_at tokens stop d)
     (λ h. ap (λ (r : Result Declared Met). r and_then λ d. end_at tokens stop d) (body_is text stop (length h.1) nothing h.1))
 
-ended_none : (stop : Option Stop) (tokens : List Token) (i : Interface) (met : Met) → met.kind ≡ kinds.Statement → ended stop i ≡ Err met → IsEnded stop tokens met
+ended_none : (stop : Option Stop) (tokens : List Token) (i : Interface) (met : Met) → IsSpoken met → ended stop i ≡ Err met → IsEnded stop tokens met
 ended_none None tokens i met kind e = absurd (ok_met i met e)
 ended_none (Some s) tokens i met kind e = absurd (lexical_other s met (same_met {A = Interface} (lexical s) met e) kind)
 
-finished_by : (inside : Option (List ℕ)) (tokens : List Token) (stop : Option Stop) (i : Interface) (met : Met) → met.kind ≡ kinds.Statement → end_by inside tokens stop i ≡ Err met → IsEnded stop tokens met
+finished_by : (inside : Option (List ℕ)) (tokens : List Token) (stop : Option Stop) (i : Interface) (met : Met) → IsSpoken met → end_by inside tokens stop i ≡ Err met → IsEnded stop tokens met
 finished_by None tokens stop i met kind e = ended_none stop tokens i met kind e
 finished_by (Some name) tokens stop i met kind e = ended_by stop tokens met kind (same_met {A = Interface} (met_at_end tokens stop) met e)
 
-finished : (tokens : List Token) (stop : Option Stop) (d : Declared) (met : Met) → met.kind ≡ kinds.Statement → end_at tokens stop d ≡ Err met → IsEnded stop tokens met
+finished : (tokens : List Token) (stop : Option Stop) (d : Declared) (met : Met) → IsSpoken met → end_at tokens stop d ≡ Err met → IsEnded stop tokens met
 finished tokens stop d met kind e = finished_by d.inside tokens stop d.interface met kind e
 
 words : HasWords rules.Prototype
 unfolding lexeme_behind
 words = (refl, refl)
 
-text_halts : (text : List ℕ) (stop : Option Stop) (tokens : List Token) → AllTidy text tokens → (met : Met) → met.kind ≡ kinds.Statement → interface_at text stop tokens ≡ Err met → Stopped text tokens met (λ other stop' others found. interface_at other stop' others ≡ Err found) ⊎ IsEnded stop tokens met
+text_halts : (text : List ℕ) (stop : Option Stop) (tokens : List Token) → AllTidy text tokens → (met : Met) → IsSpoken met → interface_at text stop tokens ≡ Err met → Stopped text tokens met (λ other stop' others found. interface_at other stop' others ≡ Err found) ⊎ IsEnded stop tokens met
 text_halts text stop tokens tidy met kind e =
     subst (λ (read : List ℕ → Option Stop → List Token → Result Interface Met). Stopped text tokens met (λ other stop' others found. read other stop' others ≡ Err found) ⊎ IsEnded stop tokens met) (sym (λ k x y z. text_is x y z k))
     (whole_halts head_at head_plain (λ h. step_at) SameDeclared declared_same (λ h. step_local) (λ h. step_hungry) nothing end_at finished text stop tokens tidy met kind (sym (text_is text stop tokens) ∙ e))

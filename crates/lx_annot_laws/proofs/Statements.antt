@@ -1,9 +1,9 @@
 -- Statements hang on the tokens that they are, and on the one behind them.
-use Rattle.std.proofs.Common.{◌≡◌, ℕ, Bool, true, false, List, [], Ok, Err, subst, codes}
+use Rattle.std.proofs.Common.{◌≡◌, ℕ, Bool, true, false, List, [], Ok, Err, refl, subst, codes}
 use Rattle.std.specs.Prelude.{if◌then◌else◌}
 use Rattle.lx_annot.specs.declared.interface.Interface.{Interface}
 use Rattle.lx_annot_expressions.specs.Tokens.{Tok}
-use Rattle.lx_annot_expressions.specs.declared.fault.FaultKind.TheVariants.{Statement, Twice}
+use Rattle.lx_annot_expressions.specs.declared.fault.FaultKind.TheVariants.{Twice}
 use Rattle.lx_annot_expressions.specs.Reading.{Read, ◌>>=◌, at, has, behind, refused, next_at, always_refused, number_of, number_at}
 use Rattle.lx_annot_expressions.specs.Names.{fresh_at, known_at}
 use Rattle.lx_annot_terms.specs.Lists.{Known}
@@ -50,12 +50,9 @@ callable_plain known =
 number_plain : (limit : ℕ) → Plain (number_at limit)
 number_plain limit = pick_plain (λ t. number_of limit t.kind t.bytes) always_refused
 
-other_kind : Twice ≡ Statement → ⊥
-other_kind e = cc
-
 -- Where something is there before, the fault is at a token wherever that stands, and of another kind.
 pub twice_local : {A : Type 0} (w z : List Tok) (x : A) (b : Bool) → Local Same (λ us. if b then Err (at Twice w) else Ok (x, us)) (λ us. if b then Err (at Twice z) else Ok (x, us))
-twice_local {A} w z x true = other_fault {A = A} Same (λ ts. at Twice w) (λ ts. at Twice z) (λ ts e. other_kind e)
+twice_local {A} w z x true = other_fault {A = A} Same (λ ts. at Twice w) (λ ts. at Twice z) (λ ts. refl)
 twice_local w z x false = pure_plain x
 
 module _ (v : Version) (line : ℕ) (i : Interface) where

@@ -5,7 +5,6 @@ use Rattle.lx_words.specs.declared.token.Token.{Token}
 use Rattle.lx_words.specs.declared.token.Stop.{Stop}
 use Rattle.lx_words.specs.Lexemes.{lexeme_behind}
 use Rattle.lx_annot.specs.declared.interface.Interface.{Interface}
-use Rattle.lx_annot_read.specs.declared.fault.Kind.TheVariants as kinds
 use Rattle.lx_annot_read.specs.declared.fault.Met.{Met}
 use Rattle.lx_annot_read.specs.declared.head.Version.{Version}
 use Rattle.lx_annot_read.specs.Faults.{lexical}
@@ -19,7 +18,7 @@ use Rattle.lx_annot_laws.specs.RefusedLaws.{RefusedTokensStandNowhere}
 use Rattle.lx_annot_laws.proofs.Local.{Local}
 use Rattle.lx_annot_laws.proofs.Alike.{alike_local, interface_alike}
 use Rattle.lx_annot_laws.proofs.Statements.{head_plain, statement_plain, statement_hungry}
-use Rattle.lx_annot_laws.proofs.Limited.{AllTidy, HasWords, IsEnded, ok_met, same_met, lexical_other}
+use Rattle.lx_annot_laws.proofs.Limited.{AllTidy, HasWords, IsSpoken, IsEnded, ok_met, same_met, lexical_other}
 use Rattle.lx_annot_laws.proofs.Whole.{Stopped, loop, whole_at, whole_halts}
 use Rattle.lx_annot_laws.proofs.Refused.{stand_nowhere}
 
@@ -54,7 +53,7 @@ text_is text stop tokens =
     then_alike (limited text stop tokens (head_at (seen text tokens))) (λ h. body_at text stop h.0 (length h.1) empty h.1 and_then λ i. ended stop i) (λ h. loop (statement_at h.0) text stop (length h.1) empty h.1 and_then λ i. finish tokens stop i)
     (λ h. ap (λ (r : Result Interface Met). r and_then λ i. ended stop i) (body_is text stop h.0 (length h.1) empty h.1))
 
-finished : (tokens : List Token) (stop : Option Stop) (i : Interface) (met : Met) → met.kind ≡ kinds.Statement → finish tokens stop i ≡ Err met → IsEnded stop tokens met
+finished : (tokens : List Token) (stop : Option Stop) (i : Interface) (met : Met) → IsSpoken met → finish tokens stop i ≡ Err met → IsEnded stop tokens met
 finished tokens None i met kind e = absurd (ok_met i met e)
 finished tokens (Some s) i met kind e = absurd (lexical_other s met (same_met {A = Interface} (lexical s) met e) kind)
 
@@ -62,7 +61,7 @@ words : HasWords rules.Interface
 unfolding lexeme_behind
 words = (refl, refl)
 
-pub text_halts : (text : List ℕ) (stop : Option Stop) (tokens : List Token) → AllTidy text tokens → (met : Met) → met.kind ≡ kinds.Statement → interface_at text stop tokens ≡ Err met → Stopped text tokens met (λ other stop' others found. interface_at other stop' others ≡ Err found) ⊎ IsEnded stop tokens met
+pub text_halts : (text : List ℕ) (stop : Option Stop) (tokens : List Token) → AllTidy text tokens → (met : Met) → IsSpoken met → interface_at text stop tokens ≡ Err met → Stopped text tokens met (λ other stop' others found. interface_at other stop' others ≡ Err found) ⊎ IsEnded stop tokens met
 text_halts text stop tokens tidy met kind e =
     subst (λ (read : List ℕ → Option Stop → List Token → Result Interface Met). Stopped text tokens met (λ other stop' others found. read other stop' others ≡ Err found) ⊎ IsEnded stop tokens met) (sym (λ k x y z. text_is x y z k))
     (whole_halts head_at head_plain statement_at SameAside (λ i. refl) statement_local statement_hungry empty finish finished text stop tokens tidy met kind (sym (text_is text stop tokens) ∙ e))

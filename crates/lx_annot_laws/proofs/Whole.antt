@@ -14,7 +14,7 @@ use Rattle.lx_annot_read.specs.Texts.{seen, limited, ◌and_then◌}
 use Rattle.lx_annot_grammar.proofs.TextLaws.{further}
 use Rattle.lx_annot_laws.proofs.Local.{first_of, Looks, same_split, Same, Local, Plain}
 use Rattle.lx_annot_laws.proofs.Loops.{Hungry}
-use Rattle.lx_annot_laws.proofs.Limited.{AllTidy, tidy_there, tidy_behind, further_count, count_alike, refused_at, IsEnded, ok_met, same_met, FailsAt, fails_at, fails_again, Passes, passes}
+use Rattle.lx_annot_laws.proofs.Limited.{AllTidy, tidy_there, tidy_behind, further_count, count_alike, refused_at, IsSpoken, IsEnded, ok_met, same_met, FailsAt, fails_at, fails_again, Passes, passes}
 
 -- A text stops at a token, and so does each other text with the same tokens up to it.
 pub record Stopped (text : List ℕ) (tokens : List Token) (met : Met) (Again : List ℕ → Option Stop → List Token → Met → Type 0) : Type 0 where
@@ -22,8 +22,8 @@ pub record Stopped (text : List ℕ) (tokens : List Token) (met : Met) (Again : 
   pub token : Token
   pub more : List Token
   pub whole : tokens ≡ before ++ token ∷ more
-  pub is : met ≡ refused_at text token
-  pub again : (other : List ℕ) (stop : Option Stop) (front : List Token) (t : Token) (rest : List Token) → toks_of text (before ++ token ∷ []) ≡ toks_of other (front ++ t ∷ []) → Again other stop (front ++ t ∷ rest) (refused_at other t)
+  pub is : met ≡ refused_at met.kind text token
+  pub again : (other : List ℕ) (stop : Option Stop) (front : List Token) (t : Token) (rest : List Token) → toks_of text (before ++ token ∷ []) ≡ toks_of other (front ++ t ∷ []) → Again other stop (front ++ t ∷ rest) (refused_at met.kind other t)
 
 -- The first tokens of two texts.
 
@@ -112,7 +112,7 @@ module _ {S : Type 0} (step : ℕ → S → List Tok → Read S) where
       is = f.is;
       again = λ other stop' front t rest alike m r related le.
           let count : length (front ++ t ∷ rest) ≡ length front + suc (length rest) = length-append front (t ∷ rest) in
-          again_first other stop' (front ++ t ∷ rest) m r (refused_at other t)
+          again_first other stop' (front ++ t ∷ rest) m r (refused_at met.kind other t)
           (λ k. fails_again R text stop tokens (step l s) (step k r) met f (local l k s r related) (tidy_there text f.before f.token f.more (subst (AllTidy text) f.whole tidy)) other stop' front t rest alike)
           (omega (arith, count)) le;
     }
@@ -132,8 +132,8 @@ module _ {S : Type 0} (step : ℕ → S → List Tok → Read S) where
           let size : length p.front ≡ length q.head = count_alike text other p.front q.head q.same in
           let look : Looks (toks_of text rest) (toks_of other (q.back ++ t ∷ behind)) = subst (λ w. Looks (toks_of text w) (toks_of other (q.back ++ t ∷ behind))) (sym st.whole) (parted_look text other st.before st.token st.more q.back t behind q.alike) in
           let fits : length (q.head ++ (q.back ++ t ∷ behind)) ≤ m = subst (λ w. length w ≤ m) all le in
-          subst (λ w. loop other stop' m r w ≡ Err (refused_at other t)) (sym all)
-          (again_next other stop' (q.head ++ (q.back ++ t ∷ behind)) (q.back ++ t ∷ behind) m r (refused_at other t)
+          subst (λ w. loop other stop' m r w ≡ Err (refused_at met.kind other t)) (sym all)
+          (again_next other stop' (q.head ++ (q.back ++ t ∷ behind)) (q.back ++ t ∷ behind) m r (refused_at met.kind other t)
           (λ k. let a = p.again (step k r) (local l k s r related) other stop' q.head (q.back ++ t ∷ behind) q.same look in (a.0, a.1, λ n room. st.again other stop' q.back t behind q.alike n a.0 a.2 room))
           (omega (arith, count, size, some)) fits);
     }
@@ -156,7 +156,7 @@ module _ {S : Type 0} (step : ℕ → S → List Tok → Read S) where
     ended_behind : (text : List ℕ) (stop : Option Stop) (tokens front rest : List Token) (met : Met) → tokens ≡ front ++ rest → 0 < length rest → IsEnded stop rest met → IsEnded stop tokens met
     ended_behind text stop tokens front rest met whole some (none, is) = (none, is ∙ ap (λ l. met_as kinds.Statement l (codes "end")) (sym (ap last_line whole ∙ last_behind front rest some)))
 
-    module _ (text : List ℕ) (stop : Option Stop) (met : Met) (kind : met.kind ≡ kinds.Statement) where
+    module _ (text : List ℕ) (stop : Option Stop) (met : Met) (kind : IsSpoken met) where
       here_or_end : (s : S) (tokens : List Token) (l : ℕ) → AllTidy text tokens → FailsAt text stop tokens (step l s) met ⊎ IsEnded stop tokens met → LoopHalts text stop s tokens met
       here_or_end s tokens l tidy (inl f) = inl (halts_here text stop s tokens l met tidy f)
       here_or_end s tokens l tidy (inr e) = inr e
@@ -214,12 +214,12 @@ module _ {H S I : Type 0} (head : List Tok → Read H) (plain : Plain head) (ste
         let look : Looks (toks_of text rest) (toks_of other (q.back ++ t ∷ behind)) = subst (λ w. Looks (toks_of text w) (toks_of other (q.back ++ t ∷ behind))) (sym st.whole) (parted_look text other st.before st.token st.more q.back t behind q.alike) in
         let a = p.again head plain other stop' q.head (q.back ++ t ∷ behind) q.same look in
         let read : limited other stop' (q.head ++ (q.back ++ t ∷ behind)) (head (seen other (q.head ++ (q.back ++ t ∷ behind)))) ≡ Ok (h, q.back ++ t ∷ behind) = a.1 ∙ ap (λ k. Ok (k, q.back ++ t ∷ behind)) (sym a.2) in
-        let body : loop (step h) other stop' (length (q.back ++ t ∷ behind)) start (q.back ++ t ∷ behind) ≡ Err (refused_at other t) = st.again other stop' q.back t behind q.alike (length (q.back ++ t ∷ behind)) start (same start) (omega arith) in
-        subst (λ w. whole_at other stop' w ≡ Err (refused_at other t)) (sym all)
+        let body : loop (step h) other stop' (length (q.back ++ t ∷ behind)) start (q.back ++ t ∷ behind) ≡ Err (refused_at met.kind other t) = st.again other stop' q.back t behind q.alike (length (q.back ++ t ∷ behind)) start (same start) (omega arith) in
+        subst (λ w. whole_at other stop' w ≡ Err (refused_at met.kind other t)) (sym all)
         (ap (from_head other stop' (q.head ++ (q.back ++ t ∷ behind))) read ∙ ap (λ (r : Result S Met). r and_then λ s. finish (q.head ++ (q.back ++ t ∷ behind)) stop' s) body);
   }
 
-  module _ (finished : (tokens : List Token) (stop : Option Stop) (s : S) (met : Met) → met.kind ≡ kinds.Statement → finish tokens stop s ≡ Err met → IsEnded stop tokens met) (text : List ℕ) (stop : Option Stop) (tokens : List Token) (tidy : AllTidy text tokens) (met : Met) (kind : met.kind ≡ kinds.Statement) where
+  module _ (finished : (tokens : List Token) (stop : Option Stop) (s : S) (met : Met) → IsSpoken met → finish tokens stop s ≡ Err met → IsEnded stop tokens met) (text : List ℕ) (stop : Option Stop) (tokens : List Token) (tidy : AllTidy text tokens) (met : Met) (kind : IsSpoken met) where
     abbrev Halts : Type 0
     Halts = Stopped text tokens met WholeAgain ⊎ IsEnded stop tokens met
 
