@@ -22,7 +22,6 @@ use Rattle.lx_annot_expressions.specs.Reading.{Read, at}
 use Rattle.lx_annot_read.specs.declared.fault.Kind.TheVariants as kinds
 use Rattle.lx_annot_read.specs.declared.fault.Kind.{Kind}
 use Rattle.lx_annot_read.specs.declared.fault.Met.{Met}
-use Rattle.lx_annot_read.specs.declared.fault.InterfaceFault.TheVariants as faults
 use Rattle.lx_annot_read.specs.Faults.{kind_of, fault_of, answered, met_as, last_line, lexical, met_at_end, met_at}
 use Rattle.lx_annot_read.specs.Said.{what_of}
 use Rattle.lx_annot_read.specs.Texts.{window, rest_behind, place_of, fault_in, seen, limited}

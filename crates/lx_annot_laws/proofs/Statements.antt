@@ -1,5 +1,5 @@
 -- Statements hang on the tokens that they are, and on the one behind them.
-use Rattle.std.proofs.Common.{◌≡◌, ℕ, Bool, true, false, List, [], Ok, Err, refl, subst, codes}
+use Rattle.std.proofs.Common.{ℕ, Bool, true, false, List, [], Ok, Err, refl, subst, codes}
 use Rattle.std.specs.Prelude.{if◌then◌else◌}
 use Rattle.lx_annot.specs.declared.interface.Interface.{Interface}
 use Rattle.lx_annot_expressions.specs.Tokens.{Tok}

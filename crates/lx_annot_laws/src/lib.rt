@@ -20,6 +20,7 @@ ghost use Rattle.lx_annot_laws.specs.SayableLaws.{InterfacesAreSayable};
 ghost use Rattle.lx_annot_laws.specs.PrototypeSayableLaws.{PrototypesAreSayable};
 ghost use Rattle.lx_annot_laws.specs.PrototypeRoundTripLaws.{PrintedPrototypesAreRead};
 ghost use Rattle.lx_annot_laws.specs.RefusedLaws.{RefusedTokensStandNowhere};
+ghost use Rattle.lx_annot_laws.specs.RefusedRows.{WorkedRefusals};
 ghost use Rattle.lx_annot_laws.specs.RefusedPartLaws.{ClausesAreRefused, ItemsAreRefused, StatementsAreRefused};
 ghost use Rattle.lx_annot_laws.specs.PrototypeRefusedLaws.{RefusedPrototypeTokensStandNowhere};
 
@@ -94,23 +95,29 @@ pub fn printed_prototype_laws()
     printed_interface_laws();
 }
 
-/// A token at which the reading of clauses, of items or of a statement stops cannot stand there.
+/// A token at which the reading of clauses, of items or of a statement stops cannot stand there, where no rule takes it or it is a name that
+/// is not declared but `load64`.
 pub fn part_refusal_laws()
     ensures clauses { ClausesAreRefused }
     ensures items { ItemsAreRefused }
     ensures statements { StatementsAreRefused }
 {}
 
-/// A token at which the first reading of a text stops cannot stand there: each text with the same tokens up to it has its first fault
-/// there, and is no interface.
+/// Worked rows: a name that is refused whatever follows it, and tokens at fault that could stand there before others: `load64`, a `write`
+/// whose size is missed, and a field that is typed twice.
+pub fn worked_refusals()
+    ensures { WorkedRefusals }
+{}
+
+/// A token at which the first reading of a text stops, where no rule takes it or it is a name that is not declared but `load64`, cannot
+/// stand there: each text with the same tokens up to it has its first fault there, and is no interface.
 pub fn refused_laws()
     ensures { RefusedTokensStandNowhere }
 {
     interface_laws();
 }
 
-/// A token at which the first reading of a text stops cannot stand there: each text with the same tokens up to it has its first fault
-/// there, and is no interface.
+/// The same of texts of prototypes.
 pub fn refused_prototype_laws()
     ensures { RefusedPrototypeTokensStandNowhere }
 {
