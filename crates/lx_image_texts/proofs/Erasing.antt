@@ -18,7 +18,7 @@ use Rattle.lx_ir.specs.declared.instr.Instr.{Instr}
 use Rattle.lx_ir.specs.declared.instr.Op.{Op}
 use Rattle.lx_ir.specs.declared.instr.Op.TheVariants as op
 use Rattle.lx_ir.specs.Lookup.{is_defined, blocks_of, blocks_of_option, instrs_of}
-use Rattle.lx_ir.specs.Lawful.{IsPlain, is_own_name, is_lawful_function, is_lawful_body, is_lawful_block, is_lawful_import, is_name, numbers_registers}
+use Rattle.lx_ir.specs.Lawful.{IsPlain, is_own_name, is_lawful_function, is_lawful_body, is_lawful_block, is_lawful_import, numbers_registers}
 use Rattle.lx_ir.specs.Operands.{is_image_line}
 use Rattle.lx_annot.specs.declared.interface.Interface.{Interface}
 use Rattle.lx_slot_types.specs.declared.Marked.{Marked}
@@ -186,7 +186,7 @@ defined_body m f false e h = false_true e
 
 pub lawful_blocks : (m : Module) (f : Function) (bs : List Block) → f.blocks ≡ Some bs → is_lawful_function m f ≡ true → list_all (is_lawful_block m f) bs ≡ true
 lawful_blocks m f bs e l =
-    let body : is_lawful_body m f ≡ true = defined_body m f (is_defined f) (ap is_some e) (second_of (is_name f.name) _ l) in
+    let body : is_lawful_body m f ≡ true = defined_body m f (is_defined f) (ap is_some e) (second_of _ _ l) in
     ap (λ (x : Option (List Block)). list_all (is_lawful_block m f) (blocks_of_option x)) (sym e) ∙ second_of _ (list_all (is_lawful_block m f) (blocks_of f)) (first_of _ (numbers_registers f) body)
 
 body_back : (m x : Module) (f : Function) (bs cs : Option (List Block)) → CallsBack m x → Within m (flat_map (λ (b : Block). b.instrs) (blocks_of_option bs)) → list_all (λ (i : Instr). not (is_image_line i.op)) (flat_map (λ (b : Block). b.instrs) (blocks_of_option bs)) ≡ true → HasMarks m f bs cs → option_map (map block_text) bs ≡ option_map (map (erased_block x)) cs

@@ -260,5 +260,6 @@ module _ (i : Interface) (m x : Module) (g : Guards i m x) where
 
     pub lawful_more : is_lawful_function m f ≡ true → is_lawful_function x h ≡ true
     lawful_more l =
-        and_from (is_name h.name) (cond (is_defined h) (is_lawful_body x h) (is_lawful_import h)) (ap is_name (sym b.name) ∙ first_of (is_name f.name) (cond (is_defined f) (is_lawful_body m f) (is_lawful_import f)) l)
-        (defined_more (is_defined h) (ap (λ (d : Bool). cond d (is_lawful_body m f) (is_lawful_import f)) (sym (defined_same m f h b)) ∙ second_of (is_name f.name) (cond (is_defined f) (is_lawful_body m f) (is_lawful_import f)) l))
+        and_from (is_name h.name && not (is_block_write h.name)) (cond (is_defined h) (is_lawful_body x h) (is_lawful_import h))
+        (ap (λ (n : List ℕ). is_name n && not (is_block_write n)) (sym b.name) ∙ first_of (is_name f.name && not (is_block_write f.name)) (cond (is_defined f) (is_lawful_body m f) (is_lawful_import f)) l)
+        (defined_more (is_defined h) (ap (λ (d : Bool). cond d (is_lawful_body m f) (is_lawful_import f)) (sym (defined_same m f h b)) ∙ second_of (is_name f.name && not (is_block_write f.name)) (cond (is_defined f) (is_lawful_body m f) (is_lawful_import f)) l))

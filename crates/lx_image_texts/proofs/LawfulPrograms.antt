@@ -32,7 +32,7 @@ use Rattle.lx_ir.specs.Lawful.{is_name, is_label, is_distinct, is_block_write, i
 use Rattle.lx_ir.specs.Operands.{operands_of, labels_of, is_image_line, register_count}
 use Rattle.lx_ir.specs.Text.{symbol_name, name_at}
 use Rattle.lx_annot.specs.declared.interface.Interface.{Interface}
-use Rattle.lx_image_texts.specs.Marks.{is_wrapped, is_alias, callee_if, callee_for, image_callee, image_op}
+use Rattle.lx_image_texts.specs.Marks.{image_callee, image_op}
 use Rattle.lx_image_texts.specs.Guards.{unlined_global, Guards}
 use Rattle.lx_image_texts.specs.Programs.{constant_within, value_within, callee_within, call_within, op_within, init_within, inits_within}
 use Rattle.lx_image_texts.proofs.Erasing.{all_first, all_second}
@@ -156,13 +156,8 @@ defined_by m _ _ (body bs cs h) = refl
 pub defined_same : (m : Module) (f g : Function) → BesideFunction m f g → is_defined f ≡ is_defined g
 defined_same m f g h = defined_by m f.blocks g.blocks h.body
 
-import_by : (x : Module) (g : Function) (d : Bool) → is_defined g ≡ d → d ≡ false → cond d (is_lawful_body x g) (is_lawful_import g) ≡ true → is_lawful_import g ≡ true
-import_by x g true e n l = false_true (sym n)
-import_by x g false e n l = l
-
-pub import_name : (x : Module) (g : Function) → is_defined g ≡ false → is_lawful_function x g ≡ true → not (is_block_write g.name) ≡ true
-import_name x g n l =
-    second_of _ (not (is_block_write g.name)) (import_by x g (is_defined g) refl n (second_of (is_name g.name) _ l))
+pub plain_name : (x : Module) (g : Function) → is_lawful_function x g ≡ true → not (is_block_write g.name) ≡ true
+plain_name x g l = second_of (is_name g.name) (not (is_block_write g.name)) (first_of (is_name g.name && not (is_block_write g.name)) _ l)
 
 -- what a body has beside its blocks and numbers
 
@@ -182,38 +177,24 @@ head_same m f h b =
 -- so an import has
 
 pub import_same : (m : Module) (f h : Function) → BesideFunction m f h → is_lawful_import f ≡ is_lawful_import h
-import_same m f h b = λ t. list_all (λ (p : Parameter). nat_eq (length p.name) 0) (b.params t) && nat_eq (length (b.locals t)) 0 && not (is_block_write (b.name t))
+import_same m f h b = λ t. list_all (λ (p : Parameter). nat_eq (length p.name) 0) (b.params t) && nat_eq (length (b.locals t)) 0
 
 pub all_get : (p : Function → Bool) (fs : List Function) (k : ℕ) (f : Function) → list_all p fs ≡ true → slice_get fs k ≡ Some f → p f ≡ true
 all_get p [] k f a e = none_some e
 all_get p (g ∷ fs) zero f a e = ap p (sym (some_same e)) ∙ first_of (p g) (list_all p fs) a
 all_get p (g ∷ fs) (suc k) f a e = all_get p fs k f (second_of (p g) (list_all p fs) a) e
 
-undefined : (d a : Bool) → (not d && not a) ≡ true → d ≡ false
-undefined true a e = false_true e
-undefined false a e = refl
-
 module _ (i : Interface) (m x : Module) (g : Guards i m x) (law : list_all (is_lawful_function x) x.functions ≡ true) where
   -- what is called
 
-  named_left : (k : ℕ) (f : Function) → nat_lt k (length m.functions) ≡ true → slice_get m.functions k ≡ Some f → not (is_block_write f.name) ≡ true → is_lawful_callee m (callee.Symbol (symbol.Function k)) ≡ true
-  named_left k f w e b =
+  named_left : (k : ℕ) (f : Function) → nat_lt k (length m.functions) ≡ true → slice_get m.functions k ≡ Some f → is_lawful_callee m (callee.Symbol (symbol.Function k)) ≡ true
+  named_left k f w e =
       let name : symbol_name m (symbol.Function k) ≡ f.name = named m.functions k f e in
+      let h = there i m x g k f e in
+      let plain : not (is_block_write f.name) ≡ true = ap (λ (n : List ℕ). not (is_block_write n)) h.beside.name ∙ plain_name x h.it (all_get (is_lawful_function x) x.functions k h.it law h.at) in
       and_from (is_lawful_symbol m (symbol.Function k) && not (is_block_write (symbol_name m (symbol.Function k)))) (not (is_image_name (symbol_name m (symbol.Function k))))
-      (and_from (is_lawful_symbol m (symbol.Function k)) (not (is_block_write (symbol_name m (symbol.Function k)))) w (ap (λ (n : List ℕ). not (is_block_write n)) name ∙ b))
+      (and_from (is_lawful_symbol m (symbol.Function k)) (not (is_block_write (symbol_name m (symbol.Function k)))) w (ap (λ (n : List ℕ). not (is_block_write n)) name ∙ plain))
       (ap (λ (n : List ℕ). not (is_image_name n)) name ∙ ap not (no_image_name f.name (program_name m i x g k f e)))
-
-  function_left : (k : ℕ) (f : Function) (b : Bool) → nat_lt k (length m.functions) ≡ true → slice_get m.functions k ≡ Some f → is_wrapped f ≡ b → is_lawful_callee x (callee_if b m k) ≡ true → is_lawful_callee m (callee.Symbol (symbol.Function k)) ≡ true
-  function_left k f true w e t l =
-      let h = there i m x g k f e in
-      let none : is_defined h.it ≡ false = sym (defined_same m f h.it h.beside) ∙ undefined (is_defined f) (is_alias f) t in
-      named_left k f w e (ap (λ (n : List ℕ). not (is_block_write n)) h.beside.name ∙ import_name x h.it none (all_get (is_lawful_function x) x.functions k h.it law h.at))
-  function_left k f false w e t l =
-      let h = there i m x g k f e in
-      let name : symbol_name x (symbol.Function k) ≡ f.name = named x.functions k h.it h.at ∙ sym h.beside.name in
-      named_left k f w e
-      (ap (λ (n : List ℕ). not (is_block_write n)) (sym name)
-      ∙ second_of (is_lawful_symbol x (symbol.Function k)) (not (is_block_write (symbol_name x (symbol.Function k)))) (first_of (is_lawful_symbol x (symbol.Function k) && not (is_block_write (symbol_name x (symbol.Function k)))) (not (is_image_name (symbol_name x (symbol.Function k)))) l))
 
   callee_left : (c : Callee) → callee_within m c ≡ true → is_lawful_callee x (image_callee m c) ≡ true → is_lawful_callee m c ≡ true
   callee_left (callee.Register r) w l = refl
@@ -223,7 +204,7 @@ module _ (i : Interface) (m x : Module) (g : Guards i m x) (law : list_all (is_l
       (λ t. nat_lt k (many t) && not (is_block_write (name_at (names t) k)) && not (is_image_name (name_at (names t) k))) ∙ l
   callee_left (callee.Symbol (symbol.Function k)) w l =
       let f = there_is m.functions k (true_less k (length m.functions) w) in
-      function_left k f.0 (is_wrapped f.0) w f.1 refl (ap (λ (o : Option Function). is_lawful_callee x (callee_for m k o)) (sym f.1) ∙ l)
+      named_left k f.0 w f.1
 
   -- instructions
 
@@ -298,6 +279,6 @@ module _ (i : Interface) (m x : Module) (g : Guards i m x) (law : list_all (is_l
 
     pub lawful_left : list_all within_instr (instrs_of f) ≡ true → is_lawful_function x h ≡ true → is_lawful_function m f ≡ true
     lawful_left w l =
-        and_from (is_name f.name) (cond (is_defined f) (is_lawful_body m f) (is_lawful_import f))
-        (ap is_name b.name ∙ first_of (is_name h.name) (cond (is_defined h) (is_lawful_body x h) (is_lawful_import h)) l)
-        (defined_left (is_defined f) w (ap (λ (d : Bool). cond d (is_lawful_body x h) (is_lawful_import h)) (defined_same m f h b) ∙ second_of (is_name h.name) (cond (is_defined h) (is_lawful_body x h) (is_lawful_import h)) l))
+        and_from (is_name f.name && not (is_block_write f.name)) (cond (is_defined f) (is_lawful_body m f) (is_lawful_import f))
+        (ap (λ (n : List ℕ). is_name n && not (is_block_write n)) b.name ∙ first_of (is_name h.name && not (is_block_write h.name)) (cond (is_defined h) (is_lawful_body x h) (is_lawful_import h)) l)
+        (defined_left (is_defined f) w (ap (λ (d : Bool). cond d (is_lawful_body x h) (is_lawful_import h)) (defined_same m f h b) ∙ second_of (is_name h.name && not (is_block_write h.name)) (cond (is_defined h) (is_lawful_body x h) (is_lawful_import h)) l))

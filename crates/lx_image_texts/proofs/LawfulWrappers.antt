@@ -1,5 +1,5 @@
 -- A wrapper of an image is lawful, if its registers are few enough and what it calls may be called.
-use Rattle.std.proofs.Common.{◌≡◌, ℕ, ◌+◌, ◌^◌, ◌<◌, Bool, true, false, ◌&&◌, ◌||◌, List, [], ◌∷◌, ◌++◌, length, Option, Some, None, inl, refl, sym, ◌∙◌, ap, arith, append-nil, is_none, is_some}
+use Rattle.std.proofs.Common.{◌≡◌, ℕ, ◌+◌, ◌^◌, ◌<◌, Bool, true, false, not, ◌&&◌, ◌||◌, List, [], ◌∷◌, ◌++◌, length, Option, Some, None, inl, refl, sym, ◌∙◌, ap, arith, append-nil, is_none, is_some}
 use Rattle.std.specs.Prelude.{filter_map, flat_map, nat_eq, nat_lt}
 use Rattle.std.specs.List.{list_all, cons_option}
 use Rattle.std.proofs.lemmas.Bool.{and_from}
@@ -13,7 +13,7 @@ use Rattle.lx_ir.specs.declared.instr.Callee.TheVariants as callee
 use Rattle.lx_ir.specs.declared.instr.Instr.{Instr}
 use Rattle.lx_ir.specs.declared.instr.Op.{Op}
 use Rattle.lx_ir.specs.Lookup.{blocks_of, instrs_of}
-use Rattle.lx_ir.specs.Lawful.{stands_in_name, is_name, is_distinct, is_lawful_symbol, is_lawful_value, is_lawful_callee, has_form, is_lawful_op, ends_once, is_lawful_block, counts_from, registers_in, numbers_read, read_numbers, first_come, numbers_registers, parameter_names, is_lawful_body, is_lawful_function}
+use Rattle.lx_ir.specs.Lawful.{stands_in_name, is_name, is_block_write, is_distinct, is_lawful_symbol, is_lawful_value, is_lawful_callee, has_form, is_lawful_op, ends_once, is_lawful_block, counts_from, registers_in, numbers_read, read_numbers, first_come, numbers_registers, parameter_names, is_lawful_body, is_lawful_function}
 use Rattle.lx_ir.specs.Operands.{operands_where, returned_operands, is_terminator, given_by, register_count, given_numbers}
 use Rattle.lx_annot.specs.declared.action.Annotation.{Annotation}
 use Rattle.lx_image_texts.specs.WrapperText.{Side, In, Out, wrapper_name, wrapper_args, result_register, result_names, returned, wrapper_code}
@@ -35,6 +35,10 @@ stand (b ∷ name) e = e
 wrapper_named : (side : Side) (name : List ℕ) → is_name name ≡ true → is_name (wrapper_name side name) ≡ true
 wrapper_named In name e = stand name e
 wrapper_named Out name e = stand name e
+
+wrapper_plain : (side : Side) (name : List ℕ) → not (is_block_write (wrapper_name side name)) ≡ true
+wrapper_plain In name = refl
+wrapper_plain Out name = refl
 
 -- the result
 
@@ -149,7 +153,7 @@ module _ (x : Module) (f : Function) (n : ℕ) (a : Annotation) (side : Side) (j
         let params : length it.params ≡ length f.params = many in
         let most : 0 + length f.params < 2 ^ 128 = (let small : length f.params < 4294967295 = omega (arith, less, params) in omega (arith, small)) in
         let names : List (List ℕ) = parameter_names it ++ it.locals in
-        and_from (is_name it.name) (is_lawful_body x it) (wrapper_named side f.name name)
+        and_from (is_name it.name && not (is_block_write it.name)) (is_lawful_body x it) (and_from (is_name it.name) (not (is_block_write it.name)) (wrapper_named side f.name name) (wrapper_plain side f.name))
         (and_from (head_of it && list_all (is_lawful_block x it) (blocks_of it)) (numbers_registers it)
         (and_from (head_of it) (list_all (is_lawful_block x it) (blocks_of it))
         (and_from (list_all is_name names && is_distinct names && nat_lt (register_count it) 4294967295 && true) true

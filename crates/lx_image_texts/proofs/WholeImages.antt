@@ -33,7 +33,7 @@ use Rattle.lx_image_texts.proofs.Paired.{BesideFunctions, no_functions, function
 use Rattle.lx_image_texts.proofs.Programs.{all_of_each, Faultless, faultless_each, behind_globals, before_functions, either}
 use Rattle.lx_image_texts.proofs.Unassigned.{each_map}
 use Rattle.lx_image_texts.proofs.WrapperCode.{from_text}
-use Rattle.lx_image_texts.proofs.Wrappers.{IsWrapper, Any, each_wrapper, HasText, each_text, wrappers_faultless, wrappers_lawful}
+use Rattle.lx_image_texts.proofs.Wrappers.{IsWrapper, each_wrapper, HasText, each_text, wrappers_faultless, wrappers_lawful}
 
 -- the functions of the module, and the wrappers behind them
 
@@ -113,7 +113,7 @@ first_joined (f ∷ fs) ws w l =
     (either (is_defined f) (is_defined f) (list_all is_defined fs) (list_all is_defined (fs ++ ws)) refl (all_behind fs ws w) (first_of (not (is_defined f) || list_all is_defined fs) (imports_first fs) l))
     (first_joined fs ws w (second_of (not (is_defined f) || list_all is_defined fs) (imports_first fs) l))
 
-text_defined : (m : Module) (h : Function) → HasText (IsWrapper Any m) h → is_defined h ≡ true
+text_defined : (m : Module) (h : Function) → HasText (IsWrapper m) h → is_defined h ≡ true
 text_defined m h t =
     let w = t.is in
     let made = from_text w.function w.number w.annotation w.side h (t.text ∙ ap function_text w.is) in
@@ -153,7 +153,7 @@ module _ (i : Interface) (m x : Module) (v : IsVerified m) (room : HasRoom i m) 
   in_order =
       ap imports_first (sym (split_at (length m.functions) x.functions))
       ∙ first_joined front behind
-      (all_of_each is_defined behind (each_map (HasText (IsWrapper Any m)) (λ h. is_defined h ≡ true) (text_defined m) behind (each_text (IsWrapper Any m) behind (wrappers_of i m) g.wrappers (each_wrapper i m))))
+      (all_of_each is_defined behind (each_map (HasText (IsWrapper m)) (λ h. is_defined h ≡ true) (text_defined m) behind (each_text (IsWrapper m) behind (wrappers_of i m) g.wrappers (each_wrapper i m))))
       (first_more m m.functions front (image_functions i m x g) v.lawful.imports_first)
 
   few : length x.functions < 4294967295

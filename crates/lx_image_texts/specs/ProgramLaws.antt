@@ -1,17 +1,14 @@
 -- What is known of programs by their images, and of images by their programs.
-use Rattle.std.specs.Prelude.{◌≡◌, ℕ, ◌+◌, ◌<◌, Bool, true, not, Some, None, length, slice_get, nat_lt}
+use Rattle.std.specs.Prelude.{◌≡◌, ℕ, ◌+◌, ◌<◌, true, Some, None, length, slice_get, nat_lt}
 use Rattle.std.specs.List.{list_all}
-use Rattle.lx_ir.specs.declared.module.Symbol.TheVariants as symbol
 use Rattle.lx_ir.specs.declared.module.Function.{Function}
 use Rattle.lx_ir.specs.declared.module.Module.{Module}
-use Rattle.lx_ir.specs.Lawful.{IsPlain, is_block_write, is_lawful_function}
+use Rattle.lx_ir.specs.Lawful.{IsPlain, is_lawful_function}
 use Rattle.lx_ir.specs.Operands.{register_count}
 use Rattle.lx_ir.specs.Faults.{FunctionFault, FirstFault, first_some}
-use Rattle.lx_ir.specs.Text.{symbol_name}
 use Rattle.lx_ir.specs.Verified.{IsVerified}
 use Rattle.lx_annot.specs.declared.interface.Interface.{Interface}
-use Rattle.lx_slot_types.specs.declared.Marked.{Marked}
-use Rattle.lx_propagate.specs.Slots.{annotated_of, conflict_of}
+use Rattle.lx_propagate.specs.Slots.{conflict_of}
 use Rattle.lx_image_texts.specs.WrapperText.{wrappers_of}
 use Rattle.lx_image_texts.specs.Guards.{Guards}
 use Rattle.lx_image_texts.specs.ImageFaults.{ImageFault, fault_in_function, first_image_fault}
@@ -25,16 +22,11 @@ pub record IsWell (m : Module) (f : Function) : Type 0 where
   pub lawful : is_lawful_function m f ≡ true
   pub no_fault : FunctionFault m f None
 
--- a text can say a call of the function: that of the name of a block write would be a block write
-abbrev pub can_be_called : Module → Marked → Bool
-can_be_called m k = not (is_block_write (symbol_name m (symbol.Function k.function)))
-
--- a module that has room for its wrappers, and whose annotated functions they can call
+-- a module that has room for its wrappers
 pub record HasRoom (i : Interface) (m : Module) : Type 0 where
   -- a `u32` numbers the functions of the image, and the registers of each wrapper
   pub few_functions : length m.functions + length (wrappers_of i m) < 4294967295
   pub few_registers : list_all (λ w. nat_lt (register_count w) 4294967295) (wrappers_of i m) ≡ true
-  pub callable : list_all (can_be_called m) (annotated_of i m) ≡ true
 
 pub record ImageProgramLaws : Type 0 where
   -- in a text without a fault no store, block write or call by a register stands without its guard or check, but spared stores
