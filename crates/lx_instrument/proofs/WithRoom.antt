@@ -1,4 +1,4 @@
--- An image with room is one that a text can say.
+-- The functions of an image with room are few enough for their numbers.
 use Rattle.std.proofs.Common.{◌≡◌, ◌+◌, Bool, true, ◌&&◌, List, length, take, drop, ap, sym, ◌∙◌, arith, length-append}
 use Rattle.std.specs.Prelude.{nat_lt}
 use Rattle.std.specs.List.{list_all}
@@ -10,12 +10,10 @@ use Rattle.lx_words.proofs.Lists.{split_at}
 use Rattle.lx_ir.specs.declared.module.Function.{Function}
 use Rattle.lx_ir.specs.declared.module.Module.{Module}
 use Rattle.lx_annot.specs.declared.interface.Interface.{Interface}
-use Rattle.lx_slot_types.specs.declared.Marked.{Marked}
-use Rattle.lx_propagate.specs.Slots.{annotated_of}
 use Rattle.lx_image_texts.specs.Guards.{FunctionText, function_text}
 use Rattle.lx_image_texts.specs.Instrumented.{Leaves, image_function_text, GuardsBut}
 use Rattle.lx_image_texts.specs.WrapperText.{wrappers_of}
-use Rattle.lx_image_texts.specs.ProgramLaws.{can_be_called, HasRoom}
+use Rattle.lx_image_texts.specs.ProgramLaws.{HasRoom}
 use Rattle.lx_instrument.specs.Room.{has_few_registers, has_room}
 
 abbrev few_in : FunctionText → Bool
@@ -44,12 +42,7 @@ module _ (leaves : Leaves) (i : Interface) (m x : Module) (g : GuardsBut leaves 
       sym (list_all-map few_in function_text (wrappers_of i m)) ∙ sym (ap (list_all few_in) g.wrappers) ∙ list_all-map few_in function_text behind
       ∙ (and_parts (list_all has_few_registers own) (list_all has_few_registers behind) both).1
 
-  pub room : (annotated : List Marked) → annotated ≡ annotated_of i m → has_room m annotated x.functions ≡ true → HasRoom i m
-  room annotated is passes =
-      let first = and_parts (nat_lt (length x.functions) 4294967295 && list_all has_few_registers x.functions) (list_all (can_be_called m) annotated) passes in
-      let second = and_parts (nat_lt (length x.functions) 4294967295) (list_all has_few_registers x.functions) first.0 in
-      record {
-        few_functions = grind (arith, nat_tests, as_many, second.0);
-        few_registers = few_registers second.1;
-        callable = sym (ap (list_all (can_be_called m)) is) ∙ first.1;
-      }
+  pub room : has_room x.functions ≡ true → HasRoom i m
+  room passes =
+      let both = and_parts (nat_lt (length x.functions) 4294967295) (list_all has_few_registers x.functions) passes in
+      record { few_functions = grind (arith, nat_tests, as_many, both.0); few_registers = few_registers both.1 }

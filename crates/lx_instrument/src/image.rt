@@ -210,12 +210,12 @@ fn spared_image(
 }
 
 /// The image of a module, which is verified if there is room for its wrappers.
-fn verified_image(m: &Module, annotated: &Annotated, image: Module) -> Result<Verified, Memory>
-    requires { IsTrue (has_room m.now annotated.now image.functions) → IsVerified image }
+fn verified_image(image: Module) -> Result<Verified, Memory>
+    requires { IsTrue (has_room image.functions) → IsVerified image }
     ensures same { IfOk result (λ verified. verified ≡ image) }
     ensures verified { IfOk result IsVerified }
 {
-    if has_room(m, annotated, image.functions.as_slice()) {
+    if has_room(image.functions.as_slice()) {
         Ok(Verified::proved(image))
     } else {
         drop(image);
@@ -242,7 +242,7 @@ pub fn instrument_module_full(
 {
     image_program_laws();
     let image = full_image(alloc, i, m, annotated)?;
-    let verified = verified_image(m, annotated, image)?;
+    let verified = verified_image(image)?;
     Ok(verified)
 }
 
@@ -250,8 +250,7 @@ pub fn instrument_module_full(
 /// handing on slot types in the module gives, which found no conflict.
 ///
 /// # Errors
-/// Want of memory. An image that no text can say is that too: one with more functions, or more registers in a wrapper, than numbers
-/// of 32 bits count, and one whose wrapper would call a function of the name of a block write, which LLVM lets no text define.
+/// Want of memory. An image with more functions, or more registers in a wrapper, than numbers of 32 bits count is that too.
 pub fn instrument_full(
     alloc: Global,
     i: &Interface,
@@ -287,7 +286,7 @@ pub fn instrument_module(
 {
     image_program_laws();
     let image = spared_image(alloc, i, m, annotated)?;
-    let verified = verified_image(m, annotated, image)?;
+    let verified = verified_image(image)?;
     Ok(verified)
 }
 

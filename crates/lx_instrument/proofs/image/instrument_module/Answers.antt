@@ -6,5 +6,5 @@ use Rattle.lx_instrument.proofs.image.instrument_module.Goals as goal
 pub verified_image-requires : goal.verified_image-requires
 verified_image-requires c = λ passes.
     c.image_program_laws.ensures.spared c.args.i.now c.args.m.now c.in_ok-image.image c.requires.verified c.requires.plain c.requires.agrees
-    (room (leaves_spared c.args.m.now) c.args.i.now c.args.m.now c.in_ok-image.image c.in_ok-image.ensures c.args.annotated.now c.requires.annotated passes)
+    (room (leaves_spared c.args.m.now) c.args.i.now c.args.m.now c.in_ok-image.image c.in_ok-image.ensures passes)
     c.in_ok-image.ensures
