@@ -11,8 +11,7 @@ use Rattle.lx_ir.specs.declared.instr.Callee.TheVariants as callee
 use Rattle.lx_ir.specs.declared.instr.Op.TheVariants as op
 use Rattle.lx_ir.specs.IrType.{One, Named, Struct, none, also}
 use Rattle.lx_ir.specs.Init.{Plain, Group, no_more, more}
-use Rattle.lx_ir.specs.Lawful.{IsPlain}
-use Rattle.lx_ir.specs.Verified.{IsVerified}
+use Rattle.lx_ir.specs.Lawful.{IsLawful}
 use Rattle.lx_annot.specs.Action.{Copy, Check}
 use Rattle.lx_annot.specs.Expr.{Param}
 use Rattle.lx_annot.specs.declared.action.CapSpec.TheVariants as spec
@@ -23,7 +22,6 @@ use Rattle.lx_image_texts.specs.ImageFaults.{WrapperDiffers, BodyReached, ImageF
 use Rattle.lx_image_texts.specs.Guards.{function_text, Guards}
 use Rattle.lx_image_texts.specs.Instrumented.{leaves_spared, GuardsBut}
 use Rattle.lx_image_texts.specs.Erased.{erased_functions}
-use Rattle.lx_image_texts.specs.ProgramLaws.{HasRoom}
 use Rattle.lx_worked_programs.specs.Texts.{at}
 use Rattle.lx_worked_programs.specs.ImageFaults.{fault}
 
@@ -126,8 +124,8 @@ device_image = device_with 1 2 device_wrappers
 abbrev pub first : Module → Option ImageFault
 first x = first_image_fault device_interface x
 
--- `@ops = global %struct.dev_ops { ptr @llvm.memset.p0.i64 }`, and a function of that name, which the module defines. Its wrapper cannot
--- call it: a text that calls the name says a block write
+-- `@ops = global %struct.dev_ops { ptr @llvm.memset.p0.i64 }`, and a function of that name, which the module defines. No text does that,
+-- and a wrapper could not call it: a text that calls the name says a block write
 abbrev pub memset_module : Module
 memset_module =
     record {
@@ -167,7 +165,5 @@ pub record WorkedWrappers : Type 0 where
   pub missing : first (device_with 1 2 (put_wrapper (codes "0") ∷ [])) ≡ fault WrapperDiffers 1 (codes "lxfi.in.probe") 0
   pub other_head : first (device_with 1 2 (put_wrapper (codes "p") ∷ probe_wrapper ∷ [])) ≡ fault WrapperDiffers 9 (codes "lxfi.out.put") 0
   pub swapped : first (device_with 1 3 (probe_wrapper ∷ put_wrapper (codes "0") ∷ [])) ≡ fault WrapperDiffers 17 (codes "lxfi.in.probe") 0
-  -- a module that can be read, and that verifies, and of which no image can be read
-  pub memset_verified : IsVerified memset_module
-  pub memset_plain : IsPlain memset_module
-  pub memset_room : HasRoom device_interface memset_module → ⊥
+  -- it is no lawful module
+  pub memset : IsLawful memset_module → ⊥

@@ -1,14 +1,9 @@
 -- The image is taken apart, and each row is computed.
-use Rattle.std.proofs.Common.{◌≡◌, true, false, inl, inr, refl, arith}
-use Rattle.lx_ir.specs.Lawful.{IsLawful}
-use Rattle.lx_worked_programs.specs.Wrappers.{memset_module}
+use Rattle.std.proofs.Common.{◌≡◌, true, false, inl, refl}
 use Rattle.lx_worked_programs.proofs.images.worked_wrappers.Goals as goal
 
 false_true : {A : Type 0} → false ≡ true → A
 false_true e = cc
-
-lawful : IsLawful memset_module
-lawful = record { types_once = refl; symbols_once = refl; types = refl; globals = refl; functions = refl; imports_first = refl; few_types = omega arith; few_globals = omega arith; few_functions = omega arith }
 
 pub returns : goal.returns
 returns c = record {
@@ -21,7 +16,5 @@ returns c = record {
   missing = refl;
   other_head = refl;
   swapped = refl;
-  memset_verified = record { lawful = lawful; no_fault = inr (refl, refl) };
-  memset_plain = record { lines = refl; names = refl };
-  memset_room = λ r. false_true r.callable;
+  memset = λ l. false_true l.functions;
 }
