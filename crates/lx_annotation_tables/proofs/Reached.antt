@@ -88,7 +88,7 @@ then_is false x y h e = absurd (cc)
 
 sized_function : (m : Module) (f : Function) → is_lawful_function m f ≡ true → is_sized_function m.types f ≡ true
 sized_function m f h =
-    let a = and_parts (is_name f.name) (if is_defined f then is_lawful_body m f else is_lawful_import f) h in
+    let a = and_parts _ (if is_defined f then is_lawful_body m f else is_lawful_import f) h in
     sized_blocks m f f.blocks (λ e. body_lawful m f (then_is (is_defined f) (is_lawful_body m f) (is_lawful_import f) a.1 e))
 
 pub sized_module : AreSized
