@@ -145,6 +145,16 @@ m.ll:2: ir 3 getelementptr
 status 3
 m.ll:2: ir 3 @lxfi.a
 ---- file m.ll
+@g = global i32 1
+define void @llvm.memset.p0.i64(ptr %p, i8 %b, i64 %n, i1 %v) {
+ret void
+}
+---- words run x.case
+---- m.ll:2: ir 3 @llvm.memset.p0.i64
+---- whole
+status 3
+m.ll:2: ir 3 @llvm.memset.p0.i64
+---- file m.ll
 @"g" = global i32 1
 @g = global i32 2
 ---- words run x.case

@@ -195,7 +195,7 @@ static STATEMENTS: [Faulty; 20] = [
     ),
 ];
 
-static PROFILE: [Faulty; 28] = [
+static PROFILE: [Faulty; 30] = [
     Faulty("@g = global float 1", 3, 1, "float"),
     Faulty("@g = global i32 5000000000", 3, 1, "5000000000"),
     Faulty("@g = global i32 -2147483649", 3, 1, "-2147483649"),
@@ -264,6 +264,18 @@ static PROFILE: [Faulty; 28] = [
     Faulty("@\"lxfi.a\" = global i32 1", 3, 1, "@\"lxfi.a\""),
     Faulty("@lxfi.x", 3, 1, "@lxfi.x"),
     Faulty(
+        "@g = global i32 1\ndefine void @llvm.memset.p0.i64(ptr %p, i8 %b, i64 %n, i1 %v) {\nret void\n}",
+        3,
+        2,
+        "@llvm.memset.p0.i64",
+    ),
+    Faulty(
+        "%t = type {}\ndefine i32\n@llvm.memcpy.p0.p0.i32(i7) {\nret void\n}",
+        3,
+        3,
+        "@llvm.memcpy.p0.p0.i32",
+    ),
+    Faulty(
         "define void @f() {\n%r = alloca\n[2 x [4294967296 x i8]]\nret void\n}",
         3,
         3,
@@ -271,7 +283,7 @@ static PROFILE: [Faulty; 28] = [
     ),
 ];
 
-static NAMES: [Faulty; 21] = [
+static NAMES: [Faulty; 22] = [
     Faulty("%t = type {}\n%t = type {}", 4, 2, "%t"),
     Faulty(
         "@g = global i32 1\ndefine void @g(i7) {\nret void\n}",
@@ -280,6 +292,12 @@ static NAMES: [Faulty; 21] = [
         "@g",
     ),
     Faulty("declare void @f()\ndeclare void @f()", 4, 2, "@f"),
+    Faulty(
+        "@llvm.memmove.p0.p0.i64 = global i8 1\ndefine void @llvm.memmove.p0.p0.i64() {\nret void\n}",
+        4,
+        2,
+        "@llvm.memmove.p0.p0.i64",
+    ),
     Faulty("define void @f(i32 %a, i32 %a) {\nret void\n}", 4, 1, "%a"),
     Faulty(
         "define void @f(i32 %a) {\n%a = add i32 1, 2\nret void\n}",

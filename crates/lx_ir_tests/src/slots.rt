@@ -1,4 +1,4 @@
-//! Modules that have an image or none by the names of their functions with slot types.
+//! The images of a module whose function has a slot type.
 
 use crate::instrument::{Version, printed};
 use lx_annot::action::{Actions, Annotation};
@@ -82,20 +82,5 @@ define void @f() {
 ",
     )?;
     assert!(rt; there);
-    Ok(())
-}
-
-#[test]
-fn no_wrapper_calls_a_function_of_the_name_of_a_block_write(rt: HostRuntime) -> Result<(), Fail> {
-    let there = has_images(
-        rt.alloc(),
-        "%ops = type { ptr }
-@o = global %ops { ptr @llvm.memset.p0.i64 }
-define void @llvm.memset.p0.i64() {
-  ret void
-}
-",
-    )?;
-    assert!(rt; !there);
     Ok(())
 }

@@ -386,7 +386,7 @@ static DECLARED: [Faulty; 41] = [
         FaultKind::Twice,
     ),
     Faulty(
-        "define void @llvm.memset.p0.i32() {} declare i8 @llvm.memset.p0.i32() ",
+        "@llvm.memset.p0.i32 = global i8 0 declare i8 @llvm.memset.p0.i32() ",
         "foo",
         FaultKind::OutOfProfile,
     ),
@@ -397,7 +397,17 @@ static DECLARED: [Faulty; 41] = [
     ),
 ];
 
-static DEFINED: [Faulty; 33] = [
+static DEFINED: [Faulty; 35] = [
+    Faulty(
+        "define void ",
+        "@llvm.memset.p0.i64(foo",
+        FaultKind::OutOfProfile,
+    ),
+    Faulty(
+        "@llvm.memset.p0.i64 = global i8 0 define void ",
+        "@llvm.memset.p0.i64(foo",
+        FaultKind::Twice,
+    ),
     Faulty(
         "define ccc dso_local noundef ",
         "float @f()",
