@@ -44,6 +44,7 @@ use Rattle.lx_ir_complete.specs.Same.{SameModules}
 use Rattle.lx_ir_complete.specs.FirstLaws.{Defines}
 use Rattle.lx_ir_complete.proofs.RoundTripFirsts.{firsts}
 use Rattle.lx_ir_complete.proofs.Counted.{counted}
+use Rattle.lx_ir_complete.proofs.Sayings.{function_parts}
 use Rattle.lx_ir_complete.proofs.Finding.{Named, joined, types_named, globals_named, functions_named, plain_functions}
 use Rattle.lx_ir_complete.proofs.TypesAgain.{IsNoType, all_types}
 use Rattle.lx_ir_complete.proofs.Drafted.{own_of}
@@ -63,8 +64,8 @@ pub record Below : Type 0 where
 -- the names of a function's registers stand once
 registers_once : (m : Module) (g : Function) → is_lawful_function m g ≡ true → is_defined g ≡ true → is_distinct (register_names g) ≡ true
 registers_once m g h e =
-    let lawful = and_parts (is_name g.name) (if is_defined g then is_lawful_body m g else is_lawful_import g) h in
-    let body : is_lawful_body m g ≡ true = ap (λ b. if b then is_lawful_body m g else is_lawful_import g) (sym e) ∙ lawful.1 in
+    let lawful = function_parts m g h in
+    let body : is_lawful_body m g ≡ true = ap (λ b. if b then is_lawful_body m g else is_lawful_import g) (sym e) ∙ lawful.2 in
     let h7 = and_parts _ (numbers_registers g) body in
     let h6 = and_parts _ (list_all (is_lawful_block m g) (blocks_of g)) h7.0 in
     let h5 = and_parts _ (is_distinct (map (λ b. b.name) (blocks_of g))) h6.0 in

@@ -152,9 +152,9 @@ module _ (names : List (List ℕ)) (once : AreOnce names) where
     abbrev Of : Function → Own → Type 0
     Of f s = OfFunction (own f) f s
 
-    -- a function's context has these names, and no import is that of a block write
+    -- a function's context has these names, and its own is no block write's
     abbrev pub IsPlainFunction : Function → Type 0
-    IsPlainFunction f = ((own f).names ≡ names) × (is_defined f ≡ false → is_written f.name ≡ false)
+    IsPlainFunction f = ((own f).names ≡ names) × (is_written f.name ≡ false)
 
     no_blocks : (f : Function) (bs : List Block) → is_defined f ≡ false → f.blocks ≡ Some bs → ⊥
     no_blocks f bs e some = true≢false (sym (ap is_some some) ∙ e)
@@ -164,7 +164,7 @@ module _ (names : List (List ℕ)) (once : AreOnce names) where
 
     import_counts : (f : Function) (s : Own) → is_defined f ≡ false → IsPlainFunction f → Of f s → (m : Numbering) → an_import m s ≡ with_thing m (number_of names f.name)
     import_counts f s import plain (n, at, inl (none, e)) m =
-        let unwritten : is_block_write (own f) n ≡ false = ap (λ b. is_some (block_write_named b)) (said_bytes (own f) n f.name at) ∙ ap is_some (not_block f.name (plain.1 import)) in
+        let unwritten : is_block_write (own f) n ≡ false = ap (λ b. is_some (block_write_named b)) (said_bytes (own f) n f.name at) ∙ ap is_some (not_block f.name plain.1) in
         ap (an_import m) e ∙ ap (λ b. if b then m else with_thing m (Some n)) unwritten ∙ ap (with_thing m) (number_is (own f) n f.name plain.0 at)
     import_counts f s import plain (n, at, inr (bs, ds, some, same, e)) m = absurd (no_blocks f bs import some)
 

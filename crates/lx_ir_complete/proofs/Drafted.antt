@@ -16,7 +16,7 @@ use Rattle.lx_ir.specs.declared.module.Module.{Module}
 use Rattle.lx_ir.specs.Lookup.{is_defined, blocks_of}
 use Rattle.lx_ir.specs.Operands.{register_count}
 use Rattle.lx_ir.specs.Text.{register_names}
-use Rattle.lx_ir.specs.Lawful.{is_name, is_distinct, parameter_names, is_lawful_block, numbers_registers, is_block_write as is_written, is_lawful_body, is_lawful_import, is_lawful_function, imports_first}
+use Rattle.lx_ir.specs.Lawful.{is_name, is_distinct, parameter_names, is_lawful_block, numbers_registers, is_lawful_body, is_lawful_import, is_lawful_function, imports_first}
 use Rattle.lx_ir_terms.specs.Context.{Context, bytes_of, nothing}
 use Rattle.lx_ir_calls.specs.Writes.{block_write_named}
 use Rattle.lx_ir_statements.specs.declared.form.Statement.{Statement}
@@ -37,6 +37,7 @@ use Rattle.lx_ir_complete.specs.KnownTables.{AreOnce, named_things}
 use Rattle.lx_ir_complete.specs.KnownLaws.{unknown, RegistersAreNumbered}
 use Rattle.lx_ir_complete.specs.Same.{SameGlobals, SameBodies, SameFunctions}
 use Rattle.lx_ir_complete.proofs.KeptNames.{locals_told}
+use Rattle.lx_ir_complete.proofs.Sayings.{function_parts}
 use Rattle.lx_ir_complete.proofs.Again.{registers_at, IsAgain, next, adds}
 
 -- Lists beside lists.
@@ -112,10 +113,6 @@ module _ (places : List Token) (full : Context) where
   abbrev pub bodies_of : List Function → List Function
   bodies_of gs = filter is_defined gs
 
-  not_true : (v : Bool) → not v ≡ true → v ≡ false
-  not_true true e = cc e
-  not_true false e = refl
-
   no_length : {A : Type 0} (xs : List A) → nat_eq (length xs) 0 ≡ true → xs ≡ []
   no_length [] e = refl
   no_length (x ∷ xs) e = let none : length (x ∷ xs) ≡ 0 = eqb-true (length (x ∷ xs)) 0 e in absurd (omega (arith, none))
@@ -169,12 +166,11 @@ module _ (places : List Token) (full : Context) where
         → Functioned (done ++ g ∷ []) (next places full d (record { context = own_of g; statement = statements.Import n g.ret (map (λ p. p.ty) g.params) }) f)
     import_kept done g f d n h none at kept =
         let undefined : is_defined g ≡ false = ap is_some none in
-        let lawful = and_parts (is_name g.name) (if is_defined g then is_lawful_body m g else is_lawful_import g) h in
-        let import : is_lawful_import g ≡ true = ap (λ b. if b then is_lawful_body m g else is_lawful_import g) (sym undefined) ∙ lawful.1 in
-        let three = and_parts _ (not (is_written g.name)) import in
-        let two = and_parts (list_all (λ p. nat_eq (length p.name) 0) g.params) (nat_eq (length g.locals) 0) three.0 in
+        let lawful = function_parts m g h in
+        let import : is_lawful_import g ≡ true = ap (λ b. if b then is_lawful_body m g else is_lawful_import g) (sym undefined) ∙ lawful.2 in
+        let two = and_parts (list_all (λ p. nat_eq (length p.name) 0) g.params) (nat_eq (length g.locals) 0) import in
         let name : bytes_of full n ≡ g.name = said_bytes full n g.name at in
-        let unwritten : is_block_write full n ≡ false = ap (λ b. is_some (block_write_named b)) name ∙ ap is_some (not_block g.name (not_true (is_written g.name) three.1)) in
+        let unwritten : is_block_write full n ≡ false = ap (λ b. is_some (block_write_named b)) name ∙ ap is_some (not_block g.name lawful.1) in
         let e : Draft = with_defined full d (statements.Import n g.ret (map (λ p. p.ty) g.params)) in
         let it : Function = import_of (bytes_of full n) g.ret (map (λ p. p.ty) g.params) (line_shown places f.left) in
         let parts = import_added done g undefined in
@@ -195,8 +191,8 @@ module _ (places : List Token) (full : Context) where
         → (registers_at places full f ≡ named_things full.names (register_names g)) × (local_names full.names (length g.params) (registers_at places full f) ≡ g.locals)
     told_registers g f n bs ds h some same alike =
         let defined : is_defined g ≡ true = ap is_some some in
-        let lawful = and_parts (is_name g.name) (if is_defined g then is_lawful_body m g else is_lawful_import g) h in
-        let body : is_lawful_body m g ≡ true = ap (λ b. if b then is_lawful_body m g else is_lawful_import g) (sym defined) ∙ lawful.1 in
+        let lawful = function_parts m g h in
+        let body : is_lawful_body m g ≡ true = ap (λ b. if b then is_lawful_body m g else is_lawful_import g) (sym defined) ∙ lawful.2 in
         let h7 = and_parts _ (numbers_registers g) body in
         let h6 = and_parts _ (list_all (is_lawful_block m g) (blocks_of g)) h7.0 in
         let h5 = and_parts _ (is_distinct (map (λ b. b.name) (blocks_of g))) h6.0 in

@@ -39,7 +39,7 @@ use Rattle.lx_ir_statements.specs.declared.form.Statement.{Statement}
 use Rattle.lx_ir_statements.specs.declared.form.Statement.TheVariants as statements
 use Rattle.lx_ir_statements.specs.declared.defined.Defined.{Defined}
 use Rattle.lx_ir_statements.specs.Defined.{is_block_write, is_imported_twice}
-use Rattle.lx_ir_statements.specs.Statements.{symbol_name, storage_in, global_align_at, import_name_at, import_behind, new_type_at, type_statement_at, global_at, function_behind, statement_by, statement_at}
+use Rattle.lx_ir_statements.specs.Statements.{symbol_name, storage_in, global_align_at, import_name_at, new_function_name_at, import_behind, new_type_at, type_statement_at, global_at, function_behind, statement_by, statement_at}
 use Rattle.lx_ir_statements.specs.Grammar.{IsSymbol, IsNewType, IsGlobal, is_declare_word, is_define_word, IsImport, IsFunction, IsStatement}
 use Rattle.lx_ir_statements.proofs.HeadWords.{linkage_over}
 use Rattle.lx_ir_statements.proofs.TypeNames.{local_name_is, new_type_again}
@@ -151,26 +151,29 @@ module _ (form : TextForm) (places : List Token) (c : Context) (defined : Define
 
   -- Functions.
 
-  function_again : BodiesAreRead → (name : ℕ) (ret : Option Scalar) (head : Head) (blocks : List Block) (opening back us : List Tok) → has_number defined.symbols name ≡ false → (IsResult ret then IsSymbol name then IsHead c head then Repeated IsAttribute then IsMark OpenBrace) opening → IsBody c form places head.numbered head.registers blocks back us → function_behind c form places defined (opening ++ (back ++ us)) ≡ Ok (statements.Function name ret head.params blocks, us)
-  function_again bodies name ret head blocks opening back us new (f, b1, r, (n, b2, s, (h, b3, hs, (a, b4, attrs, (o, k, g), w4), w3), w2), w1) body =
+  function_name_reads : (name : ℕ) → has_number defined.symbols name ≡ false → is_block_write c name ≡ false → Reads (new_function_name_at c defined) name (IsSymbol name)
+  function_name_reads name new plain ts us (t, e, g) = rw (g, e, new, plain) refl
+
+  function_again : BodiesAreRead → (name : ℕ) (ret : Option Scalar) (head : Head) (blocks : List Block) (opening back us : List Tok) → has_number defined.symbols name ≡ false → is_block_write c name ≡ false → (IsResult ret then IsSymbol name then IsHead c head then Repeated IsAttribute then IsMark OpenBrace) opening → IsBody c form places head.numbered head.registers blocks back us → function_behind c form places defined (opening ++ (back ++ us)) ≡ Ok (statements.Function name ret head.params blocks, us)
+  function_again bodies name ret head blocks opening back us new plain (f, b1, r, (n, b2, s, (h, b3, hs, (a, b4, attrs, (o, k, g), w4), w3), w2), w1) body =
       let rest = back ++ us in
       let e4 : b3 ++ rest ≡ a ++ (o ∷ rest) = rw (w4, g) (append_assoc a (o ∷ []) rest) in
       let e3 : b2 ++ rest ≡ h ++ (a ++ (o ∷ rest)) = rw w3 (append_assoc h b3 rest ∙ ap (λ r. h ++ r) e4) in
       let e2 : b1 ++ rest ≡ n ++ (h ++ (a ++ (o ∷ rest))) = rw w2 (append_assoc n b2 rest ∙ ap (λ r. n ++ r) e3) in
       let whole : opening ++ rest ≡ f ++ (n ++ (h ++ (a ++ (o ∷ rest)))) = rw w1 (append_assoc f b1 rest ∙ ap (λ r. f ++ r) e2) in
       let result = result_reads ret f (n ++ (h ++ (a ++ (o ∷ rest)))) r in
-      let named = new_symbol_reads defined name new n (h ++ (a ++ (o ∷ rest))) s in
+      let named = function_name_reads name new plain n (h ++ (a ++ (o ∷ rest))) s in
       let head' = heads_again c head h (a ++ (o ∷ rest)) hs in
       let over = function_attributes_again tt a (o ∷ rest) (brace_no_word o.kind k) attrs in
       let blocks' = bodies c form places head.numbered head.registers blocks back us body in
       rw (whole, result, named, head', over, k, blocks') refl
 
-  pub function_ends : BodiesAreRead → (name : ℕ) (ret : Option Scalar) (params : List Parameter) (blocks : List Block) (ts us : List Tok) → has_number defined.symbols name ≡ false → IsFunction c form places name ret params blocks ts us → statement_at c form places defined (ts ++ us) ≡ Ok (statements.Function name ret params blocks, us)
-  function_ends bodies name ret params blocks ts us new (head, front, back, (f, b, (t, e, g), r, w), body, same, v) =
+  pub function_ends : BodiesAreRead → (name : ℕ) (ret : Option Scalar) (params : List Parameter) (blocks : List Block) (ts us : List Tok) → has_number defined.symbols name ≡ false → is_block_write c name ≡ false → IsFunction c form places name ret params blocks ts us → statement_at c form places defined (ts ++ us) ≡ Ok (statements.Function name ret params blocks, us)
+  function_ends bodies name ret params blocks ts us new plain (head, front, back, (f, b, (t, e, g), r, w), body, same, v) =
       let whole : ts ++ us ≡ t ∷ (b ++ (back ++ us)) = rw v (append_assoc front back us ∙ rw (w, g) refl) in
       ap (λ r. statement_at c form places defined r) whole
       ∙ by_kind (kinds.Word (keywords.Statement words.Define)) t (b ++ (back ++ us)) (define_is t.kind e)
-      ∙ function_again bodies name ret head blocks b back us new r body
+      ∙ function_again bodies name ret head blocks b back us new plain r body
       ∙ ap (λ ps. Ok (statements.Function name ret ps blocks, us)) same
 
 -- Statements, by a context that knows their names and by one that knows none.
@@ -198,11 +201,11 @@ module _ (bodies : BodiesAreRead) (forget : StatementsAreForgotten) (form : Text
   type_alike name ty t ts us is is' alike = absurd alike
 
   function_alike : (name : ℕ) (ret : Option Scalar) (params : List Parameter) (blocks : List Block) (t : Statement) (ts us : List Tok) → IsStatement c form places defined (statements.Function name ret params blocks) ts us → IsStatement u form places defined t ts us → AlikeStatements c u (statements.Function name ret params blocks) t → ReadsAlike (statements.Function name ret params blocks) ts us
-  function_alike name ret params blocks (statements.Function k r ps bs) ts us (new, is) (new', is') alike = record {
+  function_alike name ret params blocks (statements.Function k r ps bs) ts us (new, plain, is) (new', plain', is') alike = record {
     other = statements.Function k r ps bs;
     last = Ok (tt, us);
-    known = function_ends form places c defined bodies name ret params blocks ts us new is;
-    unknown = function_ends form places u defined bodies k r ps bs ts us new' is';
+    known = function_ends form places c defined bodies name ret params blocks ts us new plain is;
+    unknown = function_ends form places u defined bodies k r ps bs ts us new' plain' is';
     alike = alike;
   }
   function_alike name ret params blocks t ts us is is' alike = absurd alike

@@ -1,15 +1,13 @@
 -- The first reading of the statements of a lawful module.
-use Rattle.std.proofs.Common.{◌≡◌, ◌⊎◌, inl, inr, ℕ, ◌≤◌, true, false, not, ◌&&◌, List, [], ◌∷◌, ◌++◌, length, map, refl, sym, ap, ◌∙◌, subst, arith, true≢false, Option, None}
-use Rattle.std.specs.Prelude.{if◌then◌else◌}
+use Rattle.std.proofs.Common.{◌≡◌, ◌⊎◌, inl, inr, ℕ, ◌≤◌, true, List, [], ◌∷◌, ◌++◌, length, refl, ap, ◌∙◌, arith}
 use Rattle.std.specs.List.{AllZip, AllByRecursion, list_all}
-use Rattle.std.proofs.lemmas.Bool.{and_parts, not-true}
+use Rattle.std.proofs.lemmas.Bool.{and_parts}
 use Rattle.lx_words.specs.declared.token.Token.{Token}
 use Rattle.lx_ir.specs.declared.types.NamedType.{NamedType}
 use Rattle.lx_ir.specs.declared.module.GlobalVar.{GlobalVar}
 use Rattle.lx_ir.specs.declared.module.Function.{Function}
 use Rattle.lx_ir.specs.declared.module.Module.{Module}
-use Rattle.lx_ir.specs.Lookup.{is_defined}
-use Rattle.lx_ir.specs.Lawful.{is_name, is_block_write as is_written, is_lawful_body, is_lawful_import, is_lawful_function, IsLawful}
+use Rattle.lx_ir.specs.Lawful.{is_lawful_function, IsLawful}
 use Rattle.lx_ir_tokens.specs.declared.token.Tok.{Tok}
 use Rattle.lx_ir_terms.specs.Context.{Context}
 use Rattle.lx_ir_calls.specs.declared.intrinsics.TextForm.{TextForm}
@@ -22,6 +20,7 @@ use Rattle.lx_ir_complete.specs.KnownTables.{AreOnce}
 use Rattle.lx_ir_complete.specs.FirstLaws.{FirstFinds}
 use Rattle.lx_ir_complete.proofs.RoundTripFirsts.{firsts}
 use Rattle.lx_ir_complete.proofs.Counted.{IsPlainFunction, counted}
+use Rattle.lx_ir_complete.proofs.Sayings.{function_parts}
 
 -- Names.
 
@@ -54,19 +53,13 @@ functions_named names own all [] (s ∷ ss) h = absurd h
 functions_named names own all (f ∷ fs) [] h = absurd h
 functions_named names own all (f ∷ fs) (s ∷ ss) h = (function_named (own f) f s h.0 ∙ all f, functions_named names own all fs ss h.1)
 
--- Imports.
-
-unwritten : (m : Module) (f : Function) → is_lawful_function m f ≡ true → is_defined f ≡ false → is_written f.name ≡ false
-unwritten m f h e =
-    let lawful = and_parts (is_name f.name) (if is_defined f then is_lawful_body m f else is_lawful_import f) h in
-    let import : is_lawful_import f ≡ true = ap (λ b. if b then is_lawful_body m f else is_lawful_import f) (sym e) ∙ lawful.1 in
-    not-true (is_written f.name) (and_parts _ (not (is_written f.name)) import).1
+-- Functions.
 
 pub plain_functions : (m : Module) (names : List (List ℕ)) (once : AreOnce names) (own : Function → Context) → ((f : Function) → (own f).names ≡ names) → (fs : List Function) → list_all (is_lawful_function m) fs ≡ true → AllByRecursion (IsPlainFunction names once own) fs
 plain_functions m names once own all [] h = tt
 plain_functions m names once own all (f ∷ fs) h =
     let both = and_parts (is_lawful_function m f) (list_all (is_lawful_function m) fs) h in
-    ((all f, unwritten m f both.0), plain_functions m names once own all fs both.1)
+    ((all f, (function_parts m f both.0).1), plain_functions m names once own all fs both.1)
 
 -- The first reading finds the statements.
 pub first_finds : StatementsAreRead → StatementsAreForgotten → (context : Context) (own : Function → Context) (form : TextForm) (places : List Token) (m : Module) (toks : List Tok)

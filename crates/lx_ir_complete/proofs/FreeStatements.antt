@@ -79,5 +79,5 @@ module _ (c : Context) where
     statement_free defined (statements.Global name constant ty init) ts us (fresh, (f, b, symbol, (f2, b2, equal, (f3, b3, words, (f4, b4, storage, (f5, b5, of, (f6, b6, i, align, w6), w5), w4), w3), w2), w)) =
         (fresh, (f, b, symbol, (f2, b2, equal, (f3, b3, words, (f4, b4, storage, (f5, b5, written_free c ty f5 of, (f6, b6, init_free c depth_limit ty init f6 i, align, w6), w5), w4), w3), w2), w))
     statement_free defined (statements.Import name ret params) ts us h = h
-    statement_free defined (statements.Function name ret params blocks) ts us (fresh, (head, front, back, (f, b, word, (f2, b2, result, (f3, b3, symbol, (f4, b4, opened, rest, w4), w3), w2), w), body, same, whole)) =
-        (fresh, (head, front, back, (f, b, word, (f2, b2, result, (f3, b3, symbol, (f4, b4, head_free head f4 opened, rest, w4), w3), w2), w), body_free head.numbered head.registers blocks back us body, same, whole))
+    statement_free defined (statements.Function name ret params blocks) ts us (fresh, plain, (head, front, back, (f, b, word, (f2, b2, result, (f3, b3, symbol, (f4, b4, opened, rest, w4), w3), w2), w), body, same, whole)) =
+        (fresh, plain, (head, front, back, (f, b, word, (f2, b2, result, (f3, b3, symbol, (f4, b4, head_free head f4 opened, rest, w4), w3), w2), w), body_free head.numbered head.registers blocks back us body, same, whole))

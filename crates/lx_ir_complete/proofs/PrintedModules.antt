@@ -25,7 +25,7 @@ use Rattle.lx_ir_complete.specs.Kept.{is_kept_type, is_kept_init}
 use Rattle.lx_ir_complete.specs.Printed.{AreCalm}
 use Rattle.lx_ir_complete.specs.Lines.{PrintsLines}
 use Rattle.lx_ir_complete.proofs.ReadLines.{lines_read, lines_calm}
-use Rattle.lx_ir_complete.proofs.Sayings.{Saying, saying, registers}
+use Rattle.lx_ir_complete.proofs.Sayings.{Saying, saying, registers, function_parts}
 use Rattle.lx_ir_complete.specs.Said.{SaysType, SaysGlobal, SaysFunction, SaysModule, InRow, is_kept_global, are_kept_instrs}
 use Rattle.lx_ir_complete.specs.StatementLaws.{IsOwn, IsGiven}
 use Rattle.lx_ir_complete.proofs.PrintedFunctions.{body_says}
@@ -116,9 +116,9 @@ module _ (plain : Bool) (form : TextForm) (laws : NumberTexts) (m : Module) (con
   functions_print (f ∷ fs) own_names h k is =
       let foreign = first_foreign f.name (map (λ x. x.name) fs) own_names in
       let lawful = and_parts (is_lawful_function m f) (list_all (is_lawful_function m) fs) h in
-      let one = and_parts (is_name f.name) (if is_defined f then is_lawful_body m f else is_lawful_import f) lawful.0 in
+      let one = function_parts m f lawful.0 in
       let kept = and_parts (are_kept_instrs form (instrs_of f)) (list_all (λ g. are_kept_instrs form (instrs_of g)) fs) k in (
-        subst (λ names. PrintsLines plain names (function_text m f) (SaysFunction (own f) form f f.blocks)) is.0.names (one_function f f.blocks refl foreign.0 one.0 one.1 kept.0 is.0),
+        subst (λ names. PrintsLines plain names (function_text m f) (SaysFunction (own f) form f f.blocks)) is.0.names (one_function f f.blocks refl foreign.0 one.0 one.2 kept.0 is.0),
         functions_print fs foreign.1 lawful.1 kept.1 is.1,
       )
 

@@ -37,8 +37,8 @@ use Rattle.lx_ir_statements.specs.Blocks.{blocks_at}
 use Rattle.lx_ir_statements.specs.declared.form.Statement.{Statement}
 use Rattle.lx_ir_statements.specs.declared.form.Statement.TheVariants as statements
 use Rattle.lx_ir_statements.specs.declared.defined.Defined.{Defined}
-use Rattle.lx_ir_statements.specs.Defined.{is_imported_twice, with_statement}
-use Rattle.lx_ir_statements.specs.Statements.{is_type_word, opens_struct, refused_here, struct_at, type_statement_at, symbol_name, next_symbol, symbol_at, new_symbol_at, import_name_at, storage_in, storage_at, global_align_at, global_at, import_behind, function_behind, statement_by, statement_at}
+use Rattle.lx_ir_statements.specs.Defined.{is_imported_twice, names_block_write, with_statement}
+use Rattle.lx_ir_statements.specs.Statements.{is_type_word, opens_struct, refused_here, struct_at, type_statement_at, symbol_name, next_symbol, symbol_at, new_symbol_at, import_name_at, new_function_name_at, storage_in, storage_at, global_align_at, global_at, import_behind, function_behind, statement_by, statement_at}
 use Rattle.lx_ir_terms.proofs.Stopping.{first_same}
 use Rattle.lx_ir_complete.specs.Alike.{StopsThere}
 use Rattle.lx_ir_complete.proofs.Local.{stops_there, first_of, Same, Local, Plain, pure_local, pure_plain, fault_local, end_local, bind_local, then_plain, last_plain, if_plain, choose_local, same_local, behind_local, from_laws}
@@ -175,6 +175,19 @@ module _ (asked : FaultKind → Bool) where
 
       -- Functions.
 
+      name_unless : (a b : Bool) → Plain asked (λ ts. if a then Err (at faults.Twice ts) else if b then Err (at faults.OutOfProfile ts) else symbol_at ts)
+      name_unless true b = fault_local asked Same faults.Twice
+      name_unless false true = fault_local asked Same faults.OutOfProfile
+      name_unless false false = symbol_plain
+
+      abbrev name_by : Defined → Option ℕ → List Tok → Read ℕ
+      name_by defined n ts = if has_some defined.symbols n then Err (at faults.Twice ts) else if names_block_write context n then Err (at faults.OutOfProfile ts) else symbol_at ts
+
+      function_name_plain : (defined : Defined) → Plain asked (new_function_name_at context defined)
+      function_name_plain defined =
+          choose_local asked Same next_symbol next_symbol (λ us vs l. symbol_looks us vs l.first) (name_by defined) (name_by defined)
+          (λ n. name_unless (has_some defined.symbols n) (names_block_write context n))
+
       module _ (silent : asked faults.Twice ≡ false) (form : TextForm) (places : List Token) where
         abbrev with_blocks : ℕ → Option Scalar → Head → List Block × List Tok → Read Statement
         with_blocks n r h bs = Ok (statements.Function n r h.params bs.0, bs.1)
@@ -186,8 +199,8 @@ module _ (asked : FaultKind → Bool) where
 
         function_any : (defined : Defined) → Local asked SameDefined (function_behind context form places defined) (function_behind context form places defined)
         function_any defined =
-            then_any (passed_result_at true) (λ r. new_symbol_at defined r.1 >>= λ n. parameters_at context n.1 >>= λ h. function_attributes_at h.1 >>= λ a. mark_at OpenBrace a.1 >>= λ o. blocks_at context form places h.0.numbered h.0.registers o.1 >>= with_blocks n.0 r.0 h.0) (passed_result_plain asked)
-            (λ r. then_any (new_symbol_at defined) (λ n. parameters_at context n.1 >>= λ h. function_attributes_at h.1 >>= λ a. mark_at OpenBrace a.1 >>= λ o. blocks_at context form places h.0.numbered h.0.registers o.1 >>= with_blocks n.0 r h.0) (new_symbol_plain defined)
+            then_any (passed_result_at true) (λ r. new_function_name_at context defined r.1 >>= λ n. parameters_at context n.1 >>= λ h. function_attributes_at h.1 >>= λ a. mark_at OpenBrace a.1 >>= λ o. blocks_at context form places h.0.numbered h.0.registers o.1 >>= with_blocks n.0 r.0 h.0) (passed_result_plain asked)
+            (λ r. then_any (new_function_name_at context defined) (λ n. parameters_at context n.1 >>= λ h. function_attributes_at h.1 >>= λ a. mark_at OpenBrace a.1 >>= λ o. blocks_at context form places h.0.numbered h.0.registers o.1 >>= with_blocks n.0 r h.0) (function_name_plain defined)
             (λ n. then_any (parameters_at context) (λ h. function_attributes_at h.1 >>= λ a. mark_at OpenBrace a.1 >>= λ o. blocks_at context form places h.0.numbered h.0.registers o.1 >>= with_blocks n r h.0) (parameters_plain asked silent context)
             (λ h. then_any function_attributes_at (λ a. mark_at OpenBrace a.1 >>= λ o. blocks_at context form places h.numbered h.registers o.1 >>= with_blocks n r h) (function_attributes_plain asked)
             (λ a. then_any (mark_at OpenBrace) (λ o. blocks_at context form places h.numbered h.registers o.1 >>= with_blocks n r h) (mark OpenBrace)

@@ -68,7 +68,7 @@ statement_begins c form places defined (statements.Global name constant ty init)
     begins_with t f b ts (symbol_begins t.kind t.name name e) w3 w
 statement_begins c form places defined (statements.Import name ret params) ts us (fresh, (f, b, (t, e, w3), rest, w)) =
     begins_with t f b ts (declare_begins t.kind e) w3 w
-statement_begins c form places defined (statements.Function name ret params blocks) ts us (fresh, (head, front, back, (f, b, (t, e, w3), rest, w), body, same, whole)) =
+statement_begins c form places defined (statements.Function name ret params blocks) ts us (fresh, plain, (head, front, back, (f, b, (t, e, w3), rest, w), body, same, whole)) =
     begins_longer front back ts (begins_with t f b front (define_begins t.kind e) w3 w) whole
 
 pub follows : (form : TextForm) (places : List Token) (defined : Defined) (ss : List Own) (ts : List Tok) → AreStatements form places defined ss ts → may_follow ts ≡ true

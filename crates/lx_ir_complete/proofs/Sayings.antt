@@ -1,7 +1,8 @@
 -- What is given where the text of a module is read: the names that it writes are lawful, and are known.
 use Rattle.std.proofs.Common.{◌≡◌, ℕ, zero, suc, ◌<◌, List, [], ◌∷◌, ◌++◌, Bool, true, false, not, ◌&&◌, length, map, refl, sym, ap, ◌∙◌, arith}
+use Rattle.std.specs.Prelude.{if◌then◌else◌}
 use Rattle.std.specs.List.{list_all}
-use Rattle.std.proofs.lemmas.Bool.{and_parts, ltb-true}
+use Rattle.std.proofs.lemmas.Bool.{and_parts, not-true, ltb-true}
 use Rattle.std.proofs.lemmas.List.{length-map, length-append}
 use Rattle.std.proofs.lemmas.List.Folds.{list_all-append}
 use Rattle.lx_words.specs.TextLaws.{NumberTexts}
@@ -11,10 +12,11 @@ use Rattle.lx_ir.specs.declared.module.Symbol.TheVariants as symbol
 use Rattle.lx_ir.specs.declared.module.GlobalVar.{GlobalVar}
 use Rattle.lx_ir.specs.declared.module.Function.{Function}
 use Rattle.lx_ir.specs.declared.module.Module.{Module}
+use Rattle.lx_ir.specs.Lookup.{is_defined}
 use Rattle.lx_ir.specs.Layout.{is_struct, is_lawful_type}
 use Rattle.lx_ir.specs.Operands.{register_count}
 use Rattle.lx_ir.specs.Text.{name_at, type_name, symbol_name, register_names, register_name}
-use Rattle.lx_ir.specs.Lawful.{is_name, is_lawful_symbol, is_lawful_named, is_lawful_global, is_lawful_init, is_lawful_function, is_own_name, symbol_names, IsLawful}
+use Rattle.lx_ir.specs.Lawful.{is_name, is_lawful_symbol, is_lawful_named, is_lawful_global, is_lawful_init, is_block_write, is_lawful_body, is_lawful_import, is_lawful_function, is_own_name, symbol_names, IsLawful}
 use Rattle.lx_ir_terms.specs.Context.{Context}
 use Rattle.lx_ir_complete.specs.Knows.{Knows, KnowsRegisters, HasNoOwnNames}
 
@@ -51,8 +53,15 @@ global_is m g h =
     let two = and_parts (is_name g.name && is_lawful_type m.types g.ty) (is_lawful_init m g.ty g.init) three.0 in
     (and_parts (is_name g.name) (is_lawful_type m.types g.ty) two.0).0
 
+-- a lawful function, part by part
+pub function_parts : (m : Module) (f : Function) → is_lawful_function m f ≡ true → (is_name f.name ≡ true) × (is_block_write f.name ≡ false) × ((if is_defined f then is_lawful_body m f else is_lawful_import f) ≡ true)
+function_parts m f h =
+    let all = and_parts (is_name f.name && not (is_block_write f.name)) (if is_defined f then is_lawful_body m f else is_lawful_import f) h in
+    let two = and_parts (is_name f.name) (not (is_block_write f.name)) all.0 in
+    (two.0, not-true (is_block_write f.name) two.1, all.1)
+
 function_is : (m : Module) (f : Function) → is_lawful_function m f ≡ true → is_name f.name ≡ true
-function_is m f h = (and_parts (is_name f.name) _ h).0
+function_is m f h = (function_parts m f h).0
 
 symbol_is : (m : Module) → IsLawful m → (s : Symbol) → is_lawful_symbol m s ≡ true → is_name (symbol_name m s) ≡ true
 symbol_is m lawful (symbol.Function k) h =

@@ -1,8 +1,8 @@
 -- The lines of a module are its statements, each of a name that none before it has.
-use Rattle.std.proofs.Common.{◌≡◌, inl, inr, ℕ, List, [], ◌∷◌, ◌++◌, map, Bool, true, false, not, refl, sym, ap, ◌∙◌, subst, Option, Some, None, is_some, slice_get, append_assoc, bytes_eq}
+use Rattle.std.proofs.Common.{◌≡◌, inl, inr, ℕ, List, [], ◌∷◌, ◌++◌, map, Bool, true, false, refl, sym, ap, ◌∙◌, subst, Option, Some, None, is_some, slice_get, append_assoc, bytes_eq}
 use Rattle.std.specs.Prelude.{if◌then◌else◌}
 use Rattle.std.specs.List.{AllZip, AllByRecursion, list_all, list_any}
-use Rattle.std.proofs.lemmas.Bool.{and_parts, not-true}
+use Rattle.std.proofs.lemmas.Bool.{and_parts}
 use Rattle.std.proofs.lemmas.List.{append-nil}
 use Rattle.lx_words.specs.declared.token.Token.{Token}
 use Rattle.lx_ir.specs.declared.types.NamedType.{NamedType}
@@ -10,8 +10,7 @@ use Rattle.lx_ir.specs.declared.module.GlobalVar.{GlobalVar}
 use Rattle.lx_ir.specs.declared.module.Block.{Block}
 use Rattle.lx_ir.specs.declared.module.Function.{Function}
 use Rattle.lx_ir.specs.declared.module.Module.{Module}
-use Rattle.lx_ir.specs.Lookup.{is_defined}
-use Rattle.lx_ir.specs.Lawful.{is_name, is_distinct, is_block_write, is_lawful_body, is_lawful_import, is_lawful_function}
+use Rattle.lx_ir.specs.Lawful.{is_distinct, is_block_write, is_lawful_function}
 use Rattle.lx_ir_tokens.specs.declared.token.Tok.{Tok}
 use Rattle.lx_ir_terms.specs.Context.{Context}
 use Rattle.lx_ir_calls.specs.declared.intrinsics.TextForm.{TextForm}
@@ -22,6 +21,7 @@ use Rattle.lx_ir_statements.specs.Defined.{nothing_defined, with_type, with_symb
 use Rattle.lx_ir_statements.specs.Grammar.{IsStatement}
 use Rattle.lx_ir_complete.proofs.PrintedCalls.{not_block}
 use Rattle.lx_ir_complete.proofs.PrintedInits.{said_bytes}
+use Rattle.lx_ir_complete.proofs.Sayings.{function_parts}
 use Rattle.lx_ir_complete.specs.Said.{SaysType, SaysGlobal, SaysFunction, SaysModule, InRow}
 use Rattle.lx_ir_complete.specs.Statements.{Own, AreStatements, OfType, OfGlobal, OfFunction, StateModule}
 use Rattle.lx_ir_complete.specs.StatementLaws.{IsOwn, IsGiven}
@@ -69,28 +69,30 @@ module _ (form : TextForm) (places : List Token) (context : Context) where
       )
 
   module _ (m : Module) (own : Function → Context) where
+    unwritten : (f : Function) (n : ℕ) → slice_get (own f).names n ≡ Some f.name → is_block_write f.name ≡ false → is_written (own f) n ≡ false
+    unwritten f n at plain = ap (λ b. is_some (block_write_named b)) (said_bytes (own f) n f.name at) ∙ ap is_some (not_block f.name plain)
+
     -- what a function's lines say, before these tokens
-    one_function : (f : Function) (blocks : Option (List Block)) → f.blocks ≡ blocks → (if is_some blocks then is_lawful_body m f else is_lawful_import f) ≡ true → IsOwn m context own f
+    one_function : (f : Function) (blocks : Option (List Block)) → f.blocks ≡ blocks → is_block_write f.name ≡ false → IsOwn m context own f
         → (before : List (List ℕ)) (defined : Defined) → Stand context.names defined.symbols before → list_any (bytes_eq f.name) before ≡ false
         → (front back : List Tok) → SaysFunction (own f) form f blocks front
         → (s : Own) × OfFunction (own f) f s × IsStatement s.context form places defined s.statement front back × Stand context.names (with_statement s.context defined s.statement).symbols (before ++ f.name ∷ [])
-    one_function f None e h is before defined st fresh front back says =
+    one_function f None e plain is before defined st fresh front back says =
         let n : ℕ = says.0 in
         let at : slice_get context.names n ≡ Some f.name = ap (λ names. slice_get names n) (sym is.names) ∙ says.1 in
-        let lawful = and_parts _ (not (is_block_write f.name)) h in
-        let none : is_written (own f) n ≡ false = ap (λ b. is_some (block_write_named b)) (said_bytes (own f) n f.name says.1) ∙ ap is_some (not_block f.name (not-true (is_block_write f.name) lawful.1)) in (
+        let none : is_written (own f) n ≡ false = unwritten f n says.1 plain in (
           record { context = own f; statement = statements.Import n f.ret (map (λ p. p.ty) f.params) },
           (n, says.1, inl (e, refl)),
           (inl (absent context.names defined.symbols before n f.name st at fresh), says.2),
           subst (λ v. Stand context.names (if v then defined else with_symbol defined n).symbols (before ++ f.name ∷ [])) (sym none) (stand_new context.names defined.symbols before n f.name st at fresh),
         )
-    one_function f (Some bs) e h is before defined st fresh front back says =
+    one_function f (Some bs) e plain is before defined st fresh front back says =
         let said = says back places in
         let n : ℕ = said.0 in
         let at : slice_get context.names n ≡ Some f.name = ap (λ names. slice_get names n) (sym is.names) ∙ said.1 in (
           record { context = own f; statement = statements.Function n f.ret f.params said.2 },
           (n, said.1, inr (bs, said.2, e, said.3, refl)),
-          (absent context.names defined.symbols before n f.name st at fresh, said.4),
+          (absent context.names defined.symbols before n f.name st at fresh, unwritten f n said.1 plain, said.4),
           stand_new context.names defined.symbols before n f.name st at fresh,
         )
 
@@ -99,9 +101,8 @@ module _ (form : TextForm) (places : List Token) (context : Context) where
     functions_are [] before defined h is st d toks row = ([], tt, row)
     functions_are (f ∷ fs) before defined h is st d toks row =
         let lawful = and_parts (is_lawful_function m f) (list_all (is_lawful_function m) fs) h in
-        let body = and_parts (is_name f.name) (if is_defined f then is_lawful_body m f else is_lawful_import f) lawful.0 in
         let fresh = new_name before f.name (map (λ x. x.name) fs) d in
-        let one = one_function f f.blocks refl body.1 is.0 before defined st fresh row.0 row.1 row.2 in
+        let one = one_function f f.blocks refl (function_parts m f lawful.0).1 is.0 before defined st fresh row.0 row.1 row.2 in
         let assoc : (before ++ f.name ∷ []) ++ map (λ x. x.name) fs ≡ before ++ f.name ∷ map (λ x. x.name) fs = append_assoc before (f.name ∷ []) (map (λ x. x.name) fs) in
         let rest = functions_are fs (before ++ f.name ∷ []) (with_statement one.0.context defined one.0.statement) lawful.1 is.1 one.3 (ap is_distinct assoc ∙ d) row.1 row.3 in
         (one.0 ∷ rest.0, (one.1, rest.1), (row.0, row.1, one.2, rest.2, row.4))
