@@ -1,5 +1,5 @@
 -- What the grammar says of the first fault of a text.
-use Rattle.std.proofs.Common.{◌≡◌, ◌⊎◌, inl, inr, ℕ, Bool, true, false, Option, Some, None, List, Result, Ok, Err, refl, ap}
+use Rattle.std.proofs.Common.{◌≡◌, ◌⊎◌, inl, inr, ℕ, Bool, true, false, Option, Some, None, List, ◌∷◌, Result, Ok, Err, refl, ap}
 use Rattle.std.specs.Prelude.{◌==◌, if◌then◌else◌}
 use Rattle.lx_words.specs.declared.token.Stop.{Stop}
 use Rattle.lx_ir_tokens.specs.declared.read.IrTokens.{IrTokens}
