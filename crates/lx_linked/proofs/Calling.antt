@@ -15,7 +15,7 @@ use Rattle.lx_ir.specs.declared.instr.Instr.{Instr}
 use Rattle.lx_ir.specs.declared.instr.Op.{Op}
 use Rattle.lx_ir.specs.declared.instr.Op.TheVariants as op
 use Rattle.lx_ir.specs.Lookup.{blocks_of, instrs_of, is_defined}
-use Rattle.lx_ir.specs.Lawful.{is_lawful_value, is_label, is_name, ends_once, has_form, is_lawful_op, is_lawful_block, is_lawful_body, is_lawful_function, is_lawful_import, numbers_registers}
+use Rattle.lx_ir.specs.Lawful.{is_lawful_value, is_label, ends_once, has_form, is_lawful_op, is_lawful_block, is_lawful_body, is_lawful_function, is_lawful_import, numbers_registers}
 use Rattle.lx_ir.specs.Operands.{operands_of, register_types}
 use Rattle.lx_ir.specs.Faults.{instrs_at, value_fits, form_fits, has_signature, are_arguments}
 use Rattle.lx_ir.specs.Faults.{same_result as same_scalars}
@@ -73,7 +73,7 @@ formed_by m f i true d e a = body_formed m f i e a
 formed_by m f i false d e a = absurd (subst (λ (bs : List Block). IsIn i (flat_map (λ (b : Block). b.instrs) bs)) (import_blocks f false d refl) a)
 
 formed : (m : Module) (f : Function) (i : Instr) → IsVerified m → IsIn f m.functions → IsIn i (instrs_of f) → has_form m i.op ≡ true
-formed m f i v j a = formed_by m f i (is_defined f) refl (second_true (is_name f.name) _ (all_in (is_lawful_function m) m.functions f v.lawful.functions j)) a
+formed m f i v j a = formed_by m f i (is_defined f) refl (second_true _ _ (all_in (is_lawful_function m) m.functions f v.lawful.functions j)) a
 
 -- what is known of the instruction at which a function stands
 record Founded (p : Program) (a : Activation) (o : Op) : Type 0 where
