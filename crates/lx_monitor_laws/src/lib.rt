@@ -1,0 +1,17 @@
+//! Laws of the monitor in words of their own: what each request does to memory, byte by byte, what calls enter, who holds what, and what
+//! actions do to owners. A definition that is wrong together with its code breaks one of them.
+//!
+//! ```text
+//! effect_laws();
+//! // Behind a block copy each byte of the destination is the byte that stood at its place in the source before, and all others are as they were.
+//! action_laws();
+//! // Behind a transfer nobody but its destination owns an atom of the items.
+//! ```
+#![tactic(auto)]
+
+ghost use Rattle.lx_monitor_laws.specs.EffectLaws.{EffectLaws};
+
+/// What each request that goes on does to each byte of memory, and what it is answered. One that ends its call changes no byte.
+pub fn effect_laws()
+    ensures { EffectLaws }
+{}
