@@ -1,1 +1,2 @@
 mod Effects
+mod Entering

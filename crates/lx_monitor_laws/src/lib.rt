@@ -10,8 +10,19 @@
 #![tactic(auto)]
 
 ghost use Rattle.lx_monitor_laws.specs.EffectLaws.{EffectLaws};
+ghost use Rattle.lx_monitor_laws.specs.EntryLaws.{EntryLaws};
+
+use lx_model::authority_laws;
 
 /// What each request that goes on does to each byte of memory, and what it is answered. One that ends its call changes no byte.
 pub fn effect_laws()
     ensures { EffectLaws }
 {}
+
+/// What a call through a slot enters stands in the slot, and where the slot has a writer, it has the annotation of the slot's type. Which
+/// calls cross.
+pub fn entry_laws()
+    ensures { EntryLaws }
+{
+    authority_laws();
+}
