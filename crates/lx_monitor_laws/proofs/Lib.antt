@@ -1,2 +1,3 @@
 mod Effects
 mod Entering
+mod Holding

@@ -1,3 +1,4 @@
 pub mod Bytes
 pub mod EffectLaws
 pub mod EntryLaws
+pub mod HoldingLaws

@@ -11,7 +11,9 @@
 
 ghost use Rattle.lx_monitor_laws.specs.EffectLaws.{EffectLaws};
 ghost use Rattle.lx_monitor_laws.specs.EntryLaws.{EntryLaws};
+ghost use Rattle.lx_monitor_laws.specs.HoldingLaws.{HoldingLaws};
 
+use lx_caps::{owner_laws, region_laws};
 use lx_model::authority_laws;
 
 /// What each request that goes on does to each byte of memory, and what it is answered. One that ends its call changes no byte.
@@ -25,4 +27,12 @@ pub fn entry_laws()
     ensures { EntryLaws }
 {
     authority_laws();
+}
+
+/// The kernel holds what lies in memory, and a principal of a module what those own that count for it.
+pub fn holding_laws()
+    ensures { HoldingLaws }
+{
+    owner_laws();
+    region_laws();
 }
