@@ -1,3 +1,4 @@
 mod Effects
 mod Entering
 mod Holding
+mod Performing

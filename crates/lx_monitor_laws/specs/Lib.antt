@@ -1,3 +1,4 @@
+pub mod ActionLaws
 pub mod Bytes
 pub mod EffectLaws
 pub mod EntryLaws

@@ -9,6 +9,7 @@
 //! ```
 #![tactic(auto)]
 
+ghost use Rattle.lx_monitor_laws.specs.ActionLaws.{ActionLaws};
 ghost use Rattle.lx_monitor_laws.specs.EffectLaws.{EffectLaws};
 ghost use Rattle.lx_monitor_laws.specs.EntryLaws.{EntryLaws};
 ghost use Rattle.lx_monitor_laws.specs.HoldingLaws.{HoldingLaws};
@@ -36,3 +37,8 @@ pub fn holding_laws()
     owner_laws();
     region_laws();
 }
+
+/// A transfer leaves its items to its destination alone; no other action takes anything, and each gives to its destination alone.
+pub fn action_laws()
+    ensures { ActionLaws }
+{}
