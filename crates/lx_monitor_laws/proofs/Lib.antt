@@ -1,3 +1,4 @@
+mod Crossings
 mod Effects
 mod Entering
 mod Holding

@@ -1,5 +1,6 @@
 pub mod ActionLaws
 pub mod Bytes
+pub mod CrossingLaws
 pub mod EffectLaws
 pub mod EntryLaws
 pub mod HoldingLaws

@@ -10,6 +10,7 @@
 #![tactic(auto)]
 
 ghost use Rattle.lx_monitor_laws.specs.ActionLaws.{ActionLaws};
+ghost use Rattle.lx_monitor_laws.specs.CrossingLaws.{CrossingLaws};
 ghost use Rattle.lx_monitor_laws.specs.EffectLaws.{EffectLaws};
 ghost use Rattle.lx_monitor_laws.specs.EntryLaws.{EntryLaws};
 ghost use Rattle.lx_monitor_laws.specs.HoldingLaws.{HoldingLaws};
@@ -41,4 +42,10 @@ pub fn holding_laws()
 /// A transfer leaves its items to its destination alone; no other action takes anything, and each gives to its destination alone.
 pub fn action_laws()
     ensures { ActionLaws }
+{}
+
+/// A call that crosses comes to the actions of its function's annotation before its body, each once and in order, from the caller to the
+/// function, and behind its return to those behind the body, from the function to the caller.
+pub fn crossing_laws()
+    ensures { CrossingLaws }
 {}
