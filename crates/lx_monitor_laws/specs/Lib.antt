@@ -4,3 +4,4 @@ pub mod CrossingLaws
 pub mod EffectLaws
 pub mod EntryLaws
 pub mod HoldingLaws
+pub mod ReportRows

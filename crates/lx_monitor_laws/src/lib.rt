@@ -14,6 +14,7 @@ ghost use Rattle.lx_monitor_laws.specs.CrossingLaws.{CrossingLaws};
 ghost use Rattle.lx_monitor_laws.specs.EffectLaws.{EffectLaws};
 ghost use Rattle.lx_monitor_laws.specs.EntryLaws.{EntryLaws};
 ghost use Rattle.lx_monitor_laws.specs.HoldingLaws.{HoldingLaws};
+ghost use Rattle.lx_monitor_laws.specs.ReportRows.{ReportRows};
 
 use lx_caps::{owner_laws, region_laws};
 use lx_model::authority_laws;
@@ -48,4 +49,9 @@ pub fn action_laws()
 /// function, and behind its return to those behind the body, from the function to the caller.
 pub fn crossing_laws()
     ensures { CrossingLaws }
+{}
+
+/// The line of a report for each way in which a call ends.
+pub fn report_rows()
+    ensures { ReportRows }
 {}
