@@ -1,3 +1,4 @@
+mod Counting
 mod Crossings
 mod Effects
 mod Entering

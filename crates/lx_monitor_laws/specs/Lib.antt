@@ -1,7 +1,8 @@
 pub mod ActionLaws
 pub mod Bytes
+pub mod CountLaws
 pub mod CrossingLaws
 pub mod EffectLaws
 pub mod EntryLaws
 pub mod HoldingLaws
-pub mod ReportRows
+pub mod Outcomes

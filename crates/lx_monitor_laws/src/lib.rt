@@ -1,20 +1,23 @@
-//! Laws of the monitor in words of their own: what each request does to memory, byte by byte, what calls enter, who holds what, and what
-//! actions do to owners. A definition that is wrong together with its code breaks one of them.
+//! Laws of the monitor in words of their own, so that a definition that is wrong together with its code breaks one: what requests do to each
+//! byte of memory, what calls enter, who holds what, what actions do to owners, which actions a crossing does, and what a report tells.
 //!
 //! ```text
 //! effect_laws();
 //! // Behind a block copy each byte of the destination is the byte that stood at its place in the source before, and all others are as they were.
 //! action_laws();
 //! // Behind a transfer nobody but its destination owns an atom of the items.
+//! crossing_laws();
+//! // A call that crosses comes to each action of its annotation, once and in order.
 //! ```
 #![tactic(auto)]
 
 ghost use Rattle.lx_monitor_laws.specs.ActionLaws.{ActionLaws};
+ghost use Rattle.lx_monitor_laws.specs.CountLaws.{CountLaws};
 ghost use Rattle.lx_monitor_laws.specs.CrossingLaws.{CrossingLaws};
 ghost use Rattle.lx_monitor_laws.specs.EffectLaws.{EffectLaws};
 ghost use Rattle.lx_monitor_laws.specs.EntryLaws.{EntryLaws};
 ghost use Rattle.lx_monitor_laws.specs.HoldingLaws.{HoldingLaws};
-ghost use Rattle.lx_monitor_laws.specs.ReportRows.{ReportRows};
+ghost use Rattle.lx_monitor_laws.specs.Outcomes.{WorkedOutcomes};
 
 use lx_caps::{owner_laws, region_laws};
 use lx_model::authority_laws;
@@ -52,6 +55,11 @@ pub fn crossing_laws()
 {}
 
 /// The line of a report for each way in which a call ends.
-pub fn report_rows()
-    ensures { ReportRows }
+pub fn worked_outcomes()
+    ensures { WorkedOutcomes }
+{}
+
+/// The numbers of guards, checks and wrappers that are reported of a module are those of its image with all guards.
+pub fn count_laws()
+    ensures { CountLaws }
 {}

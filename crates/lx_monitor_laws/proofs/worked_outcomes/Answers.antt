@@ -1,7 +1,7 @@
 -- Each row computes.
 use Rattle.std.proofs.Common.{refl}
 use Rattle.lx_report.specs.Report.{address_text, number_text, signed_word_text}
-use Rattle.lx_monitor_laws.proofs.report_rows.Goals as goal
+use Rattle.lx_monitor_laws.proofs.worked_outcomes.Goals as goal
 
 pub returns : goal.returns
 unfolding number_text address_text signed_word_text

@@ -56,7 +56,7 @@ last_call o = record { thread = 2; function = 1; outcome = o }
 abbrev told : Outcome → Text
 told o = call_line_of program (calls (last_call o)) names (3, last_call o)
 
-pub record ReportRows : Type 0 where
+pub record WorkedOutcomes : Type 0 where
   pub nothing : told (Returned None) ≡ codes "call 2.2 m:poke returned\n"
   pub value : told (Returned (Some (word W32 7))) ≡ codes "call 2.2 m:poke returned 7\n"
   pub negative : told (Returned (Some (word W32 0xffffffff))) ≡ codes "call 2.2 m:poke returned -1\n"
