@@ -7,6 +7,7 @@ pub mod Clauses
 pub mod Columns
 pub mod Ends
 pub mod Expressions
+pub mod FirstFaults
 pub mod Grown
 pub mod Kept
 pub mod Lexed

@@ -9,6 +9,7 @@
 //! ```
 #![tactic(auto)]
 
+ghost use Rattle.lx_annot_laws.specs.FaultOfText.{InterfaceFaultsAreTold, PrototypeFaultsAreTold};
 ghost use Rattle.lx_annot_laws.specs.GrownLaws.{AnnotationsGrow, ItemsGrow};
 ghost use Rattle.lx_annot_laws.specs.PrintedPartLaws.{ActionsArePrinted, AnnotationsArePrinted, ExprsArePrinted, ItemsArePrinted, ParamsArePrinted};
 ghost use Rattle.lx_annot_laws.specs.PieceLaws.{LaidAreScanned, PlacesDoNotCount};
@@ -122,4 +123,16 @@ pub fn refused_prototype_laws()
     ensures { RefusedPrototypeTokensStandNowhere }
 {
     prototype_laws();
+}
+
+/// The first fault of a text by the grammar of its dialect: the text is no interface, and a token that no rule takes, or a name that is not
+/// declared but `load64`, stands there in none.
+pub fn first_interface_fault_laws()
+    ensures statements { InterfaceFaultsAreTold }
+    ensures prototypes { PrototypeFaultsAreTold }
+{
+    interface_laws();
+    refused_laws();
+    prototype_laws();
+    refused_prototype_laws();
 }
