@@ -6,7 +6,7 @@ use Rattle.lx_model.specs.declared.request.Outcome.{Outcome}
 use Rattle.lx_model.specs.declared.request.Request.{Request}
 use Rattle.lx_model.specs.State.{State}
 use Rattle.lx_model.specs.Decide.{decide}
-use Rattle.lx_model.specs.Serve.{serve_by}
+use Rattle.lx_model.specs.Serve.{serve, serve_by}
 use Rattle.lx_caplock.specs.declared.knowledge.Entry.{Entry}
 use Rattle.lx_caplock.specs.Serving.{served_by, state_after}
 use Rattle.lx_threads.specs.Monitor.{threads_of}
@@ -17,10 +17,13 @@ served_journal : (p : Program) (s : State) (t : ℕ) (r : Request) (d : Option O
 served_journal p s t r (Some o) = refl
 served_journal p s t r None = granted_journal p s t r.who r.what
 
+-- the entry of a request that was served
+pub journal_more : (p : Program) (s : State) (t : ℕ) (r : Request) → (serve p s t r).state.journal ≡ s.journal ++ record { thread = t; request = r; reply = (serve p s t r).reply } ∷ []
+journal_more p s t r = let x = serve_by (decide p s t r) p s t r in ap (λ (l : List JournalEntry). l ++ record { thread = t; request = r; reply = x.reply } ∷ []) (served_journal p s t r (decide p s t r))
+
 journal_one : (p : Program) (s : State) (e : Entry) → map (λ x. x.thread) (served_by p s e).state.journal ≡ map (λ x. x.thread) s.journal ++ e.thread ∷ []
 journal_one p s e =
-    let x = serve_by (decide p s e.thread e.request) p s e.thread e.request in
-    threads_push x.state.journal (record { thread = e.thread; request = e.request; reply = x.reply }) ∙ ap (λ (l : List JournalEntry). map (λ y. y.thread) l ++ e.thread ∷ []) (served_journal p s e.thread e.request (decide p s e.thread e.request))
+    ap (map (λ x. x.thread)) (journal_more p s e.thread e.request) ∙ threads_push s.journal (record { thread = e.thread; request = e.request; reply = (served_by p s e).reply })
 
 in_order : (xs ys : List ℕ) (t : ℕ) → (xs ++ t ∷ []) ++ ys ≡ xs ++ t ∷ ys
 in_order [] ys t = refl

@@ -2,6 +2,7 @@ mod Crossing
 mod Dealing
 mod Gathering
 pub mod Journals
+mod Monitoring
 pub mod Runs
 pub mod Schedules
 mod Together

@@ -17,19 +17,19 @@ use Rattle.lx_threads.specs.Monitor.{threads_of}
 use Rattle.lx_threads.proofs.Journals.{schedule_after}
 use Rattle.lx_threads.specs.Imaged.{imaged, IsImageRun, ImageMonitorLaws}
 
-abbrev world : State → List ImageThread → ImageWorld
+abbrev pub world : State → List ImageThread → ImageWorld
 world s vs = record { state = s; threads = vs }
 
 -- what is shown of a thread that is there
-shown_at : (vs : List ImageThread) (t : ℕ) (v : ImageThread) → slice_get vs t ≡ Some v → slice_get (map shown_thread vs) t ≡ Some (shown_thread v)
+pub shown_at : (vs : List ImageThread) (t : ℕ) (v : ImageThread) → slice_get vs t ≡ Some v → slice_get (map shown_thread vs) t ≡ Some (shown_thread v)
 shown_at vs t v there = slice_get-map shown_thread vs t ∙ ap (option_map shown_thread) there
 
 module _ (c : Code) where
   -- the thread behind the reply of an entry
-  abbrev absorbed : Entry → ImageThread → ImageThread
+  abbrev pub absorbed : Entry → ImageThread → ImageThread
   absorbed e v = image_absorb c e.thread (image_next c v).thread (image_next c v).request e.reply
 
-  event_is : (s : State) (vs : List ImageThread) (e : Entry) (v : ImageThread) → IsEvent (imaged c) c.program s vs e v
+  pub event_is : (s : State) (vs : List ImageThread) (e : Entry) (v : ImageThread) → IsEvent (imaged c) c.program s vs e v
       → image_event c e.thread (world s vs) ≡ world (served_by c.program s e).state (slice_set vs e.thread (absorbed e v))
   event_is s vs e v is =
       let w = world s vs in let t = e.thread in let q : (image_next c v).request ≡ e.request = sym is.next.request in

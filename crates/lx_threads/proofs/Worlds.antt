@@ -6,6 +6,7 @@ use Rattle.lx_model.specs.World.{is_done}
 use Rattle.lx_images.specs.Image.{Code, ImageThread}
 use Rattle.lx_images.specs.ImageWorld.{ImageWorld}
 use Rattle.lx_images.specs.Shown.{shown}
+use Rattle.lx_simulation.specs.Showing.{ShowingLaws}
 use Rattle.lx_interp.specs.declared.runner.Runner.{Runner}
 use Rattle.lx_serve.specs.Stands.{StandsForState, program_of}
 use Rattle.lx_serve.specs.declared.shared.SharedPart.{SharedPart}
@@ -20,6 +21,7 @@ use Rattle.lx_world.specs.Worlds.{StandsFor, AllStand, StandsForWorld}
 use Rattle.lx_threads.specs.declared.runner.ThreadCode.{ThreadCode}
 use Rattle.lx_threads.specs.Imaged.{imaged, images_behind, ImageMonitorLaws}
 use Rattle.lx_threads.specs.Running.{HasRun}
+use Rattle.lx_threads.proofs.Monitoring.{monitored}
 
 abbrev runs : ThreadCode → ℕ → Runner → ImageThread → Type 0
 runs text t r v = StandsFor text.code t r v
@@ -57,13 +59,13 @@ module _ {C : Type 0} (stands : C → History → Type 0) where
       }
 
   -- the new world has run
-  pub has_run : (laws : ImageMonitorLaws) (c : Code) (served : Program) (part : SharedPart C) (list : Runners) (text : ThreadCode) (done : World C) (before : ImageWorld) (vs : List ImageThread) (history : List Entry)
+  pub has_run : (laws : ImageMonitorLaws) (showing : ShowingLaws) (c : Code) (served : Program) (part : SharedPart C) (list : Runners) (text : ThreadCode) (done : World C) (before : ImageWorld) (vs : List ImageThread) (history : List Entry)
       → text.code ≡ c → served ≡ c.program → program_of part ≡ c.program
       → AreEvents (imaged text.code) served before.state before.threads history vs → StandsForState stands (program_of part) part (state_after served before.state history)
       → AllRun runs text 0 (list_of list) vs → AreParts done part list text.code
       → ((d : Code) (w : ImageWorld) → StandsForWorld stands d done w → true ≡ is_done (shown w))
       → HasRun stands done c history before (images_behind c before history vs)
-  has_run laws c served part list text done before vs history is is_served is_part events state threads are ended =
+  has_run laws showing c served part list text done before vs history is is_served is_part events state threads are ended =
       let behind : ImageWorld = images_behind c before history vs in
       let happened : AreEvents (imaged c) c.program before.state before.threads history vs =
       subst (λ (d : Code). AreEvents (imaged d) c.program before.state before.threads history vs) is
@@ -75,8 +77,10 @@ module _ {C : Type 0} (stands : C → History → Type 0) where
         code = are.code ∙ is;
         shared = subst (λ (x : SharedPart C). StandsForState stands c.program x behind.state) (sym are.shared) shared;
         threads = subst (λ (l : Runners). AllStand c 0 (list_of l) vs) (sym are.runners) (all_stand text c 0 (list_of list) vs is threads);
-      } in record {
+      } in
+      let ran = laws.runs c before history vs happened in record {
         stands_for = st;
-        run = laws.runs c before history vs happened;
+        run = ran;
+        monitored = monitored showing c before behind history ran (sym (ended c behind st));
         whole = laws.whole c before history vs happened (sym (ended c behind st));
       }

@@ -3,6 +3,7 @@ pub mod Gathered
 pub mod Imaged
 pub mod Machines
 pub mod Monitor
+pub mod Monitored
 pub mod Running
 pub mod Threads
 pub mod Working

@@ -12,6 +12,7 @@ use crate::run_workers;
 use crate::runner::ThreadCode;
 use lx_caps::CapStore;
 use lx_outside::Gate;
+use lx_simulation::simulation_laws;
 use lx_words::Memory;
 use lx_world::{Runners, World};
 use std::alloc::Global;
@@ -33,8 +34,10 @@ fn without_work<C: CapStore + Drop>(world: World<C>) -> Result<World<C>, Memory>
 
 /// Runs the threads of a world of images beside each other, until none has work. The world that comes back is the run of the one
 /// handed in by the machine of images, under its own schedule, which goes on from that of the one handed in: an event for each
-/// request that was served, in the order in which the lock served them. Register steps and gates stand outside the lock. Work
-/// that no thread took is done by the caller.
+/// request that was served, in the order in which the lock served them. Where the world handed in stands for a monitor's world of
+/// the program without guards, whatever the schedule, it is the monitor's run of that world under the same schedule: each event's
+/// thread and reply are the monitor's at its place. Register steps and gates stand outside the lock. Work that no thread took is
+/// done by the caller.
 ///
 /// # Errors
 /// Want of memory: the world is given up.
@@ -48,6 +51,7 @@ pub fn run_threads<C: CapStore + Drop + Send, G: Gate + Sync, R: Threads + Wait 
     ensures runs { IfOk result (λ done. AreRun C.stands world done) }
 {
     image_monitor_laws();
+    simulation_laws();
     let (shared, runners, code) = world.into_parts();
     let text = ThreadCode { code };
     match run_workers(rt, alloc, shared, &text, gate, runners.into_list()) {

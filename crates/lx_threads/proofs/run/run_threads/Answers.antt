@@ -36,7 +36,7 @@ returns-in_ok-done-in-Ok g c =
             let parts = parts_of g.C.CapStore.stands d c.args.world before c.into_parts-shared.result.0 c.into_parts-shared.result.1 c.into_parts-shared.result.2 c.into_list.result.items st c.into_parts-shared.ensures c.into_list.ensures.list in
             let came = h.comes before.state before.threads parts.own parts.threads in (
               images_behind d before h.history came.0,
-              has_run g.C.CapStore.stands c.image_monitor_laws.ensures d (program_of c.into_parts-shared.result.0) c.in-Ok.part c.of_list.result text c.in_ok-done-in-Ok.done before came.0 h.history parts.code parts.state.program
+              has_run g.C.CapStore.stands c.image_monitor_laws.ensures c.simulation_laws.ensures.showing d (program_of c.into_parts-shared.result.0) c.in-Ok.part c.of_list.result text c.in_ok-done-in-Ok.done before came.0 h.history parts.code parts.state.program
                   (h.same ∙ parts.state.program) came.1.events came.1.state
                   (subst (λ l. AllStand (λ (k : ThreadCode) t r v. StandsFor k.code t r v) text 0 l came.0) (sym c.of_list.ensures) came.1.threads)
                   (subst (λ w. AreParts w c.in-Ok.part c.of_list.result text.code) (sym c.in_ok-done-in-Ok.ensures.same) c.from_parts.ensures)
