@@ -1,5 +1,5 @@
 -- The printed text of parameters and types says them.
-use Rattle.std.proofs.Common.{◌≡◌, ◌∙◌, ℕ, ◌+◌, Bool, true, false, not, cond, nat_lt, Option, Some, None, List, [], ◌∷◌, ◌++◌, All, flat_map, length, bytes_eq, codes, if◌then◌else◌, refl, sym, ap, subst, append_assoc, arith}
+use Rattle.std.proofs.Common.{◌≡◌, ◌∙◌, ℕ, ◌+◌, true, false, cond, nat_lt, Option, Some, None, List, [], ◌∷◌, ◌++◌, All, flat_map, length, bytes_eq, codes, if◌then◌else◌, refl, sym, ap, subst, append_assoc, arith}
 use Rattle.std.specs.Prelude.{is_some}
 use Rattle.std.specs.List.{AllByRecursion, IsDistinct, list_any, position_or_len}
 use Rattle.std.proofs.lemmas.Bool.{or_from, false_from_ne_true, true≢false}
