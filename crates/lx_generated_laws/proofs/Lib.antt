@@ -1,0 +1,10 @@
+pub mod Lines
+pub mod Calls
+pub mod Counts
+pub mod Cases
+pub mod Lined
+pub mod Assigned
+pub mod Modules
+pub mod Pieces
+pub mod Statements
+pub mod Interfaces

@@ -1,0 +1,39 @@
+//! Laws of the texts that the program brings along and generates: in its kernel and its interface no fault stands, and each generated text
+//! says its case.
+//!
+//! ```text
+//! builtin_laws();
+//! // The text of the kernel says a module, in which no fault stands; that of the interface says one, line by line.
+//! generated_case_laws();
+//! // The text of 200 generated calls says a case, and so does that of any number of calls that a case may have.
+//! ```
+#![tactic(auto)]
+
+ghost use Rattle.lx_generated_laws.specs.Builtin.{InterfaceIsSaid, KernelIsSound};
+ghost use Rattle.lx_generated_laws.specs.Cases.{CasesAreSaid};
+
+use lx_annot_grammar::interface_laws;
+use lx_annot_laws::interface_lexeme_laws;
+use lx_ir_complete::{every_text_laws, round_trip_laws};
+use lx_ir_read::module_laws;
+use lx_words::number_texts;
+
+/// The text of a generated case says the case: its calls in their threads, each with its function, its argument, its fuel and its line.
+pub fn generated_case_laws()
+    ensures { CasesAreSaid }
+{
+    number_texts();
+}
+
+/// The text of the kernel is the module that is given, lines aside, and no fault stands in it. The text of the interface is the interface
+/// that is given.
+pub fn builtin_laws()
+    ensures kernel { KernelIsSound }
+    ensures interface { InterfaceIsSaid }
+{
+    every_text_laws();
+    round_trip_laws();
+    module_laws();
+    interface_lexeme_laws();
+    interface_laws();
+}
