@@ -1,10 +1,5 @@
 -- What the files of a command come to is settled.
-use Rattle.std.proofs.Common.{◌≡◌, ◌∙◌, sym, ap, refl, ℕ, List, [], ◌∷◌, Option, Some, None}
-use Rattle.lx_words.specs.declared.token.TokenRule.{TokenRule}
-use Rattle.lx_words.specs.declared.token.TokenRule.TheVariants as rules
-use Rattle.lx_words.specs.declared.token.Token.{Token}
-use Rattle.lx_words.specs.declared.token.Stop.{Stop}
-use Rattle.lx_words.specs.Cuts.{Scans, OneWay}
+use Rattle.std.proofs.Common.{◌≡◌, ◌∙◌, sym, ℕ, List, [], ◌∷◌, Option, Some, None}
 use Rattle.lx_outside.specs.declared.file_text.FileText.{FileText}
 use Rattle.lx_script.specs.declared.case.Origin.{Origin}
 use Rattle.lx_script.specs.declared.case.Origin.TheVariants as origins
@@ -16,46 +11,20 @@ use Rattle.lx_generate.specs.Kernel.{kernel_text}
 use Rattle.lx_generate.specs.Interface.{interface_text}
 use Rattle.lx_ir.specs.declared.module.Module.{Module}
 use Rattle.lx_ir_calls.specs.declared.intrinsics.TextForm.TheVariants.{Program, Image}
-use Rattle.lx_ir_read.specs.Reading.{SaysModule, FirstFault}
+use Rattle.lx_ir_read.specs.Grammar.{IsModule}
+use Rattle.lx_ir_complete.specs.FaultOfText.{IsFirstFault}
 use Rattle.lx_annot.specs.declared.interface.Interface.{Interface}
-use Rattle.lx_annot_read.specs.Texts.{interface_at, SaysInterface, FirstInterfaceFault}
-use Rattle.lx_annot_read.specs.Faults.{answered}
 use Rattle.lx_files.specs.declared.line.FaultKind.TheVariants as kinds
 use Rattle.lx_files.specs.declared.line.FaultLine.{FaultLine}
 use Rattle.lx_files.specs.declared.sources.ImageFile.{ImageFile}
 use Rattle.lx_files.specs.declared.sources.Sources.{Sources}
 use Rattle.lx_files.specs.Asked.{Asked}
 use Rattle.lx_files.specs.Faults.{script_line, module_line}
-use Rattle.lx_files.specs.Dialects.{SaysEither, FirstEither, either_line}
+use Rattle.lx_files.specs.Dialects.{IsEither, FirstEither, either_line}
 use Rattle.lx_files.specs.Turns.{Asks, Reads, Tells, Then, Gives}
 use Rattle.lx_files.specs.Inputs.{NumberTurn, WordTurn, ModuleTurn, KernelTurn, InterfaceTurn, ModulesTurn, Before, ScheduleFileTurn, ScheduleTurn, ImageFileTurn, NamedImageTurn, ImageTurn, CaseTurn, BehindCase, BehindWord, BehindKernel, BehindInterface, BehindModules, BehindSchedule, SourcesTurn, sources, module_named, lacks_line, no_module, no_interface, builtin}
 use Rattle.lx_files.specs.Laws.{IsSure, IsOne, EndsAt}
 use Rattle.lx_files.proofs.Settled.{then_one, then_ends, gives_one, gives_ends, reads_one, reads_ends, tells_one, asks_one, asks_ends}
-
--- interfaces
-
-scans_one : (rule : TokenRule) (text : List ℕ) → OneWay rule text → (a b : List Token) (s t : Option Stop) → Scans rule text a s → Scans rule text b t → (a ≡ b) × (s ≡ t)
-scans_one rule text way a b None None x y = (way.whole a b x y, refl)
-scans_one rule text way a b None (Some t) x y = absurd (way.apart a b t x y)
-scans_one rule text way a b (Some s) None x y = absurd (way.apart b a s y x)
-scans_one rule text way a b (Some s) (Some t) x y = let same = way.stop a b s t x y in (same.0, ap Some same.1)
-
-pub interface_sure : ((text : List ℕ) → OneWay rules.Interface text) → IsSure SaysInterface FirstInterfaceFault
-interface_sure way = record {
-  value = λ text a b x y.
-      let same = scans_one rules.Interface text (way text) x.0 y.0 x.1 y.1 x.2 y.2 in
-      let reads = ap (λ (ts : List Token). interface_at text x.1 ts) same.0 ∙ ap (λ (s : Option Stop). interface_at text s y.0) same.1 in
-      cc (reads, x.3, y.3);
-  fault = λ text e f x y.
-      let same = scans_one rules.Interface text (way text) x.0 y.0 x.1 y.1 x.3 y.3 in
-      let reads = ap (λ (ts : List Token). interface_at text x.1 ts) same.0 ∙ ap (λ (s : Option Stop). interface_at text s y.0) same.1 in
-      let met : x.2 ≡ y.2 = cc (reads, x.4, y.4) in
-      x.5 ∙ ap answered met ∙ sym y.5;
-  apart = λ text a f x y.
-      let same = scans_one rules.Interface text (way text) x.0 y.0 x.1 y.1 x.2 y.3 in
-      let reads = ap (λ (ts : List Token). interface_at text x.1 ts) same.0 ∙ ap (λ (s : Option Stop). interface_at text s y.0) same.1 in
-      absurd (cc (reads, x.3, y.4));
-}
 
 -- texts and files
 
@@ -83,33 +52,33 @@ none_some a e = absurd (cc e)
 
 -- the turns of a command
 
-module _ (case_sure : IsSure SaysCase FirstCaseFault) (module_sure : IsSure (SaysModule Program) (FirstFault Program)) (image_sure : IsSure (SaysModule Image) (FirstFault Image))
-    (interface_sure : IsSure SaysEither FirstEither) (schedule_sure : IsSure SaysSchedule FirstScheduleFault) (files : List FileText) where
+module _ (case_sure : IsSure SaysCase FirstCaseFault) (module_sure : IsSure (IsModule Program) (IsFirstFault Program)) (image_sure : IsSure (IsModule Image) (IsFirstFault Image))
+    (interface_sure : IsSure IsEither FirstEither) (schedule_sure : IsSure SaysSchedule FirstScheduleFault) (files : List FileText) where
   module_one : (name : List ℕ) → IsOne (ModuleTurn files name)
-  module_one name = file_one (SaysModule Program) (FirstFault Program) module_sure (module_line name) files name
+  module_one name = file_one (IsModule Program) (IsFirstFault Program) module_sure (module_line name) files name
 
   module_ends : (name : List ℕ) → EndsAt files (ModuleTurn files name)
-  module_ends name = file_ends (SaysModule Program) (FirstFault Program) module_sure (module_line name) files name
+  module_ends name = file_ends (IsModule Program) (IsFirstFault Program) module_sure (module_line name) files name
 
   kernel_one : (origin : Origin) → IsOne (KernelTurn files origin)
   kernel_one origins.None = gives_one no_module
-  kernel_one origins.Builtin = text_one (SaysModule Program) (FirstFault Program) module_sure (module_line builtin) kernel_text
+  kernel_one origins.Builtin = text_one (IsModule Program) (IsFirstFault Program) module_sure (module_line builtin) kernel_text
   kernel_one (origins.File name) = module_one name
 
   kernel_ends : (origin : Origin) → EndsAt files (KernelTurn files origin)
   kernel_ends origins.None = gives_ends files no_module
-  kernel_ends origins.Builtin = reads_ends (SaysModule Program) (Tells (FirstFault Program) (module_line builtin)) kernel_text files
+  kernel_ends origins.Builtin = reads_ends (IsModule Program) (Tells (IsFirstFault Program) (module_line builtin)) kernel_text files
   kernel_ends (origins.File name) = module_ends name
 
   interface_one : (origin : Origin) → IsOne (InterfaceTurn files origin)
   interface_one origins.None = gives_one no_interface
-  interface_one origins.Builtin = text_one SaysEither FirstEither interface_sure (either_line builtin) interface_text
-  interface_one (origins.File name) = file_one SaysEither FirstEither interface_sure (either_line name) files name
+  interface_one origins.Builtin = text_one IsEither FirstEither interface_sure (either_line builtin) interface_text
+  interface_one (origins.File name) = file_one IsEither FirstEither interface_sure (either_line name) files name
 
   interface_ends : (origin : Origin) → EndsAt files (InterfaceTurn files origin)
   interface_ends origins.None = gives_ends files no_interface
-  interface_ends origins.Builtin = reads_ends SaysEither (Tells FirstEither (either_line builtin)) interface_text files
-  interface_ends (origins.File name) = file_ends SaysEither FirstEither interface_sure (either_line name) files name
+  interface_ends origins.Builtin = reads_ends IsEither (Tells FirstEither (either_line builtin)) interface_text files
+  interface_ends (origins.File name) = file_ends IsEither FirstEither interface_sure (either_line name) files name
 
   modules_one : (ms : List CaseModule) → IsOne (ModulesTurn files ms)
   modules_one [] = gives_one []
@@ -158,13 +127,13 @@ module _ (case_sure : IsSure SaysCase FirstCaseFault) (module_sure : IsSure (Say
   named_one : (name : List ℕ) → IsOne (NamedImageTurn files name)
   named_one name =
       then_one (ImageFileTurn files name) (λ x. Gives (record { file = name; text = x }))
-      (file_one (SaysModule Image) (FirstFault Image) image_sure (module_line name) files name) (λ x. gives_one (record { file = name; text = x }))
+      (file_one (IsModule Image) (IsFirstFault Image) image_sure (module_line name) files name) (λ x. gives_one (record { file = name; text = x }))
 
   named_ends : (name : List ℕ) → EndsAt files (NamedImageTurn files name)
   named_ends name =
       then_ends (ImageFileTurn files name) (λ x. Gives (record { file = name; text = x })) files
-      (file_one (SaysModule Image) (FirstFault Image) image_sure (module_line name) files name)
-      (file_ends (SaysModule Image) (FirstFault Image) image_sure (module_line name) files name) (λ x. gives_ends files (record { file = name; text = x }))
+      (file_one (IsModule Image) (IsFirstFault Image) image_sure (module_line name) files name)
+      (file_ends (IsModule Image) (IsFirstFault Image) image_sure (module_line name) files name) (λ x. gives_ends files (record { file = name; text = x }))
 
   image_one : (name : Option (List ℕ)) → IsOne (ImageTurn files name)
   image_one None = gives_one None

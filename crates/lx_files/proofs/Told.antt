@@ -11,8 +11,12 @@ use Rattle.lx_ir_read.specs.declared.fault.ReadFault.TheVariants as modules
 use Rattle.lx_ir_read.specs.Reading.{ModuleFails, FirstFault}
 use Rattle.lx_annot_read.specs.declared.fault.InterfaceFault.{InterfaceFault}
 use Rattle.lx_annot_read.specs.declared.fault.InterfaceFault.TheVariants as interfaces
-use Rattle.lx_annot_read.specs.Texts.{SaysInterface, InterfaceFails, FirstInterfaceFault}
-use Rattle.lx_cproto.specs.Texts.{SaysPrototypes, PrototypesFail, FirstPrototypeFault}
+use Rattle.lx_annot_read.specs.Texts.{InterfaceFails, FirstInterfaceFault}
+use Rattle.lx_cproto.specs.Texts.{PrototypesFail, FirstPrototypeFault}
+use Rattle.lx_annot_grammar.specs.Statements.{IsInterface}
+use Rattle.lx_cproto_grammar.specs.Declarations.{ArePrototypes}
+use Rattle.lx_ir_complete.specs.FaultOfText.{FirstFaultsAreTold}
+use Rattle.lx_annot_laws.specs.FaultOfText.{IsFirstInterfaceFault, IsFirstPrototypeFault, InterfaceFaultsAreTold, PrototypeFaultsAreTold}
 use Rattle.lx_files.specs.declared.line.FaultKind.{FaultKind}
 use Rattle.lx_files.specs.declared.line.FaultKind.TheVariants as kinds
 use Rattle.lx_files.specs.declared.line.FaultLine.{FaultLine}
@@ -78,22 +82,22 @@ schedule_told file text e stops.Memory fails told = tt
 schedule_told file text e (stops.Fault f) fails told = (e, schedule_first text kinds.Schedule file e f fails told, told)
 schedule_told file text e (stops.Unread name) fails told = absurd told
 
-pub module_told : (file text : List ℕ) (e : ReadFault) (s : InputStop) → ModuleFails Program text e → IsTold (module_line file e) s → ReadsModule file text (Err s)
-module_told file text e stops.Memory fails told = tt
-module_told file text e (stops.Fault f) fails told = (e, module_first Program text file e f fails told, told)
-module_told file text e (stops.Unread name) fails told = absurd told
+pub module_told : FirstFaultsAreTold → (file text : List ℕ) (e : ReadFault) (s : InputStop) → ModuleFails Program text e → IsTold (module_line file e) s → ReadsModule file text (Err s)
+module_told law file text e stops.Memory fails told = tt
+module_told law file text e (stops.Fault f) fails told = (e, law Program text e (module_first Program text file e f fails told), told)
+module_told law file text e (stops.Unread name) fails told = absurd told
 
-pub image_told : (file text : List ℕ) (e : ReadFault) (s : InputStop) → ModuleFails Image text e → IsTold (module_line file e) s → ReadsImage file text (Err s)
-image_told file text e stops.Memory fails told = tt
-image_told file text e (stops.Fault f) fails told = (e, module_first Image text file e f fails told, told)
-image_told file text e (stops.Unread name) fails told = absurd told
+pub image_told : FirstFaultsAreTold → (file text : List ℕ) (e : ReadFault) (s : InputStop) → ModuleFails Image text e → IsTold (module_line file e) s → ReadsImage file text (Err s)
+image_told law file text e stops.Memory fails told = tt
+image_told law file text e (stops.Fault f) fails told = (e, law Image text e (module_first Image text file e f fails told), told)
+image_told law file text e (stops.Unread name) fails told = absurd told
 
-pub interface_told : (file text : List ℕ) (kind : FaultKind) (e : InterfaceFault) (s : InputStop) → InterfaceFails text e → IsTold (interface_line kind file e) s → Reads SaysInterface (Tells FirstInterfaceFault (interface_line kind file)) text (Err s)
-interface_told file text kind e stops.Memory fails told = tt
-interface_told file text kind e (stops.Fault f) fails told = (e, interface_first text kind file e f fails told, told)
-interface_told file text kind e (stops.Unread name) fails told = absurd told
+pub interface_told : InterfaceFaultsAreTold → (file text : List ℕ) (kind : FaultKind) (e : InterfaceFault) (s : InputStop) → InterfaceFails text e → IsTold (interface_line kind file e) s → Reads IsInterface (Tells IsFirstInterfaceFault (interface_line kind file)) text (Err s)
+interface_told law file text kind e stops.Memory fails told = tt
+interface_told law file text kind e (stops.Fault f) fails told = (e, law text e (interface_first text kind file e f fails told), told)
+interface_told law file text kind e (stops.Unread name) fails told = absurd told
 
-pub prototypes_told : (file text : List ℕ) (kind : FaultKind) (e : InterfaceFault) (s : InputStop) → PrototypesFail text e → IsTold (interface_line kind file e) s → Reads SaysPrototypes (Tells FirstPrototypeFault (interface_line kind file)) text (Err s)
-prototypes_told file text kind e stops.Memory fails told = tt
-prototypes_told file text kind e (stops.Fault f) fails told = (e, prototype_first text kind file e f fails told, told)
-prototypes_told file text kind e (stops.Unread name) fails told = absurd told
+pub prototypes_told : PrototypeFaultsAreTold → (file text : List ℕ) (kind : FaultKind) (e : InterfaceFault) (s : InputStop) → PrototypesFail text e → IsTold (interface_line kind file e) s → Reads ArePrototypes (Tells IsFirstPrototypeFault (interface_line kind file)) text (Err s)
+prototypes_told law file text kind e stops.Memory fails told = tt
+prototypes_told law file text kind e (stops.Fault f) fails told = (e, law text e (prototype_first text kind file e f fails told), told)
+prototypes_told law file text kind e (stops.Unread name) fails told = absurd told

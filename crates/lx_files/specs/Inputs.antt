@@ -11,7 +11,8 @@ use Rattle.lx_script.specs.Grammar.{SaysCase, FirstCaseFault}
 use Rattle.lx_script.specs.Schedule.{Reads as SaysSchedule, FirstScheduleFault}
 use Rattle.lx_ir.specs.declared.module.Module.{Module}
 use Rattle.lx_ir_calls.specs.declared.intrinsics.TextForm.TheVariants.{Program, Image}
-use Rattle.lx_ir_read.specs.Reading.{SaysModule, FirstFault}
+use Rattle.lx_ir_read.specs.Grammar.{IsModule}
+use Rattle.lx_ir_complete.specs.FaultOfText.{IsFirstFault}
 use Rattle.lx_annot.specs.declared.interface.Interface.{Interface}
 use Rattle.lx_files.specs.declared.line.FaultKind.TheVariants as kinds
 use Rattle.lx_files.specs.declared.line.FaultLine.{FaultLine}
@@ -20,23 +21,23 @@ use Rattle.lx_files.specs.declared.sources.ImageFile.{ImageFile}
 use Rattle.lx_files.specs.declared.sources.Sources.{Sources}
 use Rattle.lx_files.specs.Asked.{Asked}
 use Rattle.lx_files.specs.Faults.{fault_at, script_line, module_line}
-use Rattle.lx_files.specs.Dialects.{SaysEither, FirstEither, either_line}
+use Rattle.lx_files.specs.Dialects.{IsEither, FirstEither, either_line}
 use Rattle.lx_files.specs.Turns.{Asks, Reads, Tells, Then, Gives}
 
--- Texts of a file.
+-- Texts of a file: what they are by their grammar, or their first fault.
 
 abbrev pub ReadsCase : List ℕ → List ℕ → Result Case InputStop → Type 0
 ReadsCase file text answer = Reads SaysCase (Tells FirstCaseFault (script_line kinds.Case file)) text answer
 
 abbrev pub ReadsModule : List ℕ → List ℕ → Result Module InputStop → Type 0
-ReadsModule file text answer = Reads (SaysModule Program) (Tells (FirstFault Program) (module_line file)) text answer
+ReadsModule file text answer = Reads (IsModule Program) (Tells (IsFirstFault Program) (module_line file)) text answer
 
 -- an image is read in a form of its own
 abbrev pub ReadsImage : List ℕ → List ℕ → Result Module InputStop → Type 0
-ReadsImage file text answer = Reads (SaysModule Image) (Tells (FirstFault Image) (module_line file)) text answer
+ReadsImage file text answer = Reads (IsModule Image) (Tells (IsFirstFault Image) (module_line file)) text answer
 
 abbrev pub ReadsInterface : List ℕ → List ℕ → Result Interface InputStop → Type 0
-ReadsInterface file text answer = Reads SaysEither (Tells FirstEither (either_line file)) text answer
+ReadsInterface file text answer = Reads IsEither (Tells FirstEither (either_line file)) text answer
 
 abbrev pub ReadsSchedule : List ℕ → List ℕ → Result (List ℕ) InputStop → Type 0
 ReadsSchedule file text answer = Reads SaysSchedule (Tells FirstScheduleFault (script_line kinds.Schedule file)) text answer

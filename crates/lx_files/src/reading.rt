@@ -7,20 +7,23 @@ ghost use Rattle.lx_files.specs.Inputs.{ReadsCase, ReadsImage, ReadsInterface, R
 ghost use Rattle.lx_files.specs.Sound.{IsSoundModule};
 ghost use Rattle.lx_files.specs.Turns.{Reads, Tells, most_bytes};
 ghost use Rattle.lx_files.specs.Faults.{interface_line};
-ghost use Rattle.lx_annot_read.specs.Texts.{FirstInterfaceFault, SaysInterface};
-ghost use Rattle.lx_cproto.specs.Texts.{FirstPrototypeFault, SaysPrototypes};
+ghost use Rattle.lx_annot_grammar.specs.Statements.{IsInterface};
+ghost use Rattle.lx_annot_laws.specs.FaultOfText.{IsFirstInterfaceFault, IsFirstPrototypeFault};
+ghost use Rattle.lx_cproto_grammar.specs.Declarations.{ArePrototypes};
 ghost use Rattle.lx_annot.specs.Lawful.{IsLawfulInterface};
 
 use crate::line::FaultKind;
 use crate::stop::{InputStop, interface_stop, module_stop, script_stop};
 use lx_annot::interface::Interface;
-use lx_annot_grammar::lawful_laws;
+use lx_annot_grammar::{interface_laws, lawful_laws};
+use lx_annot_laws::first_interface_fault_laws;
 use lx_annot_read::read_interface;
 use lx_cproto::{is_cproto, read_cproto};
-use lx_cproto_grammar::lawful_prototype_laws;
+use lx_cproto_grammar::{lawful_prototype_laws, prototype_laws};
 use lx_ir::module::Module;
+use lx_ir_complete::first_fault_laws;
 use lx_ir_lawful::whole_laws;
-use lx_ir_read::{TextForm, read_module};
+use lx_ir_read::{TextForm, module_laws, read_module};
 use lx_script::{Case, read_case, read_schedule};
 use lx_words::Schedule;
 use std::alloc::Global;
@@ -38,63 +41,67 @@ pub fn case_of_text(alloc: Global, file: &[u8], text: &[u8]) -> Result<Case, Inp
     }
 }
 
-/// The module that the text of a file says.
-#[tactic(auto, using(crate::proofs::Told::module_told))]
+/// The module that the text of a file is.
 pub fn module_of_text(alloc: Global, file: &[u8], text: &[u8]) -> Result<Module, InputStop>
     requires { length text.now ≤ most_bytes }
     ensures reads { ReadsModule file.now text.now result }
     ensures sound { IfOk result IsSoundModule }
 {
     whole_laws();
+    module_laws();
+    first_fault_laws();
     match read_module(alloc, TextForm::Program, text) {
         Ok(module) => Ok(module),
         Err(fault) => Err(module_stop(alloc, file, fault)),
     }
 }
 
-/// The image that the text of a file says.
-#[tactic(auto, using(crate::proofs::Told::image_told))]
+/// The image that the text of a file is.
 pub fn image_of_text(alloc: Global, file: &[u8], text: &[u8]) -> Result<Module, InputStop>
     requires { length text.now ≤ most_bytes }
     ensures reads { ReadsImage file.now text.now result }
     ensures lawful { IfOk result IsLawful }
 {
     whole_laws();
+    module_laws();
+    first_fault_laws();
     match read_module(alloc, TextForm::Image, text) {
         Ok(image) => Ok(image),
         Err(fault) => Err(module_stop(alloc, file, fault)),
     }
 }
 
-/// The interface that the text of a file says in statements.
-#[tactic(auto, using(crate::proofs::Told::interface_told))]
+/// The interface that the text of a file is in statements.
 fn statements_of_text(alloc: Global, file: &[u8], text: &[u8]) -> Result<Interface, InputStop>
     requires { length text.now ≤ most_bytes }
-    ensures reads { Reads SaysInterface (Tells FirstInterfaceFault (interface_line FaultKind.Interface file.now)) text.now result }
+    ensures reads { Reads IsInterface (Tells IsFirstInterfaceFault (interface_line FaultKind.Interface file.now)) text.now result }
     ensures lawful { IfOk result IsLawfulInterface }
 {
     lawful_laws();
+    interface_laws();
+    first_interface_fault_laws();
     match read_interface(alloc, text) {
         Ok(interface) => Ok(interface),
         Err(fault) => Err(interface_stop(alloc, FaultKind::Interface, file, fault)),
     }
 }
 
-/// The interface that the text of a file says in prototypes.
-#[tactic(auto, using(crate::proofs::Told::prototypes_told))]
+/// The interface that the text of a file is in prototypes.
 fn prototypes_of_text(alloc: Global, file: &[u8], text: &[u8]) -> Result<Interface, InputStop>
     requires { length text.now ≤ most_bytes }
-    ensures reads { Reads SaysPrototypes (Tells FirstPrototypeFault (interface_line FaultKind.Cproto file.now)) text.now result }
+    ensures reads { Reads ArePrototypes (Tells IsFirstPrototypeFault (interface_line FaultKind.Cproto file.now)) text.now result }
     ensures lawful { IfOk result IsLawfulInterface }
 {
     lawful_prototype_laws();
+    prototype_laws();
+    first_interface_fault_laws();
     match read_cproto(alloc, text) {
         Ok(interface) => Ok(interface),
         Err(fault) => Err(interface_stop(alloc, FaultKind::Cproto, file, fault)),
     }
 }
 
-/// The interface that the text of a file says, in the dialect that its first line tells.
+/// The interface that the text of a file is, in the dialect that its first line tells.
 pub fn interface_of_text(alloc: Global, file: &[u8], text: &[u8]) -> Result<Interface, InputStop>
     requires { length text.now ≤ most_bytes }
     ensures reads { ReadsInterface file.now text.now result }

@@ -15,12 +15,13 @@ use crate::turns::{
     word_turn,
 };
 use lx_annot::interface::Interface;
+use lx_annot_grammar::interface_laws;
 use lx_cproto_grammar::prototype_laws;
 use lx_ir::module::Module;
-use lx_ir_read::module_laws;
+use lx_ir_complete::{first_fault_laws, module_is_read_laws};
 use lx_outside::Shelf;
 use lx_script::{Case, one_case, one_schedule};
-use lx_words::{Name, Schedule, one_way};
+use lx_words::{Name, Schedule};
 use std::alloc::Global;
 
 /// What a command asks for besides its case: a module by its name in the case, a schedule and an image by the names of their
@@ -124,7 +125,8 @@ pub fn file_laws()
 {
     one_case();
     one_schedule();
-    module_laws();
-    one_way();
+    module_is_read_laws();
+    first_fault_laws();
+    interface_laws();
     prototype_laws();
 }

@@ -1,6 +1,7 @@
 use Rattle.std.proofs.lemmas.Result.{err_from_is_err_and}
 use Rattle.lx_ir_calls.specs.declared.intrinsics.TextForm.TheVariants.{Program}
-use Rattle.lx_ir_read.specs.Reading.{SaysModule, FirstFault}
+use Rattle.lx_ir_read.specs.Grammar.{IsModule}
+use Rattle.lx_ir_complete.specs.FaultOfText.{IsFirstFault}
 use Rattle.lx_files.specs.Faults.{module_line}
 use Rattle.lx_files.specs.Turns.{Tells}
 use Rattle.lx_files.proofs.Parts.{file_memory}
@@ -9,4 +10,4 @@ use Rattle.lx_files.proofs.turns.module_turn.Goals as goal
 pub returns-in_err-file : goal.returns-in_err-file
 returns-in_err-file g c =
     let p = err_from_is_err_and c.from_residual.result c.from_residual.ensures.1 in
-    rw (p.1, p.2) (record { sound = tt; turn = file_memory (SaysModule Program) (Tells (FirstFault Program) (module_line c.args.name.now)) c.args.name.now (g.S.Shelf.files c.args.shelf.now) (g.S.Shelf.faults c.args.shelf.now) })
+    rw (p.1, p.2) (record { sound = tt; turn = file_memory (IsModule Program) (Tells (IsFirstFault Program) (module_line c.args.name.now)) c.args.name.now (g.S.Shelf.files c.args.shelf.now) (g.S.Shelf.faults c.args.shelf.now) })
