@@ -17,6 +17,8 @@ mod certificates;
 #[cfg(test)]
 mod common;
 #[cfg(test)]
+mod counted;
+#[cfg(test)]
 mod memory;
 #[cfg(test)]
 mod nodes;

@@ -143,7 +143,7 @@ static CASES: [Case; 11] = [
 ];
 
 /// Whether these are the ranges.
-fn are_ranges(listed: &[Cap], ranges: &[(u64, u64)]) -> bool {
+pub fn are_ranges(listed: &[Cap], ranges: &[(u64, u64)]) -> bool {
     listed.len() == ranges.len()
         && listed.iter().zip(ranges).all(|(cap, (at, size))| {
             *cap == Cap::Write {
