@@ -186,7 +186,7 @@ call 0.3 kernel:do_probe refused 9 m[0x1000038] alias 0x1000038 0x1000020
 "
 }
 
-/// Calls by an address and through slots over the built-in kernel.
+/// Calls by an address and through slots over the built-in kernel, and a slot of a kernel of its own that two instances write.
 pub fn slot_cases() -> &'static str {
     "---- a bent slot
 ---- case
@@ -252,6 +252,75 @@ call m:main fuel 100
 status 1
 call 0.0 m:wild refused 2 m.shared call 0x10100
 call 0.1 m:main returned 42
+---- two writers of a slot, of which the first does not hold the call of what is in it
+---- file writers_kernel.ll
+@cell = global ptr null
+declare void @k.slot.go(ptr)
+define void @target() {
+ret void
+}
+define void @by(ptr %s) {
+call void @k.slot.go(ptr %s)
+ret void
+}
+---- file writers.txt
+interface 1
+slot holder : void (ptr d, ptr s) principal(d) pre(copy(write, s, 8)) pre(copy(call, 65632))
+slot writer : void (ptr d, ptr s) principal(d) pre(copy(write, s, 8))
+slot go : void ()
+field %struct.t 0 : holder
+field %struct.t 1 : writer
+export target : void ()
+---- file writers.ll
+%struct.t = type { ptr, ptr }
+@table = global %struct.t { ptr @holder, ptr @writer }
+define void @holder(ptr %d, ptr %s) {
+store ptr inttoptr (i64 65632 to ptr), ptr %s
+ret void
+}
+define void @writer(ptr %d, ptr %s) {
+ret void
+}
+---- case
+lxfi case 1
+kernel file writers_kernel.ll
+interface file writers.txt
+module m writers.ll
+thread
+call m:writer 1 &kernel:cell fuel 100
+call m:holder 2 &kernel:cell fuel 100
+call kernel:by &kernel:cell fuel 100
+---- lines
+status 1
+call 0.0 m:writer returned
+call 0.1 m:holder returned
+call 0.2 kernel:by refused 6 m[0x1] call 0x10060 slot 0x1000000
+---- and of which the second does not
+---- case
+lxfi case 1
+kernel file writers_kernel.ll
+interface file writers.txt
+module m writers.ll
+thread
+call m:holder 1 &kernel:cell fuel 100
+call m:writer 2 &kernel:cell fuel 100
+call kernel:by &kernel:cell fuel 100
+---- lines
+status 1
+call 0.2 kernel:by refused 6 m[0x2] call 0x10060 slot 0x1000000
+---- and of which both hold it
+---- case
+lxfi case 1
+kernel file writers_kernel.ll
+interface file writers.txt
+module m writers.ll
+thread
+call m:holder 1 &kernel:cell fuel 100
+call m:holder 2 &kernel:cell fuel 100
+call kernel:by &kernel:cell fuel 100
+---- lines
+status 0
+call 0.2 kernel:by returned
 "
 }
 
