@@ -89,24 +89,22 @@ module _ (texts : NumberTexts) where
       → StandAll (draft (done ++ (last ++ calls_from n row js) ∷ [])) more new → StandAll (draft (done ++ last ∷ [])) (call_statements n row js ++ more) new
   calls_stand n row [] done last more new few below calls fuel h = subst (λ l. StandAll (draft (done ++ l ∷ [])) more new) (append-nil last) h
   calls_stand n row (j ∷ js) done last more new few below calls fuel h =
-      let c : CaseCall = call_of n row j in
-      (
+      let c : CaseCall = call_of n row j in (
         draft (done ++ (last ++ c ∷ []) ∷ []),
         call_stands n row j done last (omega (arith, few, below.0)) (omega (arith, calls)) (omega (arith, fuel)),
         calls_stand n (row + 1) js done (last ++ c ∷ []) more new few below.1 (omega (arith, calls, count_last done last, count_last done (last ++ c ∷ []), length-append last (c ∷ []))) (omega (arith, fuel, fuel_last done last, fuel_last done (last ++ c ∷ []), fuel_more last c))
-        (subst (λ l. StandAll (draft (done ++ l ∷ [])) more new) (sym (append_assoc last (c ∷ []) (calls_from n (row + 1) js))) h),
+            (subst (λ l. StandAll (draft (done ++ l ∷ [])) more new) (sym (append_assoc last (c ∷ []) (calls_from n (row + 1) js))) h),
       )
 
   -- a thread behind others
   thread_stands : (n row : ℕ) (js : List ℕ) (done : List (List CaseCall)) (more : List Statement) (new : Draft)
       → length done < 16 → n ≤ 4096 → AreBelow n js → call_count done + length js ≤ 4096 → fuel_sum done + 100 * length js ≤ 1048576
       → StandAll (draft (done ++ calls_from n (row + 1) js ∷ [])) more new → StandAll (draft done) (statement row (codes "thread" ∷ []) ∷ (call_statements n (row + 1) js ++ more)) new
-  thread_stands n row js done more new room few below calls fuel h =
-      (
-        draft (done ++ [] ∷ []),
-        inr (inl (record { has = (refl, refl); room = room; is = refl })),
-        calls_stand n (row + 1) js done [] more new few below (omega (arith, calls, count_last done [])) (omega (arith, fuel, fuel_last done [])) h,
-      )
+  thread_stands n row js done more new room few below calls fuel h = (
+    draft (done ++ [] ∷ []),
+    inr (inl (record { has = (refl, refl); room = room; is = refl })),
+    calls_stand n (row + 1) js done [] more new few below (omega (arith, calls, count_last done [])) (omega (arith, fuel, fuel_last done [])) h,
+  )
 
   -- The text.
 
@@ -182,10 +180,9 @@ module _ (texts : NumberTexts) where
     version_has = (refl, refl);
     kernel_has = (refl, refl);
     interface_has = (refl, refl);
-    body_stands =
-        (
-          draft [],
-          inl (record { name = codes "gen"; file = codes "gen.ll"; has = (refl, refl); no_thread = refl; room = omega arith; named = refl; first = refl; is = refl }),
-          threads_stand n few,
-        );
+    body_stands = (
+      draft [],
+      inl (record { name = codes "gen"; file = codes "gen.ll"; has = (refl, refl); no_thread = refl; room = omega arith; named = refl; first = refl; is = refl }),
+      threads_stand n few,
+    );
   }
