@@ -7,7 +7,7 @@ use Rattle.lx_outside.specs.declared.file_text.FileText.{FileText}
 use Rattle.lx_input.specs.Files.Asked.{Asked, AreThere}
 use Rattle.lx_input.specs.Inputs.{InputTurn}
 use Rattle.lx_input.specs.declared.input.Input.{Input}
-use Rattle.lx_cli.specs.Command.{Command, Run, Replay, Instrument, Check, Generate, Surface, Why, CommandTurn, asked_of, case_of, count_asked, generated_files}
+use Rattle.lx_cli.specs.Command.{Command, Run, Replay, Instrument, Check, Generate, Surface, Why, CommandTurn, MayCome, UntoldBy, UntoldTurn, asked_of, case_of, count_asked, generated_files}
 use Rattle.lx_cli.specs.declared.answer.Answer.{Answer}
 use Rattle.lx_cli.specs.declared.answer.Answer.TheVariants as answer
 use Rattle.lx_runs.specs.Reports.{TellsRun}
@@ -146,3 +146,12 @@ shelf_turn files (Why case schedule) a is tells = tells
 
 pub not_generated : (c : Command) (count : ℕ) → count_asked c ≡ None → c ≡ Generate count → ⊥
 not_generated c count none is = let some : count_asked c ≡ Some count = ap count_asked is in absurd cc
+
+-- the same, where the shelf does not tell its files
+
+pub untold_own : (c : Command) (count : ℕ) (before now : List (List ℕ)) (a : Answer) → count_asked c ≡ Some count → TellsInput (Some c) (InputTurn (generated_files count) (case_of c) (asked_of c)) a
+    → TellsInput (Some c) (UntoldTurn (Some c) before now) a
+untold_own c count before now a is tells = subst (λ (o : Option ℕ). TellsInput (Some c) (UntoldBy o c before now) a) (sym is) tells
+
+pub untold_shelf : (c : Command) (before now : List (List ℕ)) (a : Answer) → count_asked c ≡ None → TellsInput (Some c) (MayCome (asked_of c) before now) a → TellsInput (Some c) (UntoldTurn (Some c) before now) a
+untold_shelf c before now a is tells = subst (λ (o : Option ℕ). TellsInput (Some c) (UntoldBy o c before now) a) (sym is) tells

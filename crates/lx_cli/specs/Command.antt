@@ -1,11 +1,13 @@
 -- What a command reads, and what its files come to.
-use Rattle.std.specs.Prelude.{◌≡◌, ℕ, List, [], ◌∷◌, codes, Option, Some, None, Result}
+use Rattle.std.specs.Prelude.{◌≡◌, ℕ, List, [], ◌∷◌, codes, Option, Some, None, Result, IfOk}
 use Rattle.lx_outside.specs.declared.file_text.FileText.{FileText}
 use Rattle.lx_generate.specs.Generated.{case_text, module_text}
-use Rattle.lx_input.specs.Files.Asked.{Asked, nothing}
+use Rattle.lx_input.specs.Files.Asked.{Asked, AreThere, nothing}
 use Rattle.lx_input.specs.Files.InputStop.{InputStop}
+use Rattle.lx_input.specs.Files.Turns.{HasNoted}
 use Rattle.lx_input.specs.declared.input.Input.{Input}
 use Rattle.lx_input.specs.Inputs.{InputTurn}
+use Rattle.lx_input.specs.Laws.{IsReady}
 pub use Rattle.lx_cli.specs.Words.{Command, Run, Replay, Instrument, Check, Generate, Surface, Why, command_of, said, texts}
 
 -- the files of a case that is generated
@@ -59,6 +61,22 @@ CommandTurn files (Some c) answer = InputTurn (files_of files c) (case_of c) (as
 -- what the words and the files come to: a program with its script, a first fault, or a file that is asked for and may not be read
 abbrev pub ComesTo : List (List ℕ) → List FileText → Result Input InputStop → Type 0
 ComesTo words files answer = CommandTurn files (command_of words) answer
+
+-- what the files of a shelf may come to that does not tell them, where its faults were `before` and are `now`: an input, as it is linked and
+-- verified, with what is asked for, or what ended it
+pub record MayCome (asked : Asked) (before now : List (List ℕ)) (came : Result Input InputStop) : Type 0 where
+  pub noted : HasNoted before now came
+  pub ready : IfOk came IsReady
+  pub there : IfOk came (λ i. AreThere asked i.besides)
+
+-- so it is of a command's files; those of a case that is generated are known
+abbrev pub UntoldBy : Option ℕ → Command → List (List ℕ) → List (List ℕ) → Result Input InputStop → Type 0
+UntoldBy None c before now came = MayCome (asked_of c) before now came
+UntoldBy (Some count) c before now came = InputTurn (generated_files count) (case_of c) (asked_of c) came
+
+abbrev pub UntoldTurn : Option Command → List (List ℕ) → List (List ℕ) → Result Input InputStop → Type 0
+UntoldTurn None before now came = ⊥
+UntoldTurn (Some c) before now came = UntoldBy (count_asked c) c before now came
 
 -- the words run a case under a schedule of the program's choice
 abbrev pub IsRun : List (List ℕ) → Type 0

@@ -10,7 +10,7 @@ ghost use Rattle.lx_input.specs.Files.Asked.{AreThere};
 ghost use Rattle.lx_input.specs.Inputs.{InputTurn};
 ghost use Rattle.lx_input.specs.Laws.{IsReady};
 ghost use Rattle.lx_cli.specs.Answer.{BrokenBy, EndedBy, RefusedBy, unread_line, usage_line};
-ghost use Rattle.lx_cli.specs.Command.{CommandTurn, ComesTo, Generate, IsGenerated, IsRun, asked_of, case_of, command_of, files_by, generated_files, said, texts};
+ghost use Rattle.lx_cli.specs.Command.{CommandTurn, ComesTo, Generate, IsGenerated, IsRun, MayCome, UntoldTurn, asked_of, case_of, command_of, files_by, generated_files, said, texts};
 ghost use Rattle.lx_cli.specs.Rows.{Wrote, FellShort, Headline, NoNewFault};
 ghost use Rattle.lx_cli.specs.Told.{TellsInput, TellsOf, TellsRunOf, TellsWhyOf};
 
@@ -126,6 +126,7 @@ fn answer_to<R: Threads + Wait + Sync, S: Shelf, G: Gate + Sync>(
 ) -> Result<Answer, Memory>
     ensures answer { IfOk result (λ a. (files : List FileText) → S.files shelf.old ≡ Some files
         → TellsInput (Some (said command.entry)) (InputTurn files (case_of (said command.entry)) (asked_of (said command.entry))) a) }
+    ensures untold { IfOk result (TellsInput (Some (said command.entry)) (MayCome (asked_of (said command.entry)) (S.faults shelf.old) (S.faults shelf.new))) }
     ensures unread { (file : List ℕ) → result ≡ Ok (Answer.Unread file) → S.faults shelf.new ≡ S.faults shelf.old ++ file ∷ [] }
 {
     match read_input(host.alloc, shelf, case_of(command), asked_of(command)) {
@@ -162,6 +163,7 @@ fn answer_of<R: Threads + Wait + Sync, S: Shelf, G: Gate + Sync>(
 ) -> Result<Answer, Memory>
     ensures answer { IfOk result (λ a. (files : List FileText) → S.files shelf.old ≡ Some files
         → TellsInput (Some (said command.entry)) (CommandTurn files (Some (said command.entry))) a) }
+    ensures untold { IfOk result (TellsInput (Some (said command.entry)) (UntoldTurn (Some (said command.entry)) (S.faults shelf.old) (S.faults shelf.new))) }
     ensures unread { (file : List ℕ) → result ≡ Ok (Answer.Unread file) → S.faults shelf.new ≡ S.faults shelf.old ++ file ∷ [] }
     ensures generated { (count : ℕ) → said command.entry ≡ Generate count → shelf.new ≡ shelf.old }
 {
@@ -189,9 +191,14 @@ pub fn lxfi<R: Threads + Wait + Sync, S: Shelf, K: Sink, G: Gate + Sync>(
 
     // Every status but 5 and 6 comes with its whole text, 5 with a proper prefix of one, and 6 with nothing.
     ensures wrote { result ≢ 5 → result ≢ 6 → (files : List FileText) (told : List ℕ) → S.files shelf.old ≡ Some files → K.bytes sink.old ≡ Some told
-        → Wrote (texts words.now) files (S.faults shelf.old) (S.faults shelf.new) told (K.bytes sink.new) result }
+        → Wrote (texts words.now) (ComesTo (texts words.now) files) (S.faults shelf.old) (S.faults shelf.new) told (K.bytes sink.new) result }
     ensures short { result ≡ 5 → (files : List FileText) (told : List ℕ) → S.files shelf.old ≡ Some files → K.bytes sink.old ≡ Some told
-        → FellShort (texts words.now) files (S.faults shelf.old) (S.faults shelf.new) told (K.bytes sink.new) }
+        → FellShort (texts words.now) (ComesTo (texts words.now) files) (S.faults shelf.old) (S.faults shelf.new) told (K.bytes sink.new) }
+    // So it is where the shelf does not tell its files, for what they may have come to.
+    ensures wrote_untold { result ≢ 5 → result ≢ 6 → (told : List ℕ) → K.bytes sink.old ≡ Some told
+        → Wrote (texts words.now) (UntoldTurn (command_of (texts words.now)) (S.faults shelf.old) (S.faults shelf.new)) (S.faults shelf.old) (S.faults shelf.new) told (K.bytes sink.new) result }
+    ensures short_untold { result ≡ 5 → (told : List ℕ) → K.bytes sink.old ≡ Some told
+        → FellShort (texts words.now) (UntoldTurn (command_of (texts words.now)) (S.faults shelf.old) (S.faults shelf.new)) (S.faults shelf.old) (S.faults shelf.new) told (K.bytes sink.new) }
     ensures nothing { result ≡ 6 → K.bytes sink.new ≡ K.bytes sink.old }
 
     // When each status comes, and there are no others. No command takes no memory, whatever the shelf has.

@@ -1,6 +1,6 @@
 use Rattle.std.proofs.Common.{sym}
 use Rattle.lx_cli.specs.Command.{said}
-use Rattle.lx_cli.proofs.Telling.{if_ok, generated_turn, shelf_turn, not_generated}
+use Rattle.lx_cli.proofs.Telling.{if_ok, generated_turn, shelf_turn, not_generated, untold_own, untold_shelf}
 use Rattle.lx_cli.proofs.top.answer_of.Goals as goal
 
 pub returns-in-Some-clause-answer : goal.returns-in-Some-clause-answer
@@ -16,3 +16,15 @@ returns-in-None-clause-answer g c =
 
 pub returns-in-None-clause-generated : goal.returns-in-None-clause-generated
 returns-in-None-clause-generated g c = λ count is. absurd (not_generated (said c.args.command) count (sym c.in-None.ensures) is)
+
+pub returns-in-Some-clause-untold : goal.returns-in-Some-clause-untold
+returns-in-Some-clause-untold g c =
+    if_ok c.answer_generated.result
+    (λ a tells. untold_own (said c.args.command) c.in-Some.count (g.S.Shelf.faults c.args.shelf.now) (g.S.Shelf.faults c.args.shelf.now) a (sym c.in-Some.ensures) tells)
+    c.answer_generated.ensures.answer
+
+pub returns-in-None-clause-untold : goal.returns-in-None-clause-untold
+returns-in-None-clause-untold g c =
+    if_ok c.answer_to.result
+    (λ a tells. untold_shelf (said c.args.command) (g.S.Shelf.faults c.args.shelf.now) (g.S.Shelf.faults c.answer_to.new.shelf) a (sym c.in-None.ensures) tells)
+    c.answer_to.ensures.untold

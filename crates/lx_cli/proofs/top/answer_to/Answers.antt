@@ -3,7 +3,7 @@ use Rattle.lx_input.specs.Files.InputStop.{InputStop}
 use Rattle.lx_input.specs.Files.Asked.{Asked, AreThere, asked_by}
 use Rattle.lx_input.specs.declared.input.Input.{Input}
 use Rattle.lx_input.specs.Inputs.{InputTurn}
-use Rattle.lx_cli.specs.Command.{asked_of, case_of, said}
+use Rattle.lx_cli.specs.Command.{MayCome, asked_of, case_of, said}
 use Rattle.lx_cli.specs.declared.answer.Answer.TheVariants as answer
 use Rattle.lx_cli.specs.Told.{TellsInput, TellsOf}
 use Rattle.lx_cli.proofs.Telling.{if_ok, told_input, told_stop, noted_stop, names_none, moved_turn, if_ok_at}
@@ -35,3 +35,16 @@ pub returns-in-Err-clause-unread : goal.returns-in-Err-clause-unread
 returns-in-Err-clause-unread g c = λ file is.
     noted_stop (g.S.Shelf.faults c.args.shelf.now) (g.S.Shelf.faults c.read_input.new.shelf) c.in-Err.stop (answer.Unread file) file c.in-Err.ensures.noted
     (if_ok_at (TellsInput None (λ (came : Result Input InputStop). came ≡ Err c.in-Err.stop)) c.stopped.result (answer.Unread file) c.stopped.ensures is) refl
+
+pub returns-in-Ok-clause-untold : goal.returns-in-Ok-clause-untold
+returns-in-Ok-clause-untold g c =
+    let there = subst (λ (q : Asked). AreThere q c.in-Ok.input.besides) c.asked_of.ensures c.in-Ok.ensures.there in
+    if_ok c.answer_input.result (λ a tells.
+    told_input (said c.args.command) (MayCome (asked_of (said c.args.command)) (g.S.Shelf.faults c.args.shelf.now) (g.S.Shelf.faults c.read_input.new.shelf)) c.in-Ok.input a there
+    (record { noted = c.in-Ok.ensures.noted; ready = c.in-Ok.ensures.ready; there = there }) tells) c.answer_input.ensures
+
+pub returns-in-Err-clause-untold : goal.returns-in-Err-clause-untold
+returns-in-Err-clause-untold g c =
+    if_ok c.stopped.result (λ a tells.
+    told_stop (Some (said c.args.command)) (MayCome (asked_of (said c.args.command)) (g.S.Shelf.faults c.args.shelf.now) (g.S.Shelf.faults c.read_input.new.shelf)) c.in-Err.stop a
+    (record { noted = c.in-Err.ensures.noted; ready = tt; there = tt }) tells) c.stopped.ensures

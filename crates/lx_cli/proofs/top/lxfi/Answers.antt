@@ -1,8 +1,8 @@
 use Rattle.std.proofs.Common.{◌≡◌, ◌∙◌, ◌≢◌, ◌⊎◌, inl, inr, ℕ, ◌≤◌, sym, arith, Ok, Err}
 use Rattle.lx_input.specs.Files.InputStop.TheVariants as stops
-use Rattle.lx_cli.specs.Command.{texts}
+use Rattle.lx_cli.specs.Command.{ComesTo, UntoldTurn, command_of, texts}
 use Rattle.lx_cli.specs.Rows.{status_of}
-use Rattle.lx_cli.proofs.Written.{by_words, usage_wrote, usage_short, answer_wrote, answer_short, answer_headline}
+use Rattle.lx_cli.proofs.Written.{by_words, untold_by_words, usage_wrote, usage_short, answer_wrote, answer_short, answer_headline}
 use Rattle.lx_cli.proofs.Statuses.{none_comes, fault_comes, missing_comes, broken_comes, all_comes, refused_comes, fault_told, broken_told, refused_told, unread_of, run_is_whole, status_is, unread_told, five_or, few_statuses, unread_written, no_two, no_command, said_is}
 use Rattle.lx_cli.proofs.top.lxfi.Goals as goal
 
@@ -10,12 +10,22 @@ use Rattle.lx_cli.proofs.top.lxfi.Goals as goal
 
 pub returns-in_default-clause-wrote : goal.returns-in_default-clause-wrote
 returns-in_default-clause-wrote g c = λ not_5 not_6 files told files_told sink_told.
-    usage_wrote (texts c.args.words.now) files (g.S.Shelf.faults c.args.shelf.now) told (g.K.Sink.bytes c.put.new.sink) (sym c.in_default.ensures)
+    usage_wrote (texts c.args.words.now) (ComesTo (texts c.args.words.now) files) (g.S.Shelf.faults c.args.shelf.now) told (g.K.Sink.bytes c.put.new.sink) (sym c.in_default.ensures)
     c.put.result (c.put.ensures.status not_5) (rw c.as_bytes.ensures.value at (c.put.ensures.all not_5 told sink_told))
 
 pub returns-in_default-clause-short : goal.returns-in_default-clause-short
 returns-in_default-clause-short g c = λ is_5 files told files_told sink_told.
-    usage_short (texts c.args.words.now) files (g.S.Shelf.faults c.args.shelf.now) told (g.K.Sink.bytes c.put.new.sink) (sym c.in_default.ensures)
+    usage_short (texts c.args.words.now) (ComesTo (texts c.args.words.now) files) (g.S.Shelf.faults c.args.shelf.now) told (g.K.Sink.bytes c.put.new.sink) (sym c.in_default.ensures)
+    (rw c.as_bytes.ensures.value at (c.put.ensures.prefix is_5 told sink_told))
+
+pub returns-in_default-clause-wrote_untold : goal.returns-in_default-clause-wrote_untold
+returns-in_default-clause-wrote_untold g c = λ not_5 not_6 told sink_told.
+    usage_wrote (texts c.args.words.now) (UntoldTurn (command_of (texts c.args.words.now)) (g.S.Shelf.faults c.args.shelf.now) (g.S.Shelf.faults c.args.shelf.now)) (g.S.Shelf.faults c.args.shelf.now) told (g.K.Sink.bytes c.put.new.sink) (sym c.in_default.ensures)
+    c.put.result (c.put.ensures.status not_5) (rw c.as_bytes.ensures.value at (c.put.ensures.all not_5 told sink_told))
+
+pub returns-in_default-clause-short_untold : goal.returns-in_default-clause-short_untold
+returns-in_default-clause-short_untold g c = λ is_5 told sink_told.
+    usage_short (texts c.args.words.now) (UntoldTurn (command_of (texts c.args.words.now)) (g.S.Shelf.faults c.args.shelf.now) (g.S.Shelf.faults c.args.shelf.now)) (g.S.Shelf.faults c.args.shelf.now) told (g.K.Sink.bytes c.put.new.sink) (sym c.in_default.ensures)
     (rw c.as_bytes.ensures.value at (c.put.ensures.prefix is_5 told sink_told))
 
 pub returns-in_default-clause-usage_only : goal.returns-in_default-clause-usage_only
@@ -58,15 +68,14 @@ not_five r (inr is) five = omega (arith, is, five)
 
 pub returns-clause-headline : goal.returns-clause-headline
 returns-clause-headline g c = λ which files told files_told sink_told.
-    answer_headline (texts c.args.words.now) files (g.S.Shelf.faults c.args.shelf.now) told (g.K.Sink.bytes c.put-2.new.sink) (g.S.Shelf.faults c.answer_of.new.shelf)
+    answer_headline (texts c.args.words.now) files told (g.K.Sink.bytes c.put-2.new.sink)
     c.in-Ok.answer (by_words (texts c.args.words.now) files _ c.in-Ok.answer (sym c.in-Some.ensures) (c.in-Ok.ensures.answer files files_told))
-    (λ file is. c.in-Ok.ensures.unread file (cc))
     c.put-2.result c.as_slice.result.now which (c.put-2.ensures.status (not_five c.put-2.result which) ∙ c.status_of-status.ensures) (c.as_slice.ensures ∙ c.in-Ok-answer_text.ensures)
     (c.put-2.ensures.all (not_five c.put-2.result which) told sink_told)
 
 pub returns-clause-wrote : goal.returns-clause-wrote
 returns-clause-wrote g c = λ not_5 not_6 files told files_told sink_told.
-    answer_wrote (texts c.args.words.now) files (g.S.Shelf.faults c.args.shelf.now) told (g.K.Sink.bytes c.put-2.new.sink) (g.S.Shelf.faults c.answer_of.new.shelf)
+    answer_wrote (texts c.args.words.now) (ComesTo (texts c.args.words.now) files) (g.S.Shelf.faults c.args.shelf.now) told (g.K.Sink.bytes c.put-2.new.sink) (g.S.Shelf.faults c.answer_of.new.shelf)
     c.in-Ok.answer (by_words (texts c.args.words.now) files _ c.in-Ok.answer (sym c.in-Some.ensures) (c.in-Ok.ensures.answer files files_told))
     (λ file is. c.in-Ok.ensures.unread file (cc))
     c.put-2.result c.as_slice.result.now (c.put-2.ensures.status not_5 ∙ c.status_of-status.ensures) (c.as_slice.ensures ∙ c.in-Ok-answer_text.ensures)
@@ -74,8 +83,23 @@ returns-clause-wrote g c = λ not_5 not_6 files told files_told sink_told.
 
 pub returns-clause-short : goal.returns-clause-short
 returns-clause-short g c = λ is_5 files told files_told sink_told.
-    answer_short (texts c.args.words.now) files (g.S.Shelf.faults c.args.shelf.now) told (g.K.Sink.bytes c.put-2.new.sink) (g.S.Shelf.faults c.answer_of.new.shelf)
+    answer_short (texts c.args.words.now) (ComesTo (texts c.args.words.now) files) (g.S.Shelf.faults c.args.shelf.now) told (g.K.Sink.bytes c.put-2.new.sink) (g.S.Shelf.faults c.answer_of.new.shelf)
     c.in-Ok.answer (by_words (texts c.args.words.now) files _ c.in-Ok.answer (sym c.in-Some.ensures) (c.in-Ok.ensures.answer files files_told))
+    (λ file is. c.in-Ok.ensures.unread file (cc))
+    c.as_slice.result.now (c.as_slice.ensures ∙ c.in-Ok-answer_text.ensures) (c.put-2.ensures.prefix is_5 told sink_told)
+
+pub returns-clause-wrote_untold : goal.returns-clause-wrote_untold
+returns-clause-wrote_untold g c = λ not_5 not_6 told sink_told.
+    answer_wrote (texts c.args.words.now) (UntoldTurn (command_of (texts c.args.words.now)) (g.S.Shelf.faults c.args.shelf.now) (g.S.Shelf.faults c.answer_of.new.shelf)) (g.S.Shelf.faults c.args.shelf.now) told (g.K.Sink.bytes c.put-2.new.sink) (g.S.Shelf.faults c.answer_of.new.shelf)
+    c.in-Ok.answer (untold_by_words (texts c.args.words.now) (g.S.Shelf.faults c.args.shelf.now) (g.S.Shelf.faults c.answer_of.new.shelf) _ c.in-Ok.answer (sym c.in-Some.ensures) c.in-Ok.ensures.untold)
+    (λ file is. c.in-Ok.ensures.unread file (cc))
+    c.put-2.result c.as_slice.result.now (c.put-2.ensures.status not_5 ∙ c.status_of-status.ensures) (c.as_slice.ensures ∙ c.in-Ok-answer_text.ensures)
+    (c.put-2.ensures.all not_5 told sink_told)
+
+pub returns-clause-short_untold : goal.returns-clause-short_untold
+returns-clause-short_untold g c = λ is_5 told sink_told.
+    answer_short (texts c.args.words.now) (UntoldTurn (command_of (texts c.args.words.now)) (g.S.Shelf.faults c.args.shelf.now) (g.S.Shelf.faults c.answer_of.new.shelf)) (g.S.Shelf.faults c.args.shelf.now) told (g.K.Sink.bytes c.put-2.new.sink) (g.S.Shelf.faults c.answer_of.new.shelf)
+    c.in-Ok.answer (untold_by_words (texts c.args.words.now) (g.S.Shelf.faults c.args.shelf.now) (g.S.Shelf.faults c.answer_of.new.shelf) _ c.in-Ok.answer (sym c.in-Some.ensures) c.in-Ok.ensures.untold)
     (λ file is. c.in-Ok.ensures.unread file (cc))
     c.as_slice.result.now (c.as_slice.ensures ∙ c.in-Ok-answer_text.ensures) (c.put-2.ensures.prefix is_5 told sink_told)
 
