@@ -7,3 +7,4 @@ pub mod Layouts
 pub mod TypeLists
 pub mod Crossing
 pub mod Equality
+pub mod Passes

@@ -1,6 +1,6 @@
 //! How types lie in memory, by the layouts of the named types. Types may be outside the limits.
 
-ghost use Rattle.std.specs.Prelude.{◌≡◌, ◌*◌, ◌<◌, ◌≤◌, None, IfOk, map, slice_get};
+ghost use Rattle.std.specs.Prelude.{◌≡◌, ◌*◌, ◌<◌, ◌≤◌, None, IfOk, IsTrue, map, slice_get};
 ghost use Rattle.lx_ir.specs.Layout.{layout, field_start, beside, padded, scalar_size};
 ghost use Rattle.lx_ir.specs.TypeNodes.{types_of_list};
 ghost use Rattle.lx_ir.specs.Fitting.{limited, named_layout, laid_beside, fit_type, fit_fields, layouts_through, fitting_layouts, starts_in, ◌>>?◌};
@@ -179,14 +179,43 @@ fn no_layouts(alloc: Global, types: &[NamedType]) -> Result<Items<Option<Layout>
     Ok(layouts)
 }
 
-/// The layouts of the named types; none for one that is outside the limits, or that a type in it is.
+fn is_same(layout: Option<Layout>, other: Option<Layout>) -> bool
+    ensures { IsTrue result → layout ≡ other }
+{
+    match (layout, other) {
+        (Some(layout), Some(other)) => layout.size == other.size && layout.align == other.align,
+        (None, None) => true,
+        _ => false,
+    }
+}
+
+fn are_same(layouts: &[Option<Layout>], others: &[Option<Layout>]) -> bool
+    ensures { IsTrue result → layouts.now ≡ others.now }
+{
+    if layouts.len() != others.len() {
+        return false;
+    }
+    for k in 0..layouts.len() {
+        if !is_same(layouts[k], others[k]) {
+            return false;
+        }
+    }
+    true
+}
+
+/// The layouts of the named types; none for one that is outside the limits, or that a type in it is. What a pass leaves as it
+/// was, all further ones do.
 #[tactic(auto, unfolding(crate::specs::Fitting::fitting_layouts))]
 pub fn fitting_layouts(alloc: Global, types: &[NamedType]) -> Result<Items<Option<Layout>>, Memory>
     ensures { IfOk result (λ layouts. layouts ≡ fitting_layouts types.now) }
 {
     let mut layouts = no_layouts(alloc, types)?;
     for _ in 0..MOST_NAMES {
-        layouts = next_layouts(alloc, types, layouts.as_slice())?;
+        let next = next_layouts(alloc, types, layouts.as_slice())?;
+        if are_same(next.as_slice(), layouts.as_slice()) {
+            return Ok(next);
+        }
+        layouts = next;
     }
     Ok(layouts)
 }
