@@ -5,3 +5,4 @@ pub mod Moduli
 pub mod Kept
 pub mod Steps
 pub mod Fits
+mod Passes

@@ -1,6 +1,6 @@
 //! The limits on types as they are written.
 
-ghost use Rattle.std.specs.Prelude.{◌≡◌, ◌*◌, ◌≤◌, ◌<◌, suc, IfOk, map, unwrap_or, slice_get};
+ghost use Rattle.std.specs.Prelude.{◌≡◌, ◌*◌, ◌≤◌, ◌<◌, suc, IfOk, IsTrue, map, unwrap_or, slice_get};
 ghost use Rattle.lx_ir.specs.Layout.{layout, beside, padded, scalar_size};
 ghost use Rattle.lx_ir.specs.TypeNodes.{types_of_list};
 ghost use Rattle.lx_ir_offsets.specs.Shapes.{shape, layout_of_shape, with_field, endless, empty_shape, shape_of, fields_shape, shapes_through, named_shapes, is_past_limits, is_outside, left_behind, left_behind_fields, left_behind_more};
@@ -120,6 +120,12 @@ impl Shape {
         Shape::capped(self.size, self.align, self.nesting + 1)
     }
 
+    fn is_same(self, other: Shape) -> bool
+        ensures { IsTrue result → self ≡ other }
+    {
+        self.size == other.size && self.align == other.align && self.nesting == other.nesting
+    }
+
     /// Whether the type is larger than 2^32 bytes, or nests deeper than 64.
     fn is_past_limits(self) -> bool
         ensures { result ≡ is_past_limits self }
@@ -191,13 +197,31 @@ fn endless_shapes(alloc: Global, types: &[NamedType]) -> Result<Items<Shape>, Me
     Ok(shapes)
 }
 
-/// The shapes of the named types, by which the limits on types are tried.
+fn are_same(shapes: &[Shape], others: &[Shape]) -> bool
+    ensures { IsTrue result → shapes.now ≡ others.now }
+{
+    if shapes.len() != others.len() {
+        return false;
+    }
+    for k in 0..shapes.len() {
+        if !shapes[k].is_same(others[k]) {
+            return false;
+        }
+    }
+    true
+}
+
+/// The shapes of the named types, by which the limits on types are tried. What a pass leaves as it was, all further ones do.
 pub fn named_shapes(alloc: Global, types: &[NamedType]) -> Result<Items<Shape>, Memory>
     ensures { IfOk result (λ shapes. shapes ≡ named_shapes types.now) }
 {
     let mut shapes = endless_shapes(alloc, types)?;
     for _ in 0..MOST_NAMES {
-        shapes = next_shapes(alloc, types, shapes.as_slice())?;
+        let next = next_shapes(alloc, types, shapes.as_slice())?;
+        if are_same(next.as_slice(), shapes.as_slice()) {
+            return Ok(next);
+        }
+        shapes = next;
     }
     Ok(shapes)
 }
