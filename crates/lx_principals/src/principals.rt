@@ -72,6 +72,7 @@ fn next_number(counts: &[u32], home: u32) -> Result<u32, Memory>
     requires { home < length counts.now }
     ensures number { IfOk result (λ n. n ≡ slice_index counts.now home) }
     ensures small { IfOk result (λ n. n < 0xffffffff) }
+    ensures last { OnErr result (slice_index counts.now home ≡ 0xffffffff) }
 {
     let number = counts[home as usize];
     if number < u32::MAX {
@@ -155,12 +156,14 @@ impl Principals {
     /// this is its first name.
     ///
     /// # Errors
-    /// Want of memory, which changes nothing. More instances of a module than a `u32` counts are want of memory too.
+    /// Want of memory, which changes nothing. More instances of a module than a `u32` counts are want of memory too. A value
+    /// that is a name already takes no memory.
     pub fn named(&mut self, home: u32, value: u64) -> Result<Principal, Memory>
         requires { home < self.old.modules }
         ensures principal { IfOk result (λ p. p ≡ Inst home (number_named self.old.names home value)) }
         ensures ok { OnOk result (self.new ≡ record { modules = self.old.modules; names = with_instance self.old.names home value }) }
         ensures err { OnErr result (self.new ≡ self.old) }
+        ensures known { OnErr result (named self.old.names home value ≡ None) }
     {
         let instance = match self.find(home, value) {
             Some(instance) => instance,
