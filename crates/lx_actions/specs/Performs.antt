@@ -1,5 +1,5 @@
 -- What it means to perform an action.
-use Rattle.std.specs.Prelude.{◌≡◌, Result, Ok, Err}
+use Rattle.std.specs.Prelude.{◌≡◌, Bool, true, false, Result, Ok, Err}
 use Rattle.lx_caps.specs.History.{History}
 use Rattle.lx_model.specs.declared.request.Outcome.TheVariants as outcome
 use Rattle.lx_model.specs.declared.request.Trap.TheVariants as trap
@@ -18,3 +18,8 @@ Performs stands caps h acted (Ok x) = (g : History) × (acted ≡ Ok g) × stand
 Performs stands caps h acted (Err (Refused why)) = (acted ≡ Err (outcome.Refused why)) × stands caps h
 Performs stands caps h acted (Err (Unmapped at)) = (acted ≡ Err (outcome.Trapped (trap.Unmapped at))) × stands caps h
 Performs stands caps h acted (Err Memory) = IsDone acted × stands caps h
+
+-- want of memory is told
+abbrev pub lacks_memory : {T : Type 0} → Result T ActFault → Bool
+lacks_memory (Err Memory) = true
+lacks_memory _ = false

@@ -12,10 +12,10 @@ ghost use Rattle.lx_writer_sets.specs.RecordedStands.{spare_of};
 
 use crate::halt::Halt;
 use crate::monitor::Monitor;
-use crate::rights::{give, unless_copied, unless_writable};
+use crate::rights::{cells_given, give, unless_copied, unless_writable};
 use crate::space::{copy, fill, read, write};
 use crate::terms::{unless_mapped, unless_room};
-use lx_caps::{Cap, CapStore, Principal, cells};
+use lx_caps::{Cap, CapStore, Principal};
 use lx_model::request::Reply;
 use lx_words::{Width, Word};
 
@@ -104,7 +104,7 @@ impl<C: CapStore + Drop> Monitor<C> {
             return Err(Halt::Ended(outcome));
         }
         let cap = Cap::Write { at, size };
-        self.make_more_room(cells(cap) + 1)?;
+        self.make_more_room(cells_given(who, cap) + 1)?;
         fill(&mut self.space, at, 0, size);
         self.caps.strip(cap);
         give(&mut self.caps, who, cap);

@@ -1,5 +1,6 @@
 //! What may be written, and who is given what.
 ghost use Rattle.std.specs.Prelude.{◌≡◌, ◌+◌, ◌≤◌, true, IfNone};
+ghost use Rattle.lx_actions.specs.Rooms.{recorded_cells};
 ghost use Rattle.lx_caps.specs.Cells.{cells};
 ghost use Rattle.lx_caps.specs.History.{History, holds, with_grant};
 ghost use Rattle.lx_caps.specs.Placed.{is_placed};
@@ -10,7 +11,7 @@ ghost use Rattle.lx_model.specs.State.{State};
 ghost use Rattle.lx_serve.specs.Decisions.{copy_outcome, unwritable};
 
 use crate::terms::{unless_mapped, unmapped};
-use lx_caps::{Cap, CapStore, Principal, mapped};
+use lx_caps::{Cap, CapStore, Principal, cells, mapped};
 use lx_model::request::{Outcome, Refusal};
 
 /// Whether the range lies in memory and is held. Nobody holds bytes outside memory.
@@ -70,12 +71,22 @@ pub(crate) fn unless_copied<C: CapStore>(
     }
 }
 
+/// How much of the room is taken where a capability is given. The kernel's part takes none.
+pub(crate) fn cells_given(to: Principal, cap: Cap) -> u64
+    ensures { result ≡ recorded_cells to (cells cap) }
+{
+    match to {
+        Principal::Kernel => 0,
+        Principal::Shared(_) | Principal::Global(_) | Principal::Inst(_, _) => cells(cap),
+    }
+}
+
 /// Gives a capability. The kernel holds it without a record.
 pub(crate) fn give<C: CapStore>(caps: &mut C, to: Principal, cap: Cap)
-    requires room { cells cap ≤ C.spare caps.old }
+    requires room { recorded_cells to (cells cap) ≤ C.spare caps.old }
     requires placed { is_placed cap ≡ true }
     ensures grants { (h : History) → C.stands caps.old h → C.stands caps.new (with_grant to cap h) }
-    ensures takes { C.spare caps.old ≤ C.spare caps.new + cells cap }
+    ensures takes { C.spare caps.old ≤ C.spare caps.new + recorded_cells to (cells cap) }
 {
     match to {
         Principal::Kernel => {}

@@ -9,10 +9,12 @@ use lx_annot::caps::caps_of;
 use lx_annot::expr::{Env, Expr, ExprNode, Ty};
 use lx_annot::interface::{CapIterator, Interface, Item};
 use lx_annot::value::Look;
-use lx_caps::{Act, Cap, PlainCaps, Principal};
+use lx_cap_tables::CapTables;
+use lx_caps::{Act, Cap, CapStore, PlainCaps, Principal};
 use lx_memory::Space;
 use lx_model::request::Refusal;
 use lx_words::{Items, Memory, Width, Word};
+use lx_writer_sets::Recorded;
 use std::alloc::{AllocError, Global};
 use std::process::Abort;
 use std::test::Fail;
@@ -564,6 +566,64 @@ static IN_VAIN: [Step; 1] = [Step::Act(
 #[test]
 fn what_is_looked_at_in_vain(rt: HostRuntime) -> Result<(), Fail> {
     assert_steps(&rt, rt.alloc(), 0x10ffffc, &IN_VAIN)
+}
+
+/// A page goes out to a module, which copies it to the kernel, lends it to the kernel for a while, and gives it back.
+static PAGE_OUT_AND_BACK: [(Deed, (Principal, Principal)); 5] = [
+    (Deed::Do(Kind::Copy, PAGE), (KERNEL, SHARED)),
+    (Deed::Do(Kind::Copy, PAGE), (SHARED, KERNEL)),
+    (Deed::Do(Kind::Lend, PAGE), (SHARED, KERNEL)),
+    (Deed::End(1), (KERNEL, SHARED)),
+    (Deed::Do(Kind::Transfer, PAGE), (SHARED, KERNEL)),
+];
+
+const PAGE: Named = Named::Bytes(0x2000000, 4096);
+
+/// Whether a deed is done and leaves the store with just the room that it had.
+fn keeps_room<C: CapStore>(
+    bench: &Bench,
+    caps: &mut C,
+    deed: Deed,
+    between: (Principal, Principal),
+) -> Result<bool, Memory> {
+    let action = action_of(bench.alloc, deed)?;
+    let spare = caps.spare();
+    let done = is_short(&bench.interface, &action) && {
+        let (i, env, space) = (&bench.interface, &bench.env, &bench.space);
+        perform(i, &action, env, 0, between.0, between.1, space, caps).is_ok()
+    };
+    drop(action);
+    Ok(done && caps.spare() == spare)
+}
+
+fn assert_rounds_keep_room<C: CapStore>(
+    rt: &impl Abort,
+    bench: &Bench,
+    caps: &mut C,
+) -> Result<(), Fail> {
+    for round in 0..2000 {
+        for (deed, between) in PAGE_OUT_AND_BACK.iter() {
+            assert!(rt; keeps_room(bench, caps, *deed, *between)?, "round {round}");
+        }
+    }
+    Ok(())
+}
+
+/// What is given to the kernel is not recorded, so no room is made for it: thousands of actions leave none behind.
+#[test]
+fn actions_gather_no_room(rt: HostRuntime) -> Result<(), Fail> {
+    let alloc = rt.alloc();
+    let mut caps = Recorded::new(alloc, CapTables::new(alloc)?);
+    let went = match new_bench(alloc, 0) {
+        Ok(bench) => {
+            let went = assert_rounds_keep_room(&rt, &bench, &mut caps);
+            drop(bench);
+            went
+        }
+        Err(fail) => Err(fail),
+    };
+    drop(caps);
+    went
 }
 
 fn assert_looked(rt: &impl Abort, space: &mut Space) -> Result<(), Fail> {
