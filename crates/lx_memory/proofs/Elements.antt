@@ -73,7 +73,7 @@ live-at (c ∷ cs) at (suc i) d within is = or_right (nat_eq c.at at) (is_live c
 pub live-found : (kept : List Block) (bs : Blocks) (at i : ℕ) (d : Block) → KeepsBlocks kept bs → i < length kept → nat_eq (get_or kept i d).at at ≡ true → is_live bs at ≡ true
 live-found kept bs at i d keeps within is = live-same kept bs at keeps (live-at kept at i d within is)
 
-not-live : (kept : List Block) (bs : Blocks) (at : ℕ) → KeepsBlocks kept bs → is_live kept at ≡ false → is_live bs at ≡ false
+pub not-live : (kept : List Block) (bs : Blocks) (at : ℕ) → KeepsBlocks kept bs → is_live kept at ≡ false → is_live bs at ≡ false
 not-live kept bs at keeps none = false_from_ne_true (is_live bs at) (λ is. true≢false (sym (live-kept kept bs at keeps is) ∙ none))
 
 some-none : {i : ℕ} → Some i ≡ None → ⊥

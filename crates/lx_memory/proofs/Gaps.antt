@@ -1,16 +1,13 @@
 -- The first gap between blocks is the least address where a new block fits.
-use Rattle.std.proofs.Common.{◌≡◌, ◌≢◌, inl, inr, refl, sym, subst, ◌∙◌, ap, ℕ, zero, suc, ◌+◌, ◌-◌, ◌%◌, ◌<◌, ◌≤◌, true, false, not, ◌&&◌, ◌||◌, nat_le, nat_eq, List, [], ◌∷◌, Option, Some, None, length, drop, get_or, arith}
+use Rattle.std.proofs.Common.{◌≡◌, ◌≢◌, inl, inr, refl, sym, subst, ◌∙◌, ap, ℕ, zero, suc, ◌+◌, ◌-◌, ◌%◌, ◌<◌, ◌≤◌, false, not, ◌&&◌, ◌||◌, nat_le, nat_eq, List, [], ◌∷◌, Option, Some, None, length, get_or, arith}
 use Rattle.std.specs.List.{insert, remove}
-use Rattle.std.proofs.Math.Seq.{drop-cons}
 use Rattle.std.proofs.lemmas.Bool.{cases_Bool, cases_lt, leb-true, leb-false}
 use Rattle.lx_caps.specs.declared.Block.{Block}
 use Rattle.lx_caps.specs.Regions.{heap_start, align_up}
 use Rattle.lx_caps.specs.Heap.{Blocks, alloc_address, without_block}
 use Rattle.lx_caps.specs.HeapLaws.{IsApart, Fits, HeapLaws}
-use Rattle.lx_memory.specs.declared.heap.Gap.{Gap}
-use Rattle.lx_memory.specs.Heaps.{heap_end, IsAscending, first_gap, gap, same_block, has_block, KeepsBlocks, with_block}
+use Rattle.lx_memory.specs.Heaps.{Gap, heap_end, IsAscending, first_gap, same_block, has_block, KeepsBlocks, with_block}
 use Rattle.lx_memory.proofs.Elements.{raised, kept-apart, live-apart, has-inserted, has-removed, has-without}
-use Rattle.lx_caps.proofs.Tests.{one_more}
 
 -- the next address divisible by 16
 
@@ -108,39 +105,6 @@ found size place at (b ∷ bs) some even ascending =
           rw short (behind size at b bs (first_gap size (suc place) (align_up (b.at + b.size) 16) bs) some first ascending.3 ascending.2 short
           (found size (suc place) (align_up (b.at + b.size) 16) bs some (aligned (b.at + b.size)) (raised-aligned (b.at + b.size) bs ascending.3)))
     ]
-
--- the search, from one block to the next
-
-pub gap-here : (size place at : ℕ) (bs : List Block) (i : ℕ) (d : Block) → i < length bs → nat_le (at + size) (get_or bs i d).at ≡ true → first_gap size place at (drop i bs) ≡ gap place at
-gap-here size place at bs i d within is = rw (drop-cons bs i d within, is) refl
-
-pub gap-behind : (size place at : ℕ) (bs : List Block) (i : ℕ) (d : Block) → i < length bs → nat_le (at + size) (get_or bs i d).at ≡ false → first_gap size place at (drop i bs) ≡ first_gap size (place + 1) (align_up ((get_or bs i d).at + (get_or bs i d).size) 16) (drop (i + 1) bs)
-gap-behind size place at bs i d within short = rw (drop-cons bs i d within, short, one_more place, one_more i) refl
-
-ascending-cons : (at : ℕ) (bs : List Block) (i : ℕ) (d : Block) → i < length bs → IsAscending at (drop i bs) → IsAscending at (get_or bs i d ∷ drop (suc i) bs)
-ascending-cons at bs i d within ascending = subst (IsAscending at) (drop-cons bs i d within) ascending
-
-pub end-within : (at : ℕ) (bs : List Block) (i : ℕ) (d : Block) → i < length bs → IsAscending at (drop i bs) → (get_or bs i d).at + (get_or bs i d).size ≤ heap_end
-end-within at bs i d within ascending =
-    let it = ascending-cons at bs i d within ascending in
-    ends ((get_or bs i d).at + (get_or bs i d).size) (drop (suc i) bs) it.3
-
-pub ascending-behind : (at : ℕ) (bs : List Block) (i : ℕ) (d : Block) → i < length bs → IsAscending at (drop i bs) → IsAscending (align_up ((get_or bs i d).at + (get_or bs i d).size) 16) (drop (i + 1) bs)
-ascending-behind at bs i d within ascending =
-    let it = ascending-cons at bs i d within ascending in
-    rw (one_more i) (raised-aligned ((get_or bs i d).at + (get_or bs i d).size) (drop (suc i) bs) it.3)
-
-drop-all : (bs : List Block) (i : ℕ) → length bs ≤ i → drop i bs ≡ []
-drop-all [] zero over = refl
-drop-all [] (suc i) over = refl
-drop-all (b ∷ bs) zero over = absurd (omega (arith, over))
-drop-all (b ∷ bs) (suc i) over = drop-all bs i (omega (arith, over))
-
-pub gap-last : (size place at : ℕ) (bs : List Block) → place ≡ length bs → nat_le (at + size) heap_end ≡ true → first_gap size place at (drop place bs) ≡ gap (length bs) at
-gap-last size place at bs over is = rw (drop-all bs place (omega (arith, over)), is, over) refl
-
-pub gap-none : (size place at : ℕ) (bs : List Block) → place ≡ length bs → nat_le (at + size) heap_end ≡ false → first_gap size place at (drop place bs) ≡ None
-gap-none size place at bs over is = rw (drop-all bs place (omega (arith, over)), is) refl
 
 -- with a block in the gap the blocks still ascend, where places are counted from k on
 

@@ -3,3 +3,9 @@ pub mod RangeLemmas
 pub mod SpaceLemmas
 pub mod Elements
 pub mod Gaps
+pub mod Places
+pub mod Trees
+pub mod Tiles
+pub mod Giving
+pub mod Freeing
+pub mod Tables

@@ -74,6 +74,12 @@ fits at size (inl k) = omega arith
 fits at size (inr (inl k)) = omega arith
 fits at size (inr (inr k)) = omega arith
 
+-- the range has no more bytes than a region
+pub in-region : (at size : ℕ) → KeptSomewhere at size → size ≤ region_size
+in-region at size (inl k) = let from = k.from in let to = k.to in omega (arith, from, to)
+in-region at size (inr (inl k)) = let from = k.from in let to = k.to in omega (arith, from, to)
+in-region at size (inr (inr k)) = let from = k.from in let to = k.to in omega (arith, from, to)
+
 -- each byte of the range lies in memory, at the next place
 pub inside : (at size k : ℕ) → k < size → KeptSomewhere at size → KeptSomewhere (at + k) 1 × (place_of (at + k) ≡ place_of at + k)
 inside at size k below (inl here) =

@@ -1,7 +1,7 @@
 -- What a space shows after a write.
 use Rattle.std.proofs.Common.{◌≡◌, ◌+◌, ◌-◌, ◌<◌, ◌≤◌, inl, inr, ℕ, zero, suc, Bool, true, false, cond, List, ◌∷◌, length, replicate, get_or, take, drop, arith, refl, ◌∙◌, ap, sym}
 use Rattle.std.specs.List.{splice}
-use Rattle.std.proofs.lemmas.List.{places, length-take-le, length-drop, length-replicate, get_or-replicate, ext_get_or, get_or-take, get_or-drop}
+use Rattle.std.proofs.lemmas.List.{places, take_at, length-take-le, length-drop, length-replicate, get_or-replicate, ext_get_or, get_or-take, get_or-drop}
 use Rattle.std.proofs.lemmas.Bool.{cases_lt}
 use Rattle.lx_caps.specs.Regions.{covers}
 use Rattle.lx_caps.specs.Memory.{Memory, bytes_at, byte_at, bytes_of, Put, Repeat}
@@ -18,6 +18,10 @@ splice_in xs ys i j k below within = grind (arith, places)
 
 splice_above : (xs ys : List ℕ) (i j k : ℕ) → i + length ys ≡ j → j ≤ k → i ≤ length xs → get_or (splice xs i j ys) k 0 ≡ get_or xs k 0
 splice_above xs ys i j k ends above within = grind (arith, places)
+
+-- what was put first stands there
+pub put_first : (xs ys : List ℕ) (n j : ℕ) → length ys ≡ n → take n (splice xs 0 j ys) ≡ ys
+put_first xs ys n j len = take_at ys (drop j xs) n len
 
 pub length-bytes_at : (m : Memory) (at n : ℕ) → length (bytes_at m at n) ≡ n
 length-bytes_at m at zero = refl

@@ -4,7 +4,6 @@ use Rattle.std.specs.List.{list_any}
 use Rattle.lx_caps.specs.declared.Block.{Block}
 use Rattle.lx_caps.specs.Regions.{region_size, heap_start, align_up}
 use Rattle.lx_caps.specs.Heap.{Blocks}
-use Rattle.lx_memory.specs.declared.heap.Gap.{Gap}
 
 abbrev pub heap_end : ℕ
 heap_end = heap_start + region_size
@@ -29,6 +28,11 @@ KeepsBlocks kept blocks = (b : Block) → has_block kept b ≡ has_block blocks 
 abbrev pub with_block : ℕ → ℕ → Blocks → Blocks
 with_block zero size blocks = blocks
 with_block (suc a) size blocks = record { at = suc a; size = size } ∷ blocks
+
+-- a place among blocks, and an address there
+pub record Gap : Type 0 where
+  pub place : ℕ
+  pub at : ℕ
 
 abbrev pub gap : ℕ → ℕ → Option Gap
 gap place at = Some (record { place = place; at = at })

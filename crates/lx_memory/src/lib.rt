@@ -10,6 +10,7 @@
 mod heap;
 mod numbers;
 mod range;
+mod runs;
 mod space;
 
 pub use heap::{KHeap, NotLive};

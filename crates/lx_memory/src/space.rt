@@ -5,6 +5,7 @@ ghost use Rattle.lx_caps.specs.Memory.{bytes_of};
 
 use crate::numbers::{number, put_number};
 use crate::range::{MEMORY_SIZE, Unmapped, place_of, test};
+use lx_caps::REGION_SIZE;
 use lx_words::Memory;
 use std::alloc::Global;
 use std::marker::Model;
@@ -13,23 +14,27 @@ use std::marker::Model;
 /// other. No call but `new` takes memory, and none changes anything where it answers `Unmapped`.
 pub struct Space {
     bytes: Vec<u8>,
+    // Bytes of one region: what is copied stands here between being read and being written, so that the whole goes at once
+    // where the two ranges share bytes too.
+    spare: Vec<u8>,
 }
 
 impl Drop for Space {
     fn drop(self) {
-        let Space { bytes: _ } = self;
+        let Space { bytes: _, spare: _ } = self;
     }
 }
 
 impl Model for Space {
     ghost use Rattle.std.specs.Prelude.{◌≡◌, List, ℕ, length};
+    ghost use Rattle.lx_caps.specs.Regions.{region_size};
     ghost use Rattle.lx_memory.specs.Ranges.{memory_size};
 
     ghost Value = { List ℕ };
 
     ghost view = { λ space. space.bytes.items };
 
-    ghost invariant = { λ space. length space.bytes.items ≡ memory_size };
+    ghost invariant = { λ space. (length space.bytes.items ≡ memory_size) × (length space.spare.items ≡ region_size) };
 }
 
 /// So many bytes that are 0.
@@ -59,14 +64,27 @@ fn fill_at(bytes: &mut Vec<u8>, place: usize, size: usize, byte: u8)
     bytes[place..place + size].fill(byte);
 }
 
+/// Puts bytes from a place on.
+fn put_at(bytes: &mut Vec<u8>, place: usize, part: &[u8])
+    requires { place + length part.now ≤ length bytes.old.items }
+    ensures len { length bytes.new.items ≡ length bytes.old.items }
+    ensures put { bytes.new.items ≡ splice bytes.old.items place (place + length part.now) part.now }
+{
+    bytes[place..place + part.len()].copy_from_slice(part);
+}
+
 /// Copies so many bytes to a place, as they were before.
-fn copy_at(bytes: &mut Vec<u8>, to: usize, from: usize, size: usize)
+#[tactic(auto, using(crate::proofs::SpaceLemmas::put_first))]
+fn copy_at(bytes: &mut Vec<u8>, spare: &mut Vec<u8>, to: usize, from: usize, size: usize)
     requires to_within { to + size ≤ length bytes.old.items }
     requires from_within { from + size ≤ length bytes.old.items }
+    requires spare { size ≤ length spare.old.items }
     ensures len { length bytes.new.items ≡ length bytes.old.items }
     ensures put { bytes.new.items ≡ splice bytes.old.items to (to + size) (slice_range bytes.old.items from (from + size)) }
+    ensures spare { length spare.new.items ≡ length spare.old.items }
 {
-    bytes.copy_within(from..from + size, to);
+    put_at(spare, 0, &bytes[from..from + size]);
+    put_at(bytes, to, &spare[..size]);
 }
 
 impl Space {
@@ -80,7 +98,8 @@ impl Space {
         ensures { IfOk result (λ space. Shows space []) }
     {
         let bytes = zeros(alloc, MEMORY_SIZE)?;
-        Ok(Space { bytes })
+        let spare = zeros(alloc, REGION_SIZE as usize)?;
+        Ok(Space { bytes, spare })
     }
 
     /// The number in so many bytes, 1 to 8 of them, the least byte first.
@@ -119,7 +138,13 @@ impl Space {
         test(to, len)?;
         test(from, len)?;
         if len > 0 {
-            copy_at(&mut self.bytes, place_of(to), place_of(from), len as usize);
+            copy_at(
+                &mut self.bytes,
+                &mut self.spare,
+                place_of(to),
+                place_of(from),
+                len as usize,
+            );
         }
         Ok(())
     }

@@ -1,37 +1,38 @@
-use Rattle.std.proofs.Common.{◌∙◌, sym, ap, subst, arith, ◌<◌, ℕ, List}
-use Rattle.std.proofs.lemmas.Result.{err_from_is_err_and}
+use Rattle.std.proofs.Common.{◌<◌, ◌≤◌, ◌∙◌, sym, subst, ℕ, List, arith}
+use Rattle.std.specs.Prelude.{slice_index}
 use Rattle.lx_caps.specs.declared.Block.{Block}
-use Rattle.lx_caps.specs.Regions.{heap_start}
-use Rattle.lx_memory.specs.Heaps.{IsAscending, KeepsBlocks, with_block, first_gap}
-use Rattle.lx_memory.proofs.Gaps.{address-given, none-given, some-given, ascending-grown, keeps-grown}
+use Rattle.lx_memory.specs.Heaps.{KeepsBlocks, with_block}
+use Rattle.lx_memory.specs.Runs.{places}
+use Rattle.lx_memory.specs.Tiles.{blocks_from}
+use Rattle.lx_memory.proofs.Tables.{after-alloc, no-run}
 use Rattle.lx_memory.proofs.heap.KHeap.alloc.Goals as goal
 
-pub invariant_of-self-in-Some : goal.invariant_of-self-in-Some
-invariant_of-self-in-Some c =
+pub invariant_of-self : goal.invariant_of-self
+invariant_of-self c =
     let some : 0 < c.args.size = omega (arith, c.if-size-eq0.false) in
-    subst (IsAscending heap_start) (sym c.in_ok-at-in-Some.ensures.ok) (ascending-grown c.args.size c.self.inside.blocks.items c.in-Some.gap some c.self.invariant (c.in-Some.ensures.gap ∙ ap (first_gap c.args.size 0 heap_start) c.deref.ensures.value))
+    let first = subst (λ (n : ℕ). (n ≤ slice_index c.self.inside.runs c.in-Some.place) × ((p : ℕ) → p < c.in-Some.place → slice_index c.self.inside.runs p < n)) c.taken.ensures (c.in-Some.ensures.1, c.in-Some.ensures.2) in
+    (after-alloc c.heap_laws.ensures c.self.inside.sizes.items c.self.inside.rooms.items c.self.inside.runs c.give.new.sizes.items c.give.new.rooms.items c.give.new.runs c.args.size c.in-Some.place some c.in-Some.ensures.0 first.0 first.1 c.self.invariant
+    (record { sizes_are = c.give.ensures.sizes; rooms_are = c.give.ensures.rooms; runs_are = c.give.ensures.runs })).heap
 
-pub returns-in_ok-at-in-Some-clause-given : goal.returns-in_ok-at-in-Some-clause-given
-returns-in_ok-at-in-Some-clause-given c =
+pub returns-in-Some-clause-given : goal.returns-in-Some-clause-given
+returns-in-Some-clause-given c =
     let some : 0 < c.args.size = omega (arith, c.if-size-eq0.false) in
-    λ bs given. let keeps = subst (λ (k : List Block). KeepsBlocks k bs) (sym c.self.view_is) given in c.in_ok-at-in-Some.ensures.at ∙ address-given c.heap_laws.ensures c.self.inside.blocks.items bs c.args.size c.in-Some.gap some c.self.invariant (c.in-Some.ensures.gap ∙ ap (first_gap c.args.size 0 heap_start) c.deref.ensures.value) keeps
+    let first = subst (λ (n : ℕ). (n ≤ slice_index c.self.inside.runs c.in-Some.place) × ((p : ℕ) → p < c.in-Some.place → slice_index c.self.inside.runs p < n)) c.taken.ensures (c.in-Some.ensures.1, c.in-Some.ensures.2) in
+    let after = after-alloc c.heap_laws.ensures c.self.inside.sizes.items c.self.inside.rooms.items c.self.inside.runs c.give.new.sizes.items c.give.new.rooms.items c.give.new.runs c.args.size c.in-Some.place some c.in-Some.ensures.0 first.0 first.1 c.self.invariant
+    (record { sizes_are = c.give.ensures.sizes; rooms_are = c.give.ensures.rooms; runs_are = c.give.ensures.runs }) in
+    λ bs given. c.address.ensures ∙ after.given bs (subst (λ (k : List Block). KeepsBlocks k bs) (sym c.self.view_is) given)
 
-pub returns-in_ok-at-in-Some-clause-live : goal.returns-in_ok-at-in-Some-clause-live
-returns-in_ok-at-in-Some-clause-live c =
+pub returns-in-Some-clause-live : goal.returns-in-Some-clause-live
+returns-in-Some-clause-live c =
     let some : 0 < c.args.size = omega (arith, c.if-size-eq0.false) in
-    λ bs given. let keeps = subst (λ (k : List Block). KeepsBlocks k bs) (sym c.self.view_is) given in
-    subst (λ (a : ℕ). KeepsBlocks c.put.new.blocks.items (with_block a c.args.size bs)) (sym c.in_ok-at-in-Some.ensures.at)
-    (subst (λ (kept : List Block). KeepsBlocks kept (with_block c.in-Some.gap.at c.args.size bs)) (sym c.in_ok-at-in-Some.ensures.ok)
-    (keeps-grown c.args.size c.self.inside.blocks.items bs c.in-Some.gap some c.self.invariant (c.in-Some.ensures.gap ∙ ap (first_gap c.args.size 0 heap_start) c.deref.ensures.value) keeps))
+    let first = subst (λ (n : ℕ). (n ≤ slice_index c.self.inside.runs c.in-Some.place) × ((p : ℕ) → p < c.in-Some.place → slice_index c.self.inside.runs p < n)) c.taken.ensures (c.in-Some.ensures.1, c.in-Some.ensures.2) in
+    let after = after-alloc c.heap_laws.ensures c.self.inside.sizes.items c.self.inside.rooms.items c.self.inside.runs c.give.new.sizes.items c.give.new.rooms.items c.give.new.runs c.args.size c.in-Some.place some c.in-Some.ensures.0 first.0 first.1 c.self.invariant
+    (record { sizes_are = c.give.ensures.sizes; rooms_are = c.give.ensures.rooms; runs_are = c.give.ensures.runs }) in
+    λ bs given. subst (λ (a : ℕ). KeepsBlocks (blocks_from 0 c.give.new.sizes.items) (with_block a c.args.size bs)) (sym c.address.ensures)
+    (after.live bs (subst (λ (k : List Block). KeepsBlocks k bs) (sym c.self.view_is) given))
 
 pub returns-in-None-clause-given : goal.returns-in-None-clause-given
 returns-in-None-clause-given c =
     let some : 0 < c.args.size = omega (arith, c.if-size-eq0.false) in
-    λ bs given. let keeps = subst (λ (k : List Block). KeepsBlocks k bs) (sym c.self.view_is) given in none-given c.heap_laws.ensures c.self.inside.blocks.items bs c.args.size some c.self.invariant (c.in-None.ensures.gap ∙ ap (first_gap c.args.size 0 heap_start) c.deref.ensures.value) keeps
-
-pub returns-in_err-at-in-Some-clause-held : goal.returns-in_err-at-in-Some-clause-held
-returns-in_err-at-in-Some-clause-held c =
-    let some : 0 < c.args.size = omega (arith, c.if-size-eq0.false) in
-    let p = err_from_is_err_and c.from_residual.result c.from_residual.ensures.1 in
-    rw p.1
-    (λ bs given. let keeps = subst (λ (k : List Block). KeepsBlocks k bs) (sym c.self.view_is) given in some-given c.heap_laws.ensures c.self.inside.blocks.items bs c.args.size c.in-Some.gap some c.self.invariant (c.in-Some.ensures.gap ∙ ap (first_gap c.args.size 0 heap_start) c.deref.ensures.value) keeps)
+    let short = subst (λ (n : ℕ). (p : ℕ) → p < places → slice_index c.self.inside.runs p < n) c.taken.ensures c.in-None.ensures in
+    λ bs given. no-run c.heap_laws.ensures c.self.inside.sizes.items c.self.inside.rooms.items c.self.inside.runs c.args.size some short c.self.invariant bs (subst (λ (k : List Block). KeepsBlocks k bs) (sym c.self.view_is) given)
