@@ -1,7 +1,6 @@
 -- Lists of blocks by their elements.
-use Rattle.std.proofs.Common.{◌≡◌, inl, inr, refl, sym, subst, ◌∙◌, ap, ℕ, zero, suc, ◌+◌, ◌<◌, ◌≤◌, Bool, true, false, not, nat_eq, ◌&&◌, ◌||◌, cond, List, [], ◌∷◌, Some, None, length, position, get_or, arith}
-use Rattle.std.specs.List.{list_any, remove, insert, position_from}
-use Rattle.std.proofs.lemmas.Iterator.Adapters.{position_from-zero}
+use Rattle.std.proofs.Common.{◌≡◌, inl, inr, refl, sym, subst, ◌∙◌, ℕ, zero, suc, ◌+◌, ◌<◌, ◌≤◌, Bool, true, false, not, nat_eq, ◌&&◌, ◌||◌, List, [], ◌∷◌, length, get_or, arith}
+use Rattle.std.specs.List.{remove, insert}
 use Rattle.std.proofs.lemmas.Bool.{true≢false, false≢true, or_cases, cases_Bool, eqb-true, false_from_ne_true, or_left, or_right}
 use Rattle.std.proofs.lemmas.Bool.Decides.{nat_tests}
 use Rattle.lx_caps.specs.declared.Block.{Block}
@@ -76,21 +75,6 @@ live-found kept bs at i d keeps within is = live-same kept bs at keeps (live-at 
 pub not-live : (kept : List Block) (bs : Blocks) (at : ℕ) → KeepsBlocks kept bs → is_live kept at ≡ false → is_live bs at ≡ false
 not-live kept bs at keeps none = false_from_ne_true (is_live bs at) (λ is. true≢false (sym (live-kept kept bs at keeps is) ∙ none))
 
-some-none : {i : ℕ} → Some i ≡ None → ⊥
-some-none is = cc
-
-passes-none : (p : Block → Bool) (i : ℕ) (bs : List Block) → position_from p i bs ≡ None → list_any p bs ≡ false
-passes-none p i [] none = refl
-passes-none p i (b ∷ bs) none =
-    elim (cases_Bool (p b)) [
-      | inl is ↦ absurd (some-none (sym (ap (λ t. cond t (Some i) (position_from p (i + 1) bs)) is) ∙ none))
-      | inr other ↦ rw other (passes-none p (i + 1) bs (sym (ap (λ t. cond t (Some i) (position_from p (i + 1) bs)) other) ∙ none))
-    ]
-
-pub place-none : (kept : List Block) (bs : Blocks) (at : ℕ) → KeepsBlocks kept bs → None ≡ position (λ b. nat_eq b.at at) kept → is_live bs at ≡ false
-place-none kept bs at keeps none =
-    not-live kept bs at keeps (passes-none (λ b. nat_eq b.at at) 0 kept (sym (position_from-zero (λ b. nat_eq b.at at) kept) ∙ sym none))
-
 -- one more block, and one less
 
 pub has-inserted : (bs : List Block) (i : ℕ) (x b : Block) → has_block (insert bs i x) b ≡ (same_block b x || has_block bs b)
@@ -163,9 +147,3 @@ has-removed from (c ∷ cs) (suc i) d ascending within b =
     let more = has-removed (c.at + c.size) cs i d ascending.3 behind b in
     let other = other-place c cs ascending.2 ascending.3 (get_or cs i d) (got-has cs i d behind) in
     rw more (without-other (same_block b c) (has_block cs b) (nat_eq b.at (get_or cs i d).at) (λ same. grind (arith, nat_tests, same, other)))
-
-pub ascending-removed : (from : ℕ) (bs : List Block) (i : ℕ) → IsAscending from bs → IsAscending from (remove bs i)
-ascending-removed from [] zero ascending = ascending
-ascending-removed from [] (suc i) ascending = ascending
-ascending-removed from (c ∷ cs) zero ascending = raised from (c.at + c.size) cs (let first = ascending.0 in omega (arith, first)) ascending.3
-ascending-removed from (c ∷ cs) (suc i) ascending = (ascending.0, ascending.1, ascending.2, ascending-removed (c.at + c.size) cs i ascending.3)

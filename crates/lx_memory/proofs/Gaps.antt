@@ -1,5 +1,5 @@
 -- The first gap between blocks is the least address where a new block fits.
-use Rattle.std.proofs.Common.{◌≡◌, ◌≢◌, inl, inr, refl, sym, subst, ◌∙◌, ap, ℕ, zero, suc, ◌+◌, ◌-◌, ◌%◌, ◌<◌, ◌≤◌, false, not, ◌&&◌, ◌||◌, nat_le, nat_eq, List, [], ◌∷◌, Option, Some, None, length, get_or, arith}
+use Rattle.std.proofs.Common.{◌≡◌, ◌≢◌, inl, inr, refl, sym, subst, ◌∙◌, ap, ℕ, zero, suc, ◌+◌, ◌%◌, ◌<◌, ◌≤◌, false, not, ◌&&◌, ◌||◌, nat_le, nat_eq, List, [], ◌∷◌, Option, Some, None, length, get_or, arith}
 use Rattle.std.specs.List.{insert, remove}
 use Rattle.std.proofs.lemmas.Bool.{cases_Bool, cases_lt, leb-true, leb-false}
 use Rattle.lx_caps.specs.declared.Block.{Block}
@@ -7,7 +7,7 @@ use Rattle.lx_caps.specs.Regions.{heap_start, align_up}
 use Rattle.lx_caps.specs.Heap.{Blocks, alloc_address, without_block}
 use Rattle.lx_caps.specs.HeapLaws.{IsApart, Fits, HeapLaws}
 use Rattle.lx_memory.specs.Heaps.{Gap, heap_end, IsAscending, first_gap, same_block, has_block, KeepsBlocks, with_block}
-use Rattle.lx_memory.proofs.Elements.{raised, kept-apart, live-apart, has-inserted, has-removed, has-without}
+use Rattle.lx_memory.proofs.Elements.{kept-apart, live-apart, has-inserted, has-removed, has-without}
 
 -- the next address divisible by 16
 
@@ -106,40 +106,6 @@ found size place at (b ∷ bs) some even ascending =
           (found size (suc place) (align_up (b.at + b.size) 16) bs some (aligned (b.at + b.size)) (raised-aligned (b.at + b.size) bs ascending.3)))
     ]
 
--- with a block in the gap the blocks still ascend, where places are counted from k on
-
-abbrev Grown : ℕ → ℕ → ℕ → List Block → Option Gap → Type 0
-Grown size k at bs None = Unit {0}
-Grown size k at bs (Some g) = (k ≤ g.place) × IsAscending at (insert bs (g.place - k) (record { at = g.at; size = size }))
-
-grown-behind : (size k at : ℕ) (b : Block) (bs : List Block) (g : Option Gap) → at ≤ b.at → b.at % 16 ≡ 0 → 0 < b.size → Grown size (suc k) (align_up (b.at + b.size) 16) bs g → Grown size k at (b ∷ bs) g
-grown-behind size k at b bs None first even bytes it = tt
-grown-behind size k at b bs (Some g) first even bytes it =
-    let place : g.place - k ≡ suc (g.place - suc k) = let low = it.0 in omega (arith, low) in (
-      (let low = it.0 in omega (arith, low)),
-      rw place (first, even, bytes, raised (b.at + b.size) (align_up (b.at + b.size) 16) (insert bs (g.place - suc k) (record { at = g.at; size = size })) (not-below (b.at + b.size)) it.1),
-    )
-
-no-more : (k : ℕ) → k - k ≡ 0
-no-more k = omega arith
-
-grown : (size k at : ℕ) (bs : List Block) → 0 < size → at % 16 ≡ 0 → IsAscending at bs → Grown size k at bs (first_gap size k at bs)
-grown size k at [] some even ascending =
-    elim (cases_Bool (nat_le (at + size) heap_end)) [
-      | inl is ↦ (let ends = leb-true (at + size) heap_end is in rw (is, no-more k) (omega arith, (omega arith, even, some, ends)))
-      | inr long ↦ rw long tt
-    ]
-grown size k at (b ∷ bs) some even ascending =
-    let first = ascending.0 in
-    elim (cases_Bool (nat_le (at + size) b.at)) [
-      | inl is ↦
-          (let ends = leb-true (at + size) b.at is in
-          rw (is, no-more k) (omega arith, (omega arith, even, some, (ends, ascending.1, ascending.2, ascending.3))))
-      | inr short ↦
-          rw short (grown-behind size k at b bs (first_gap size (suc k) (align_up (b.at + b.size) 16) bs) first ascending.1 ascending.2
-          (grown size (suc k) (align_up (b.at + b.size) 16) bs some (aligned (b.at + b.size)) (raised-aligned (b.at + b.size) bs ascending.3)))
-    ]
-
 -- the address that is given
 
 fits-gap : (kept : List Block) (bs : Blocks) (size : ℕ) (g : Gap) → KeepsBlocks kept bs → IsGap size heap_start kept g → Fits bs size g.at
@@ -171,21 +137,8 @@ found-gap size kept g some ascending is = subst (Found size heap_start kept) (sy
 pub address-given : HeapLaws → (kept : List Block) (bs : Blocks) (size : ℕ) (g : Gap) → 0 < size → IsAscending heap_start kept → Some g ≡ first_gap size 0 heap_start kept → KeepsBlocks kept bs → g.at ≡ alloc_address bs size
 address-given laws kept bs size g some ascending is keeps = gap-address laws kept bs size g some keeps (found-gap size kept (Some g) some ascending is)
 
--- where there is a gap, the address is none that stands for want of one
-pub some-given : HeapLaws → (kept : List Block) (bs : Blocks) (size : ℕ) (g : Gap) → 0 < size → IsAscending heap_start kept → Some g ≡ first_gap size 0 heap_start kept → KeepsBlocks kept bs → alloc_address bs size ≢ 0
-some-given laws kept bs size g some ascending is keeps = λ none.
-    let low = (found-gap size kept (Some g) some ascending is).from in
-    let same = address-given laws kept bs size g some ascending is keeps in
-    omega (arith, low, same, none)
-
 pub none-given : HeapLaws → (kept : List Block) (bs : Blocks) (size : ℕ) → 0 < size → IsAscending heap_start kept → None ≡ first_gap size 0 heap_start kept → KeepsBlocks kept bs → 0 ≡ alloc_address bs size
 none-given laws kept bs size some ascending is keeps = no-address laws kept bs size keeps (found-gap size kept None some ascending is)
-
-pub ascending-grown : (size : ℕ) (kept : List Block) (g : Gap) → 0 < size → IsAscending heap_start kept → Some g ≡ first_gap size 0 heap_start kept → IsAscending heap_start (insert kept g.place (record { at = g.at; size = size }))
-ascending-grown size kept g some ascending is =
-    let it : Grown size 0 heap_start kept (Some g) = subst (Grown size 0 heap_start kept) (sym is) (grown size 0 heap_start kept some (omega arith) ascending) in
-    let place : g.place - 0 ≡ g.place = omega arith in
-    subst (λ (k : ℕ). IsAscending heap_start (insert kept k (record { at = g.at; size = size }))) place it.1
 
 with-some : (at size : ℕ) (bs : Blocks) → 0 < at → with_block at size bs ≡ record { at = at; size = size } ∷ bs
 with-some zero size bs some = absurd (omega (arith, some))

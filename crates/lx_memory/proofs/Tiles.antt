@@ -33,9 +33,6 @@ ascending S B L k (t ∷ ts) it = (
 
 -- places where no block begins are passed over
 
-one-more : (k : ℕ) → k + 1 ≡ suc k
-one-more k = omega arith
-
 empty-place : (k n : ℕ) (xs : List ℕ) → n ≡ 0 → blocks_from k (n ∷ xs) ≡ blocks_from (k + 1) xs
 empty-place k zero xs none = refl
 empty-place k (suc n) xs none = absurd (omega (arith, none))

@@ -1,9 +1,8 @@
 -- The tree over the places: each node has the greater of its halves.
 use Rattle.std.proofs.Common.{◌≡◌, inl, inr, sym, subst, ◌∙◌, ap, ℕ, ◌+◌, ◌*◌, ◌/◌, ◌-◌, ◌<◌, ◌≤◌, max, List, length, drop, length-drop, get_or, set, get_or-set_other, zero, suc, arith}
-use Rattle.std.proofs.lemmas.List.{get_or-drop, drop-set-add, drop-set-lt, get_or_past, set_past}
+use Rattle.std.proofs.lemmas.List.{get_or-drop, drop-set-add, get_or_past, set_past}
 use Rattle.std.proofs.lemmas.Bool.{cases_lt}
-use Rattle.std.proofs.lemmas.Grind.{get_or-set_at, get_or_default_zero}
-use Rattle.lx_memory.proofs.Places.{cases_at}
+use Rattle.std.proofs.lemmas.Grind.{get_or_default_zero}
 use Rattle.lx_memory.specs.Runs.{places, AreGreater}
 
 pub leaf : (nodes : List ℕ) (p : ℕ) → get_or (drop places nodes) p 0 ≡ get_or nodes (places + p) 0
@@ -28,29 +27,7 @@ set-leaf nodes x y low all k some inner other =
     let is = all k some inner (omega (arith, some)) in
     rw (a, b, c) is
 
-pub set-parent : (nodes : List ℕ) (x y : ℕ) → 1 < x → x < 2 * places → length nodes ≡ 2 * places → AreGreater nodes x → y ≡ max (get_or nodes (2 * (x / 2)) 0) (get_or nodes (2 * (x / 2) + 1) 0) → AreGreater (set nodes (x / 2) y) (x / 2)
-set-parent nodes x y low high len all is k some inner other =
-    let h = x / 2 in
-    let b = get_or-set_other nodes h (2 * k) y 0 (omega (arith, other)) in
-    let c = get_or-set_other nodes h (2 * k + 1) y 0 (omega (arith, other)) in
-    elim (cases_at k h) [
-      | inl here ↦
-          (let a = get_or-set_at nodes h k y 0 here (omega (arith, high, len)) in
-          rw (a, b, c) (is ∙ ap (λ (j : ℕ). max (get_or nodes (2 * j) 0) (get_or nodes (2 * j + 1) 0)) (sym here)))
-      | inr off ↦
-          (let a = get_or-set_other nodes h k y 0 off in
-          rw (a, b, c) (all k some inner off))
-    ]
-
--- with no node left that may be wrong, all are right
-pub all-right : (nodes : List ℕ) (x : ℕ) → x ≤ 1 → AreGreater nodes x → AreGreater nodes 1
-all-right nodes x small all k some inner other = all k some inner (omega (arith, small, some))
-
--- the leaves, where a node above them is set and where one of them is
-
-pub same-leaves : (nodes : List ℕ) (i y : ℕ) → i < places → drop places (set nodes i y) ≡ drop places nodes
-same-leaves nodes i y inner = drop-set-lt places nodes i y inner
-
+-- the leaves, where one of them is set
 pub one-leaf : (nodes : List ℕ) (x p y : ℕ) → x ≡ places + p → drop places (set nodes x y) ≡ set (drop places nodes) p y
 one-leaf nodes x p y at = ap (λ (j : ℕ). drop places (set nodes j y)) at ∙ drop-set-add places nodes p y
 
