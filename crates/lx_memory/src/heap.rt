@@ -161,8 +161,7 @@ impl KHeap {
     /// free or none are asked for.
     ///
     /// # Errors
-    /// `Memory`, and then nothing is changed. It comes only where there is such an address: what no heap can hold is
-    /// answered by 0, whatever memory there is.
+    /// None: what is recorded of a block stands in tables that were made with the heap.
     pub fn alloc(&mut self, size: u64) -> Result<u64, Memory>
         ensures given { IfOk result (λ at. (bs : Blocks) → KeepsBlocks self.old bs → at ≡ alloc_address bs size) }
         ensures live { IfOk result (λ at. (bs : Blocks) → KeepsBlocks self.old bs → KeepsBlocks self.new (with_block at size bs)) }
