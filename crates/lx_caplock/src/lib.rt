@@ -15,6 +15,7 @@
 //! ```
 #![tactic(auto)]
 
+mod bells;
 mod calls;
 mod fault;
 mod knowledge;

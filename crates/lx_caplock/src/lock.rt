@@ -11,6 +11,7 @@ ghost use Rattle.lx_caplock.specs.Views.{first_view, released, IsAtRest};
 ghost use Rattle.lx_caplock.specs.Telling.{TurnHasCome};
 ghost use Rattle.lx_caplock.specs.Calls.{IsSameSeat, Answers, Refuses, IsSplit, HasJoined, IsAlone, IsFull, HasClosed};
 
+use crate::bells::Bells;
 use crate::knowledge::View;
 use crate::part::Part;
 use crate::plays::{
@@ -22,10 +23,15 @@ use atomic_table::{Seat, Table};
 use lx_model::request::{Reply, Request};
 use lx_words::Memory;
 use std::alloc::Global;
+use std::hint::spin_loop;
 use std::marker::Brand;
 use std::snapshot::Snapshot;
 use std::sync::Wait;
-use std::thread;
+
+// How often a thread looks for its turn before it sleeps. It takes about as long as a sleep and a wake, some microseconds: who
+// waits less saves both, and who waits longer loses no more than them. (It does not yield between: where other work is ready, a
+// yield may take milliseconds, for which all others wait.)
+const LOOKS: u32 = 100;
 
 /// A seat of the table, as the calls within use it.
 pub(crate) type Place<T> = Seat<T, View<T>>;
@@ -36,6 +42,7 @@ pub(crate) type Place<T> = Seat<T, View<T>>;
 pub struct CapLock<T: Part + Drop> {
     table: Table<T, View<T>, Opening<T>, Turns, Global>,
     seats: u32,
+    bells: Bells,
     ghost sized: { (table.shared.table_id.words ≡ 3) × (table.shared.table_id.slots ≡ 1) × (table.shared.key.seats ≡ seats) },
 }
 
@@ -48,6 +55,7 @@ impl<T: Part + Drop> CapLock<T> {
         requires { (1 ≤ seats) × (seats ≤ 17) }
         ensures { IfOk result (λ r. (r.1.table_id ≡ r.0.table.shared.table_id) × (r.0.seats ≡ seats) × IsAtRest r.1 × (r.1.me.0 ≡ first_view (Some part) seats)) }
     {
+        let bells = Bells::new(alloc)?;
         let about = Opening {
             part: Snapshot::of(&part),
             seats: seats as u64,
@@ -57,10 +65,17 @@ impl<T: Part + Drop> CapLock<T> {
         let Ok((table, place)) = Table::new(alloc, &[1, 0, 0], slots, &about) else {
             return Err(Memory);
         };
-        Ok((CapLock { table, seats }, place))
+        Ok((
+            CapLock {
+                table,
+                seats,
+                bells,
+            },
+            place,
+        ))
     }
 
-    // Waits for the turn of the ticket: the place then has the part.
+    // Waits for the turn of the ticket: the place then has the part. Looks some times, and then sleeps at the ticket's bell.
     fn wait<R: Wait>(&self, rt: &R, place: &mut Place<T>, ticket: u64)
         requires own { place.old.table_id ≡ self.now.table.shared.table_id }
         requires live { place.old.me.0.spent ≡ false }
@@ -69,11 +84,17 @@ impl<T: Part + Drop> CapLock<T> {
         ensures own { (place.new.table_id ≡ place.old.table_id) × (place.new.id ≡ place.old.id) }
         ensures come { TurnHasCome (Leaves T.program T.stands) (LegalFrom T.program T.stands) place.old.me place.new.me }
     {
+        let mut looks = 0;
         for _ in rt.forever() {
             if self.table.shared.load::<LookAtServing>(place, 2) == ticket {
                 return;
             }
-            thread::yield_now();
+            if looks < LOOKS {
+                looks += 1;
+                spin_loop();
+            } else {
+                self.bells.sleep(rt, ticket);
+            }
         }
         unreachable!()
     }
@@ -94,7 +115,7 @@ impl<T: Part + Drop> CapLock<T> {
         part.serve(thread, request)
     }
 
-    // Puts the part home with these entries more in the history, and ends the turn.
+    // Puts the part home with these entries more in the history, ends the turn, and wakes who has the next one.
     fn release<W: Adds>(&self, place: &mut Place<T>)
         requires own { place.old.table_id ≡ self.now.table.shared.table_id }
         requires live { (place.old.me.0.spent ≡ false) × (place.old.me.0.unsettled ≡ []) }
@@ -105,7 +126,8 @@ impl<T: Part + Drop> CapLock<T> {
         requires others { (k : ℕ) → k ≢ place.old.me.0.number → entries_of k W.added ≡ [] }
         ensures { (place.new.table_id ≡ place.old.table_id) × (place.new.id ≡ place.old.id) × (place.new.me ≡ (released place.old.me.0 W.added, [])) }
     {
-        self.table.shared.fetch_add::<Release<W>>(place, 2, 1);
+        let turn = self.table.shared.fetch_add::<Release<W>>(place, 2, 1);
+        self.bells.wake(turn.wrapping_add(1));
     }
 
     // The same with one entry, that of the request. What is asked and answered is handed in for the contract alone.
@@ -197,7 +219,11 @@ impl<T: Part + Drop> CapLock<T> {
         requires alone { IsAlone place.me.0 }
         ensures { (history : List Entry) × HasClosed (Leaves T.program T.stands) (LegalFrom T.program T.stands) place.me.0 result history }
     {
-        let CapLock { table, seats: _ } = self;
+        let CapLock {
+            table,
+            seats: _,
+            bells: _,
+        } = self;
         let mut closed = table.close_with(place);
         let part = closed.take(0);
         closed.free();
