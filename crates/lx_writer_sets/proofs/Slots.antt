@@ -5,11 +5,11 @@ use Rattle.std.proofs.lemmas.Bool.{both_ways}
 use Rattle.std.proofs.lemmas.Bool.Decides.{nat_tests}
 use Rattle.lx_caps.specs.declared.Principal.{Principal}
 use Rattle.lx_caps.specs.History.{History, same_principal}
-use Rattle.lx_caps.specs.Precedence.{follows, IsFirstPrincipal}
+use Rattle.lx_caps.specs.Precedence.{IsFirstPrincipal}
 use Rattle.lx_caps.specs.Writers.{is_writer, is_slot_writer}
 use Rattle.lx_cap_nodes.specs.Words.{nodes_at}
 use Rattle.lx_writer_sets.specs.Bits.{is_set}
-use Rattle.lx_writer_sets.specs.Sets.{eight, has_byte, touches, part_list, is_given, is_given_at, is_recorded, Records, writes_in, writes_part, IsNobody, IsNextWriter}
+use Rattle.lx_writer_sets.specs.Sets.{eight, has_byte, touches, part_list, is_given, is_given_at, is_recorded, Records, writes_in, writes_part, IsNobody, IsFirstWriter}
 use Rattle.lx_writer_sets.specs.declared.entry.Entry.{Entry}
 use Rattle.lx_writer_sets.proofs.GivenLemmas.{or_rest}
 use Rattle.lx_writer_sets.proofs.Lists.{and_or}
@@ -143,21 +143,21 @@ one_alone lists h slot stands same q =
 first_of_all : IsFirstPrincipal (λ q. false) None
 first_of_all q = refl
 
--- the next writer, by one part
-pub next_by_one : (lists : List (List (ℕ × Entry))) (h : History) (slot : ℕ) (after next : Option Principal) → Records lists h → slot / 64 ≡ (slot + 7) / 64
-    → ((p : Principal → Bool) → IsFirstPrincipal p None → IsFirstPrincipal (λ q. p q || (follows after q && writes_part lists (slot / 64) slot q)) next) → IsNextWriter h slot after next
-next_by_one lists h slot after next stands same first =
-    same_first (λ q. false || (follows after q && writes_part lists (slot / 64) slot q)) (λ q. follows after q && is_slot_writer h slot q)
-    (λ q. ap (λ (t : Bool). follows after q && t) (one_alone lists h slot stands same q)) next (first (λ q. false) first_of_all)
+-- the first writer that passes, by one part
+pub first_by_one : (lists : List (List (ℕ × Entry))) (h : History) (slot : ℕ) (t : Principal → Bool) (first : Option Principal) → Records lists h → slot / 64 ≡ (slot + 7) / 64
+    → ((p : Principal → Bool) → IsFirstPrincipal p None → IsFirstPrincipal (λ q. p q || (t q && writes_part lists (slot / 64) slot q)) first) → IsFirstWriter h slot t first
+first_by_one lists h slot t first stands same is =
+    same_first (λ q. false || (t q && writes_part lists (slot / 64) slot q)) (λ q. t q && is_slot_writer h slot q)
+    (λ q. ap (λ (b : Bool). t q && b) (one_alone lists h slot stands same q)) first (is (λ q. false) first_of_all)
 
 -- and by two
-pub next_by_two : (lists : List (List (ℕ × Entry))) (h : History) (slot : ℕ) (after found next : Option Principal) → Records lists h
-    → ((p : Principal → Bool) → IsFirstPrincipal p None → IsFirstPrincipal (λ q. p q || (follows after q && writes_part lists (slot / 64) slot q)) found)
-    → ((p : Principal → Bool) → IsFirstPrincipal p found → IsFirstPrincipal (λ q. p q || (follows after q && writes_part lists ((slot + 7) / 64) slot q)) next) → IsNextWriter h slot after next
-next_by_two lists h slot after found next stands first second =
-    same_first (λ q. (false || (follows after q && writes_part lists (slot / 64) slot q)) || (follows after q && writes_part lists ((slot + 7) / 64) slot q)) (λ q. follows after q && is_slot_writer h slot q)
-    (λ q. and_or (follows after q) (writes_part lists (slot / 64) slot q) (writes_part lists ((slot + 7) / 64) slot q) ∙ ap (λ (t : Bool). follows after q && t) (both_parts lists h slot stands q)) next
-    (second (λ q. false || (follows after q && writes_part lists (slot / 64) slot q)) (first (λ q. false) first_of_all))
+pub first_by_two : (lists : List (List (ℕ × Entry))) (h : History) (slot : ℕ) (t : Principal → Bool) (found first : Option Principal) → Records lists h
+    → ((p : Principal → Bool) → IsFirstPrincipal p None → IsFirstPrincipal (λ q. p q || (t q && writes_part lists (slot / 64) slot q)) found)
+    → ((p : Principal → Bool) → IsFirstPrincipal p found → IsFirstPrincipal (λ q. p q || (t q && writes_part lists ((slot + 7) / 64) slot q)) first) → IsFirstWriter h slot t first
+first_by_two lists h slot t found first stands one two =
+    same_first (λ q. (false || (t q && writes_part lists (slot / 64) slot q)) || (t q && writes_part lists ((slot + 7) / 64) slot q)) (λ q. t q && is_slot_writer h slot q)
+    (λ q. and_or (t q) (writes_part lists (slot / 64) slot q) (writes_part lists ((slot + 7) / 64) slot q) ∙ ap (λ (b : Bool). t q && b) (both_parts lists h slot stands q)) first
+    (two (λ q. false || (t q && writes_part lists (slot / 64) slot q)) (one (λ q. false) first_of_all))
 
 -- somebody in a part is a writer
 pub someone : (p s : Principal → Bool) → ((q : Principal) → p q ≡ true → s q ≡ true) → IsNobody false p → ((q : Principal) → s q ≡ false) → ⊥

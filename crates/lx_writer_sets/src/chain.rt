@@ -3,7 +3,7 @@ ghost use Rattle.std.specs.Prelude.{◌≡◌, ◌≢◌, ◌+◌, ◌*◌, ◌^
 ghost use Rattle.lx_caps.specs.declared.Principal.{Principal};
 ghost use Rattle.lx_caps.specs.declared.Atom.TheVariants.{Byte};
 ghost use Rattle.lx_caps.specs.History.{History, owns, same_principal};
-ghost use Rattle.lx_caps.specs.Precedence.{follows, IsFirstPrincipal};
+ghost use Rattle.lx_caps.specs.Precedence.{IsFirstPrincipal};
 ghost use Rattle.lx_cap_nodes.specs.Words.{is_live, nodes_at, pool_with, value_in};
 ghost use Rattle.lx_writer_sets.specs.Bits.{is_set};
 ghost use Rattle.lx_writer_sets.specs.declared.entry.Entry.{Entry};
@@ -11,6 +11,7 @@ ghost use Rattle.lx_writer_sets.specs.Nodes.{AllNodes, HasBit, has_nodes, has_wr
 ghost use Rattle.lx_writer_sets.specs.Sets.{IsNobody, is_given, writes_in};
 ghost use Rattle.lx_writer_sets.specs.Walks.{from, HasCome, StandsAt};
 
+use crate::PrincipalTest;
 use crate::bits::with;
 use crate::entry::{Entry, SlotPart, is_by, kept_mask, touches, writer_by};
 use crate::piece::Piece;
@@ -142,24 +143,25 @@ pub(crate) fn forget<C: CapStore>(pool: &mut Pool, list: u64, piece: Piece, caps
     }
 }
 
-/// The first of a principal that was found and the writers in a list of a slot behind `after`.
-pub(crate) fn first_writer(
+/// The first of a principal that was found and the writers in a list of a slot that pass the test. Each is asked once.
+pub(crate) fn first_writer<T: PrincipalTest>(
     pool: &Pool,
     list: u64,
     at: SlotPart,
-    after: Option<Principal>,
+    test: &T,
     found: Option<Principal>,
 ) -> Option<Principal>
     requires list { list < length pool.now.places }
     requires slot { at.slot + 8 ≤ 2 ^ 64 }
-    ensures { (p : Principal → Bool) → IsFirstPrincipal p found → IsFirstPrincipal (λ q. p q || (follows after q && writes_in at.part (nodes_at pool.now.places list) at.slot q)) result }
+    ensures { (t : Principal → Bool) → T.stands test.now t → (p : Principal → Bool) → IsFirstPrincipal p found
+        → IsFirstPrincipal (λ q. p q || (t q && writes_in at.part (nodes_at pool.now.places list) at.slot q)) result }
 {
     pool.laws();
     let mut first = found;
     let mut node = pool.first(ListName::Place(list));
     while let Some(n) = node {
         let seen = visit(pool, list, n);
-        first = earlier(first, writer_by(seen.entry, at, after));
+        first = earlier(first, writer_by(seen.entry, at, test));
         node = seen.next;
     }
     first

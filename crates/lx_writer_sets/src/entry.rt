@@ -1,15 +1,16 @@
 //! Entries: what is recorded of one writer in one part.
-ghost use Rattle.std.specs.Prelude.{◌≡◌, ◌+◌, ◌*◌, ◌/◌, ◌^◌, ◌<◌, ◌≤◌, ℕ, ◌&&◌, ◌||◌, not, nat_eq, nat_le, nat_lt};
+ghost use Rattle.std.specs.Prelude.{◌≡◌, ◌+◌, ◌*◌, ◌/◌, ◌^◌, ◌<◌, ◌≤◌, ℕ, Bool, ◌&&◌, ◌||◌, not, nat_eq, nat_le, nat_lt};
 ghost use Rattle.lx_caps.specs.declared.Principal.{Principal};
 ghost use Rattle.lx_caps.specs.declared.Atom.TheVariants.{Byte};
 ghost use Rattle.lx_caps.specs.History.{History, owns, same_principal};
-ghost use Rattle.lx_caps.specs.Precedence.{follows, is_found};
+ghost use Rattle.lx_caps.specs.Precedence.{is_found};
 ghost use Rattle.lx_writer_sets.specs.Bits.{is_set};
 ghost use Rattle.lx_writer_sets.specs.Sets.{has_byte, touches};
 
+use crate::PrincipalTest;
 use crate::bits::{is_set, without};
 use crate::piece::{PART, Piece};
-use lx_caps::{CapStore, Principal, follows, is_same, owns_byte};
+use lx_caps::{CapStore, Principal, is_same, owns_byte};
 
 /// The bytes of a part, by a bit for each, that a principal may have written.
 #[derive(Clone, Copy)]
@@ -75,12 +76,12 @@ pub(crate) fn is_by(entry: Entry, at: SlotPart, who: Principal) -> bool
     is_same(who, entry.writer) && touches(entry, at)
 }
 
-/// The entry's writer, if it is one of the slot behind `after`.
-pub(crate) fn writer_by(entry: Entry, at: SlotPart, after: Option<Principal>) -> Option<Principal>
+/// The entry's writer, if it is one of the slot and passes the test.
+pub(crate) fn writer_by<T: PrincipalTest>(entry: Entry, at: SlotPart, test: &T) -> Option<Principal>
     requires { at.slot + 8 ≤ 2 ^ 64 }
-    ensures { (q : Principal) → (follows after q && (same_principal q entry.writer && touches at.part entry at.slot)) ≡ is_found result q }
+    ensures { (p : Principal → Bool) → T.stands test.now p → (q : Principal) → (p q && (same_principal q entry.writer && touches at.part entry at.slot)) ≡ is_found result q }
 {
-    if follows(after, entry.writer) && touches(entry, at) {
+    if touches(entry, at) && test.passes(entry.writer) {
         Some(entry.writer)
     } else {
         None

@@ -8,8 +8,8 @@
 //! let mut sets = WriterSets::new(alloc);
 //! sets.reserve(2)?;
 //! sets.note(Principal::Shared(0), 0x1000000, 8);
-//! // The first writer of the slot, in the order of principals.
-//! sets.next_writer(0x1000000, None);
+//! // The first writer of the slot, in the order of principals, that passes the test.
+//! sets.first_writer(0x1000000, &test);
 //! // Who does not own the bytes any more is forgotten.
 //! sets.zero(0x1000000, 8, &caps);
 //! ```
@@ -24,7 +24,7 @@
 //! caps.grant(Principal::Shared(0), Cap::Write { at: 0x1000000, size: 8 });
 //! caps.strip(Cap::Write { at: 0x1000000, size: 8 });
 //! // The module may still have left something in the slot there.
-//! caps.next_writer(0x1000000, None);
+//! caps.first_writer(0x1000000, &test);
 //! ```
 #![tactic(auto)]
 
@@ -36,9 +36,11 @@ mod laws;
 mod noted;
 mod parts;
 mod piece;
+mod principal_test;
 mod recorded;
 mod sets;
 
 pub use laws::{writer_look_laws, writer_set_laws};
+pub use principal_test::PrincipalTest;
 pub use recorded::Recorded;
 pub use sets::WriterSets;

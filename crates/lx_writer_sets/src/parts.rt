@@ -3,12 +3,13 @@ ghost use Rattle.std.specs.Prelude.{◌≡◌, ◌+◌, ◌-◌, ◌*◌, ◌/�
 ghost use Rattle.lx_caps.specs.declared.Principal.{Principal};
 ghost use Rattle.lx_caps.specs.declared.Atom.TheVariants.{Byte};
 ghost use Rattle.lx_caps.specs.History.{History, owns, same_principal};
-ghost use Rattle.lx_caps.specs.Precedence.{follows, IsFirstPrincipal};
+ghost use Rattle.lx_caps.specs.Precedence.{IsFirstPrincipal};
 ghost use Rattle.lx_caps.specs.Regions.{covers, mapped};
 ghost use Rattle.lx_cap_nodes.specs.Words.{nodes_at};
 ghost use Rattle.lx_writer_sets.specs.Nodes.{AllNodes, has_nodes, is_ready};
 ghost use Rattle.lx_writer_sets.specs.Sets.{IsNobody, count_in, is_given_at, is_recorded, part_list, writes_part};
 
+use crate::PrincipalTest;
 use crate::bitmap::{add_words, is_marked, mark, mark_anew};
 use crate::chain::{Pool, add, first_writer, forget, is_untouched, writes};
 use crate::entry::{Entry, SlotPart};
@@ -218,18 +219,19 @@ impl PartLists {
         }
     }
 
-    /// The first of a principal that was found and the writers of a slot in one part behind `after`.
-    pub(crate) fn first_writer(
+    /// The first of a principal that was found and the writers of a slot in one part that pass the test.
+    pub(crate) fn first_writer<T: PrincipalTest>(
         &self,
         at: SlotPart,
-        after: Option<Principal>,
+        test: &T,
         found: Option<Principal>,
     ) -> Option<Principal>
         requires { at.slot + 8 ≤ 2 ^ 64 }
-        ensures { (p : Principal → Bool) → IsFirstPrincipal p found → IsFirstPrincipal (λ q. p q || (follows after q && writes_part self.now.lists at.part at.slot q)) result }
+        ensures { (t : Principal → Bool) → T.stands test.now t → (p : Principal → Bool) → IsFirstPrincipal p found
+            → IsFirstPrincipal (λ q. p q || (t q && writes_part self.now.lists at.part at.slot q)) result }
     {
         match self.list_at(at.part) {
-            Some(list) => first_writer(&self.pool, list, at, after, found),
+            Some(list) => first_writer(&self.pool, list, at, test, found),
             None => found,
         }
     }

@@ -1,14 +1,14 @@
 //! A store of capabilities with its writer sets.
-ghost use Rattle.std.specs.Prelude.{◌≡◌, ◌↔◌, ◌+◌, ◌^◌, ◌<◌, ◌≤◌, ◌∷◌, [], false, true, IsTrue};
+ghost use Rattle.std.specs.Prelude.{◌≡◌, ◌↔◌, ◌+◌, ◌^◌, ◌<◌, ◌≤◌, ◌∷◌, [], Bool, false, true, IsTrue};
 ghost use Rattle.lx_caps.specs.declared.Act.TheVariants.{Zero};
 ghost use Rattle.lx_caps.specs.declared.Principal.{Principal};
 ghost use Rattle.lx_caps.specs.History.{History, without_zeros};
 ghost use Rattle.lx_caps.specs.Regions.{mapped};
 ghost use Rattle.lx_caps.specs.Writers.{is_slot_writer};
-ghost use Rattle.lx_writer_sets.specs.Sets.{IsNextWriter};
+ghost use Rattle.lx_writer_sets.specs.Sets.{IsFirstWriter};
 
 use crate::noted::note_cap;
-use crate::{WriterSets, writer_set_laws};
+use crate::{PrincipalTest, WriterSets, writer_set_laws};
 use lx_caps::{Atom, Cap, CapStore, Principal, history_laws};
 use lx_words::Memory;
 use std::alloc::Global;
@@ -155,13 +155,14 @@ impl<C: CapStore + Drop> Recorded<C> {
         self.sets.zero(at, size, &self.caps);
     }
 
-    /// Gives the next writer of a slot, in the order of principals, behind `after`: the next principal that owned one of the
-    /// slot's eight bytes at some moment since that byte was last zeroed, that moment included.
-    pub fn next_writer(&self, slot: u64, after: Option<Principal>) -> Option<Principal>
+    /// Gives the first writer of a slot, in the order of principals, that passes the test: the first principal of those that
+    /// owned one of the slot's eight bytes at some moment since that byte was last zeroed, that moment included. Each
+    /// writer is asked at most once for each of the parts of 64 bytes that the slot lies in.
+    pub fn first_writer<T: PrincipalTest>(&self, slot: u64, test: &T) -> Option<Principal>
         requires { slot + 8 ≤ 2 ^ 64 }
-        ensures { (h : History) → ⟦<Recorded<C> as CapStore>⟧.stands self.now h → IsNextWriter h slot after result }
+        ensures { (h : History) → ⟦<Recorded<C> as CapStore>⟧.stands self.now h → (t : Principal → Bool) → T.stands test.now t → IsFirstWriter h slot t result }
     {
-        self.sets.next_writer(slot, after)
+        self.sets.first_writer(slot, test)
     }
 
     /// Says whether the principal is a writer of the slot.

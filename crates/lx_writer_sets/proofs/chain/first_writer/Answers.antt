@@ -1,5 +1,5 @@
 use Rattle.std.proofs.Common.{rules, ◌≡◌, ◌||◌, ◌&&◌, ◌∷◌, None, sym, ap, ◌∙◌}
-use Rattle.lx_caps.specs.Precedence.{follows, is_found}
+use Rattle.lx_caps.specs.Precedence.{is_found}
 use Rattle.lx_caps.specs.History.{same_principal}
 use Rattle.lx_cap_nodes.specs.declared.pool.Family.TheVariants.{Place}
 use Rattle.lx_cap_nodes.specs.Words.{nodes_at}
@@ -12,13 +12,13 @@ use Rattle.lx_caps.proofs.PrincipalOrder.{same_first}
 use Rattle.lx_caps.proofs.Tests.{first_step}
 
 pub loop-node-init : goal.loop-node-init
-loop-node-init c =
+loop-node-init g c =
     let es = nodes_at c.args.pool.now.places c.args.list in
     let start = begins es c.first-node.result (c.laws.ensures.apart Place c.args.list) c.first-node.ensures.first in
-    record { come = start.1; so_far = λ p. p; first = λ p is. is; rest = λ p q. ap (λ r. p q || (follows c.args.after q && writes_in c.args.at.part r c.args.at.slot q)) start.0 }
+    record { come = start.1; so_far = λ t p. p; first = λ t tells p is. is; rest = λ t tells p q. ap (λ r. p q || (t q && writes_in c.args.at.part r c.args.at.slot q)) start.0 }
 
 pub loop-node-preserved : goal.loop-node-preserved
-loop-node-preserved c =
+loop-node-preserved g c =
     let es = nodes_at c.args.pool.now.places c.args.list in
     let old = c.loop-node.invariant in
     let e = c.visit-seen.result.entry in
@@ -26,20 +26,20 @@ loop-node-preserved c =
     let step : from c.loop-node.node es ≡ (c.in-Some.n, e) ∷ rest = ap (λ o. from o es) c.in-Some.is ∙ c.visit-seen.ensures.entry in
     record {
       come = c.visit-seen.ensures.next;
-      so_far = λ p q. old.so_far p q || is_found c.writer_by.result q;
-      first = λ p is. c.earlier-first.ensures (old.so_far p) (old.first p is);
-      rest = λ p q.
-          first_step (old.so_far p q) (follows c.args.after q) (is_found c.writer_by.result q) (same_principal q e.writer && touches c.args.at.part e c.args.at.slot) (writes_in c.args.at.part rest c.args.at.slot q) (c.writer_by.ensures q)
-          ∙ (ap (λ r. old.so_far p q || (follows c.args.after q && writes_in c.args.at.part r c.args.at.slot q)) (sym step) ∙ old.rest p q);
+      so_far = λ t p q. old.so_far t p q || is_found c.writer_by.result q;
+      first = λ t tells p is. c.earlier-first.ensures (old.so_far t p) (old.first t tells p is);
+      rest = λ t tells p q.
+          first_step (old.so_far t p q) (t q) (is_found c.writer_by.result q) (same_principal q e.writer && touches c.args.at.part e c.args.at.slot) (writes_in c.args.at.part rest c.args.at.slot q) (c.writer_by.ensures t tells q)
+          ∙ (ap (λ r. old.so_far t p q || (t q && writes_in c.args.at.part r c.args.at.slot q)) (sym step) ∙ old.rest t tells p q);
     }
 
 pub returns : goal.returns
-returns c p is =
+returns g c t tells p is =
     let es = nodes_at c.args.pool.now.places c.args.list in
     let old = c.loop-node.invariant in
     let none : c.loop-node.node ≡ None = search rules in
-    same_first (old.so_far p) (λ q. p q || (follows c.args.after q && writes_in c.args.at.part es c.args.at.slot q))
+    same_first (old.so_far t p) (λ q. p q || (t q && writes_in c.args.at.part es c.args.at.slot q))
     (λ q.
-    so_far_all (old.so_far p q) (follows c.args.after q) (p q || (follows c.args.after q && writes_in c.args.at.part es c.args.at.slot q))
-    (ap (λ o. old.so_far p q || (follows c.args.after q && writes_in c.args.at.part (from o es) c.args.at.slot q)) (sym none) ∙ old.rest p q))
-    c.loop-node.first (old.first p is)
+    so_far_all (old.so_far t p q) (t q) (p q || (t q && writes_in c.args.at.part es c.args.at.slot q))
+    (ap (λ o. old.so_far t p q || (t q && writes_in c.args.at.part (from o es) c.args.at.slot q)) (sym none) ∙ old.rest t tells p q))
+    c.loop-node.first (old.first t tells p is)
