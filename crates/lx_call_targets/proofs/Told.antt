@@ -1,103 +1,101 @@
--- What is known of a slot's writers, principal by principal.
-use Rattle.std.proofs.Common.{◌≡◌, ◌∙◌, ℕ, ◌+◌, Bool, true, false, Option, Some, None, List, [], ◌∷◌, ◌++◌, map, refl, ap, sym, subst, add-one, if◌then◌else◌}
-use Rattle.std.specs.Prelude.{filter}
-use Rattle.std.specs.List.{fold, flat_map}
-use Rattle.std.proofs.lemmas.List.Sums.{fold-append}
-use Rattle.std.proofs.lemmas.Grind.{flat_map-append}
-use mathlib.Core.List.{append-nil}
+-- What the first writers of a slot tell of all of them.
+use Rattle.std.proofs.Common.{◌≡◌, ◌∙◌, ℕ, Bool, true, false, not, ◌&&◌, Option, Some, None, List, [], ◌∷◌, refl, ap, if◌then◌else◌}
+use Rattle.std.specs.Prelude.{filter, option_map}
+use Rattle.std.specs.List.{find, flat_map, list_any}
 use Rattle.lx_caps.specs.declared.Principal.{Principal}
-use Rattle.lx_caps.specs.declared.Principal.TheVariants.{Shared, Global, Inst}
 use Rattle.lx_caps.specs.declared.Cap.TheVariants.{Call}
-use Rattle.lx_caps.specs.History.{History, holds}
+use Rattle.lx_caps.specs.History.{holds, same_principal}
+use Rattle.lx_caps.specs.Names.{Namings}
+use Rattle.lx_caps.specs.Precedence.{IsFirstPrincipal}
 use Rattle.lx_caps.specs.Writers.{is_slot_writer}
 use Rattle.lx_model.specs.declared.request.Outcome.{Outcome}
 use Rattle.lx_model.specs.declared.request.Outcome.TheVariants.{Refused}
 use Rattle.lx_model.specs.declared.request.Refusal.TheVariants as refusal
 use Rattle.lx_model.specs.Act.{or_else, unless}
 use Rattle.lx_model.specs.Enter.{writer_refusal}
-use Rattle.lx_model.specs.State.{State}
+use Rattle.lx_model.specs.State.{State, module_principals}
 use Rattle.lx_slot_types.specs.Gets.{below}
-use Rattle.lx_call_targets.specs.Writers.{AreTold, with_writer}
-use Rattle.lx_call_targets.specs.declared.writers.SlotWriters.{SlotWriters}
+use Rattle.lx_writer_sets.specs.Sets.{IsFirstWriter}
+use Rattle.lx_call_targets.specs.Writers.{AreTold, is_known, lacks}
 use Rattle.lx_call_targets.specs.declared.writers.SlotWriters.TheVariants.{Nobody, AllHold, Lacks}
-use Rattle.lx_caps.proofs.Items.{map_append}
+use Rattle.lx_call_targets.proofs.Listings.{first_in_order, known_listed}
+use Rattle.lx_caps.proofs.PrincipalOrder.{one_first_principal, same_first}
 
--- one number more of a fold over numbered things
-pub numbered_more : {A B : Type 0} (f : B → A → B) (make : ℕ → A) (k : ℕ) (old now new : B) → now ≡ fold f old (map make (below k)) → new ≡ f now (make k) → new ≡ fold f old (map make (below (k + 1)))
-numbered_more f make k old now new p q =
-    q ∙ ap (λ x. f x (make k)) p
-    ∙ sym (fold-append f old (map make (below k)) (make k ∷ []))
-    ∙ ap (fold f old) (sym (ap (λ n. map make (below n)) (add-one k) ∙ map_append make (below k) (k ∷ [])))
+-- nothing is left where nothing is found
+none_left : (p : Principal → Bool) (qs : List Principal) → find p qs ≡ None → filter p qs ≡ []
+none_left p [] none = refl
+none_left p (q ∷ qs) none =
+    (elim (p q) as (λ t. (if t then Some q else find p qs) ≡ None → (if t then q ∷ filter p qs else filter p qs) ≡ []) [
+      | true ↦ λ e. absurd (cc)
+      | false ↦ λ e. none_left p qs e
+    ]) none
 
--- one list more of a fold over numbered lists
-pub lists_more : {A B : Type 0} (f : B → A → B) (make : ℕ → List A) (k : ℕ) (old now new : B) → now ≡ fold f old (flat_map make (below k)) → new ≡ fold f now (make k) → new ≡ fold f old (flat_map make (below (k + 1)))
-lists_more f make k old now new p q =
-    q ∙ ap (λ x. fold f x (make k)) p
-    ∙ sym (fold-append f old (flat_map make (below k)) (make k))
-    ∙ ap (fold f old) (sym (ap (λ n. flat_map make (below n)) (add-one k) ∙ flat_map-append make (below k) (k ∷ []) ∙ ap (λ xs. flat_map make (below k) ++ xs) (append-nil (make k))))
+-- and what is found stands first in what is left
+some_left : (p : Principal → Bool) (qs : List Principal) (w : Principal) → find p qs ≡ Some w → (more : List Principal) × (filter p qs ≡ w ∷ more)
+some_left p [] w is = absurd (cc)
+some_left p (q ∷ qs) w is =
+    (elim (p q) as (λ t. (if t then Some q else find p qs) ≡ Some w → (more : List Principal) × ((if t then q ∷ filter p qs else filter p qs) ≡ w ∷ more)) [
+      | true ↦ λ e. (filter p qs, let same : q ≡ w = cc in ap (λ x. x ∷ filter p qs) same)
+      | false ↦ λ e. some_left p qs w e
+    ]) is
 
 module _ (s : State) (slot a : ℕ) where
-  abbrev more : SlotWriters → List Principal → SlotWriters
-  more seen qs = fold (with_writer s.history slot a) seen qs
+  abbrev writes : Principal → Bool
+  writes = is_slot_writer s.history slot
 
-  abbrev writers : List Principal → List Principal
-  writers qs = filter (is_slot_writer s.history slot) qs
+  abbrev has_call : Principal → Bool
+  has_call q = holds s.history q (Call a)
 
-  -- behind a writer that does not hold the call nothing more is learned
-  stays : (q : Principal) (qs : List Principal) → more (Lacks q) qs ≡ Lacks q
-  stays q [] = refl
-  stays q (x ∷ xs) = stays q xs
+  abbrev refused : Principal → Outcome
+  refused q = Refused (refusal.Writer q a slot)
 
-  -- the writers behind one that holds the call
-  abbrev AreHeld : List Principal → SlotWriters → Type 0
-  AreHeld ws Nobody = ⊥
-  AreHeld ws AllHold = writer_refusal s slot a ws ≡ None
-  AreHeld ws (Lacks q) = writer_refusal s slot a ws ≡ Some (Refused (refusal.Writer q a slot))
+  -- one principal more
+  refused_more : (q : Principal) (ws : List Principal) (found : Option Principal) (w c : Bool) → has_call q ≡ c → writer_refusal s slot a ws ≡ option_map refused found
+      → writer_refusal s slot a (if w then q ∷ ws else ws) ≡ option_map refused (if w && not c then Some q else found)
+  refused_more q ws found false c is rest = rest
+  refused_more q ws found true true is rest = ap (λ b. or_else (unless b (refused q)) (writer_refusal s slot a ws)) is ∙ rest
+  refused_more q ws found true false is rest = ap (λ b. or_else (unless b (refused q)) (writer_refusal s slot a ws)) is
 
-  refusal_behind : (x : Principal) (ws : List Principal) → holds s.history x (Call a) ≡ true → writer_refusal s slot a (x ∷ ws) ≡ writer_refusal s slot a ws
-  refusal_behind x ws e = ap (λ b. or_else (unless b (Refused (refusal.Writer x a slot))) (writer_refusal s slot a ws)) e
+  -- the refusal is that of the first writer that does not hold the call
+  refused_by : (qs : List Principal) → writer_refusal s slot a (filter writes qs) ≡ option_map refused (find (λ q. writes q && not (has_call q)) qs)
+  refused_by [] = refl
+  refused_by (q ∷ qs) = refused_more q (filter writes qs) (find (λ r. writes r && not (has_call r)) qs) (writes q) (has_call q) refl (refused_by qs)
 
-  refusal_of : (x : Principal) (ws : List Principal) → holds s.history x (Call a) ≡ false → writer_refusal s slot a (x ∷ ws) ≡ Some (Refused (refusal.Writer x a slot))
-  refusal_of x ws e = ap (λ b. or_else (unless b (Refused (refusal.Writer x a slot))) (writer_refusal s slot a ws)) e
+  turned : (k c w : Bool) → ((k && not c) && w) ≡ (k && (w && not c))
+  turned true true true = refl
+  turned true true false = refl
+  turned true false true = refl
+  turned true false false = refl
+  turned false c w = refl
 
-  held_behind : (x : Principal) (ws : List Principal) (r : SlotWriters) → holds s.history x (Call a) ≡ true → AreHeld ws r → AreHeld (x ∷ ws) r
-  held_behind x ws Nobody e is = is
-  held_behind x ws AllHold e is = refusal_behind x ws e ∙ is
-  held_behind x ws (Lacks q) e is = refusal_behind x ws e ∙ is
+  module _ (names : Namings) (n : ℕ) where
+    abbrev all : List Principal
+    all = flat_map (module_principals names) (below n)
 
-  held_if : (x : Principal) (xs : List Principal) (w c : Bool) → holds s.history x (Call a) ≡ c → AreHeld (writers xs) (more AllHold xs)
-      → AreHeld (if w then x ∷ writers xs else writers xs) (more (if w then (if c then AllHold else Lacks x) else AllHold) xs)
-  held_if x xs false c e is = is
-  held_if x xs true true e is = held_behind x (writers xs) (more AllHold xs) e is
-  held_if x xs true false e is = subst (AreHeld (x ∷ writers xs)) (sym (stays x xs)) (refusal_of x (writers xs) e)
+    -- the first that there is and that passes is the first of all that there are
+    is_found : (p : Principal → Bool) (first : Option Principal) → IsFirstPrincipal (λ q. is_known n names q && p q) first → find p all ≡ first
+    is_found p first is =
+        let listed = known_listed names n in
+        one_first_principal (λ q. is_known n names q && p q) (find p all) first
+        (same_first (λ q. list_any (same_principal q) all && p q) (λ q. is_known n names q && p q) (λ q. ap (λ t. t && p q) (listed.each q)) (find p all) (first_in_order p all listed.ordered))
+        is
 
-  held : (xs : List Principal) → AreHeld (writers xs) (more AllHold xs)
-  held [] = refl
-  held (x ∷ xs) = held_if x xs (is_slot_writer s.history slot x) (holds s.history x (Call a)) refl (held xs)
+    writer_found : (first : Option Principal) → IsFirstWriter s.history slot (is_known n names) first → find writes all ≡ first
+    writer_found first is = is_found writes first is
 
-  told_behind : (x : Principal) (ws : List Principal) (r : SlotWriters) → holds s.history x (Call a) ≡ true → AreHeld ws r → AreTold s slot a (x ∷ ws) r
-  told_behind x ws Nobody e is = absurd is
-  told_behind x ws AllHold e is = (x, ws, refl, refusal_behind x ws e ∙ is)
-  told_behind x ws (Lacks q) e is = refusal_behind x ws e ∙ is
+    lacking_found : (first : Option Principal) → IsFirstWriter s.history slot (lacks n names s.history a) first → find (λ q. writes q && not (has_call q)) all ≡ first
+    lacking_found first is =
+        is_found (λ q. writes q && not (has_call q)) first
+        (same_first (λ q. lacks n names s.history a q && writes q) (λ q. is_known n names q && (writes q && not (has_call q))) (λ q. turned (is_known n names q) (has_call q) (writes q)) first is)
 
-  told_if : (x : Principal) (xs : List Principal) (w c : Bool) → holds s.history x (Call a) ≡ c → AreTold s slot a (writers xs) (more Nobody xs)
-      → AreTold s slot a (if w then x ∷ writers xs else writers xs) (more (if w then (if c then AllHold else Lacks x) else Nobody) xs)
-  told_if x xs false c e is = is
-  told_if x xs true true e is = told_behind x (writers xs) (more AllHold xs) e (held xs)
-  told_if x xs true false e is = subst (AreTold s slot a (x ∷ writers xs)) (sym (stays x xs)) (refusal_of x (writers xs) e)
+    pub nobody : IsFirstWriter s.history slot (is_known n names) None → AreTold s slot a (filter writes all) Nobody
+    nobody is = none_left writes all (writer_found None is)
 
-  told : (xs : List Principal) → AreTold s slot a (writers xs) (more Nobody xs)
-  told [] = refl
-  told (x ∷ xs) = told_if x xs (is_slot_writer s.history slot x) (holds s.history x (Call a)) refl (told xs)
+    pub lacking : (q : Principal) → IsFirstWriter s.history slot (lacks n names s.history a) (Some q) → AreTold s slot a (filter writes all) (Lacks q)
+    lacking q is = refused_by all ∙ ap (option_map refused) (lacking_found (Some q) is)
 
--- what is known once all principals were looked at
-pub are_told : (s : State) (slot a : ℕ) (qs : List Principal) (seen : SlotWriters) → seen ≡ fold (with_writer s.history slot a) Nobody qs → AreTold s slot a (filter (is_slot_writer s.history slot) qs) seen
-are_told s slot a qs seen is = subst (AreTold s slot a (filter (is_slot_writer s.history slot) qs)) (sym is) (told s slot a qs)
-
-none_left : (p : Principal → Bool) (qs : List Principal) → ((q : Principal) → p q ≡ false) → filter p qs ≡ []
-none_left p [] none = refl
-none_left p (q ∷ qs) none = ap (λ b. if b then q ∷ filter p qs else filter p qs) (none q) ∙ none_left p qs none
-
--- a slot that nobody wrote in has no writer in any list
-pub told_clean : (h : History) (slot : ℕ) (qs : List Principal) → ((q : Principal) → is_slot_writer h slot q ≡ false) → filter (is_slot_writer h slot) qs ≡ []
-told_clean h slot qs none = none_left (is_slot_writer h slot) qs none
+    pub all_hold : (w : Principal) → IsFirstWriter s.history slot (is_known n names) (Some w) → IsFirstWriter s.history slot (lacks n names s.history a) None
+        → AreTold s slot a (filter writes all) AllHold
+    all_hold w some none =
+        let first = some_left writes all w (writer_found (Some w) some) in
+        (w, first.0, first.1, refused_by all ∙ ap (option_map refused) (lacking_found None none))

@@ -1,9 +1,10 @@
 -- What is known of the writers of a slot.
-use Rattle.std.specs.Prelude.{◌≡◌, ℕ, Some, None, List, [], ◌∷◌, if◌then◌else◌}
+use Rattle.std.specs.Prelude.{◌≡◌, ℕ, Bool, false, not, ◌&&◌, nat_lt, Some, None, List, [], ◌∷◌}
 use Rattle.lx_caps.specs.declared.Principal.{Principal}
 use Rattle.lx_caps.specs.declared.Cap.TheVariants.{Call}
 use Rattle.lx_caps.specs.History.{History, holds}
-use Rattle.lx_caps.specs.Writers.{is_slot_writer}
+use Rattle.lx_caps.specs.declared.Principal.TheVariants.{Kernel, Shared, Global, Inst}
+use Rattle.lx_caps.specs.Names.{Namings, instance_count}
 use Rattle.lx_model.specs.declared.request.Outcome.TheVariants.{Refused}
 use Rattle.lx_model.specs.declared.request.Refusal.TheVariants as refusal
 use Rattle.lx_model.specs.Enter.{writer_refusal}
@@ -11,11 +12,16 @@ use Rattle.lx_model.specs.State.{State}
 use Rattle.lx_call_targets.specs.declared.writers.SlotWriters.{SlotWriters}
 use Rattle.lx_call_targets.specs.declared.writers.SlotWriters.TheVariants.{Nobody, AllHold, Lacks}
 
--- what is known of the slot's writers, one principal more looked at
-abbrev pub with_writer : History → ℕ → ℕ → SlotWriters → Principal → SlotWriters
-with_writer h slot a (Lacks q) who = Lacks q
-with_writer h slot a seen who =
-    if is_slot_writer h slot who then (if holds h who (Call a) then AllHold else Lacks who) else seen
+-- the principal is one of those that there are: of one of so many modules, and if it is an instance, one that was named
+abbrev pub is_known : ℕ → Namings → Principal → Bool
+is_known modules names Kernel = false
+is_known modules names (Shared m) = nat_lt m modules
+is_known modules names (Global m) = nat_lt m modules
+is_known modules names (Inst m k) = nat_lt m modules && nat_lt k (instance_count names m)
+
+-- it is one, and does not hold the call
+abbrev pub lacks : ℕ → Namings → History → ℕ → Principal → Bool
+lacks modules names h a q = is_known modules names q && not (holds h q (Call a))
 
 -- there is no writer; each of them holds the call; or this is the first that does not
 abbrev pub AreTold : State → ℕ → ℕ → List Principal → SlotWriters → Type 0

@@ -1,17 +1,17 @@
 //! What the writers of a slot hold.
-ghost use Rattle.std.specs.Prelude.{◌≡◌, ◌+◌, ◌<◌, ◌≤◌, ◌^◌, map, filter};
-ghost use Rattle.std.specs.List.{fold, flat_map};
+ghost use Rattle.std.specs.Prelude.{◌≡◌, ◌+◌, ◌≤◌, ◌^◌, ℕ, filter};
+ghost use Rattle.std.specs.List.{flat_map};
 ghost use Rattle.lx_caps.specs.History.{History};
 ghost use Rattle.lx_caps.specs.Writers.{is_slot_writer};
-ghost use Rattle.lx_caps.specs.declared.Principal.TheVariants.{Inst};
 ghost use Rattle.lx_model.specs.State.{State, module_principals};
 ghost use Rattle.lx_slot_types.specs.Gets.{below};
-ghost use Rattle.lx_call_targets.specs.Writers.{AreTold, with_writer};
+ghost use Rattle.lx_call_targets.specs.Writers.{AreTold, is_known, lacks};
+ghost use Rattle.lx_writer_sets.specs.Sets.{IsFirstWriter};
 ghost use Rattle.lx_writer_sets.specs.RecordedStands.{StandsRecorded};
 
 use lx_caps::{Cap, CapStore, Principal};
 use lx_principals::Principals;
-use lx_writer_sets::Recorded;
+use lx_writer_sets::{PrincipalTest, Recorded};
 
 /// What the writers of a slot hold.
 #[derive(Clone, Copy)]
@@ -24,97 +24,83 @@ pub enum SlotWriters {
     Lacks(Principal),
 }
 
-/// What is known once a principal was looked at that may be a writer.
-fn with_writer<C: CapStore + Drop>(
-    caps: &Recorded<C>,
-    slot: u64,
-    at: u64,
-    seen: SlotWriters,
-    who: Principal,
-) -> SlotWriters
-    requires { slot + 8 ≤ 2 ^ 64 }
-    ensures { (h : History) → StandsRecorded C.stands caps.now h → result ≡ with_writer h slot at seen who }
+/// Whether the principal is one of those that there are: a module's shared one, its global one, or one of its instances.
+fn is_known(names: &Principals, who: Principal) -> bool
+    ensures { result ≡ is_known names.now.modules names.now.names who }
 {
-    match seen {
-        SlotWriters::Lacks(writer) => SlotWriters::Lacks(writer),
-        SlotWriters::Nobody | SlotWriters::AllHold => {
-            if !caps.is_slot_writer(slot, who) {
-                seen
-            } else if caps.holds(who, Cap::Call { at }) {
-                SlotWriters::AllHold
-            } else {
-                SlotWriters::Lacks(who)
-            }
+    match who {
+        Principal::Kernel => false,
+        Principal::Shared(home) | Principal::Global(home) => (home as usize) < names.modules(),
+        Principal::Inst(home, instance) => {
+            (home as usize) < names.modules() && instance < names.count(home)
         }
     }
 }
 
-/// What is known once a module's first instances were looked at.
-fn with_instances<C: CapStore + Drop>(
-    caps: &Recorded<C>,
-    slot: u64,
-    at: u64,
-    before: SlotWriters,
-    home: u32,
-    count: u32,
-) -> SlotWriters
-    requires { slot + 8 ≤ 2 ^ 64 }
-    ensures { (h : History) → StandsRecorded C.stands caps.now h → result ≡ fold (with_writer h slot at) before (map (Inst home) (below count)) }
-{
-    let mut seen = before;
-    for instance in 0..count {
-        seen = with_writer(caps, slot, at, seen, Principal::Inst(home, instance));
-    }
-    seen
+/// The principals that there are.
+#[derive(Clone, Copy)]
+struct Known<'a> {
+    names: &'a Principals,
 }
 
-/// What is known once a module's principals were looked at.
-fn with_module<C: CapStore + Drop>(
+impl PrincipalTest for Known<'_> {
+    ghost use Rattle.lx_call_targets.specs.Writers.{is_known};
+
+    ghost stands = { λ known p. p ≡ is_known known.names.now.modules known.names.now.names };
+
+    fn passes(&self, who: Principal) -> bool {
+        is_known(self.names, who)
+    }
+}
+
+/// The principals that there are and that do not hold the call of the function at an address.
+#[derive(Drop)]
+struct Lacking<'a, C: CapStore + Drop> {
+    caps: &'a Recorded<C>,
+    names: &'a Principals,
+    at: u64,
+}
+
+impl<C: CapStore + Drop> PrincipalTest for Lacking<'_, C> {
+    ghost use Rattle.lx_call_targets.specs.Writers.{lacks};
+    ghost use Rattle.lx_caps.specs.History.{History};
+    ghost use Rattle.lx_writer_sets.specs.RecordedStands.{StandsRecorded};
+
+    ghost stands = { λ lacking p. (h : History) × StandsRecorded C.stands lacking.caps.now h × (p ≡ lacks lacking.names.now.modules lacking.names.now.names h lacking.at) };
+
+    fn passes(&self, who: Principal) -> bool {
+        is_known(self.names, who) && !self.caps.holds(who, Cap::Call { at: self.at })
+    }
+}
+
+/// The first writer of a slot that there is.
+fn first_known<C: CapStore + Drop>(
+    caps: &Recorded<C>,
+    names: &Principals,
+    slot: u64,
+) -> Option<Principal>
+    requires { slot + 8 ≤ 2 ^ 64 }
+    ensures { (h : History) → StandsRecorded C.stands caps.now h → IsFirstWriter h slot (is_known names.now.modules names.now.names) result }
+{
+    caps.first_writer(slot, &Known { names })
+}
+
+/// The first writer of a slot that there is and that does not hold the call.
+fn first_lacking<C: CapStore + Drop>(
     caps: &Recorded<C>,
     names: &Principals,
     slot: u64,
     at: u64,
-    before: SlotWriters,
-    home: u32,
-) -> SlotWriters
-    requires there { home < names.now.modules }
-    requires slot { slot + 8 ≤ 2 ^ 64 }
-    ensures { (h : History) → StandsRecorded C.stands caps.now h → result ≡ fold (with_writer h slot at) before (module_principals names.now.names home) }
-{
-    let shared = with_writer(caps, slot, at, before, Principal::Shared(home));
-    let seen = with_writer(caps, slot, at, shared, Principal::Global(home));
-    with_instances(caps, slot, at, seen, home, names.count(home))
-}
-
-/// How many modules there are.
-fn modules_of(names: &Principals) -> u32
-    ensures { result ≡ names.now.modules }
-{
-    names.modules() as u32
-}
-
-/// What is known once all principals were looked at.
-fn with_modules<C: CapStore + Drop>(
-    caps: &Recorded<C>,
-    names: &Principals,
-    slot: u64,
-    at: u64,
-) -> SlotWriters
+) -> Option<Principal>
     requires { slot + 8 ≤ 2 ^ 64 }
-    ensures { (h : History) → StandsRecorded C.stands caps.now h
-        → result ≡ fold (with_writer h slot at) SlotWriters.Nobody (flat_map (module_principals names.now.names) (below names.now.modules)) }
+    ensures { (h : History) → StandsRecorded C.stands caps.now h → IsFirstWriter h slot (lacks names.now.modules names.now.names h at) result }
 {
-    let modules = modules_of(names);
-    let mut seen = SlotWriters::Nobody;
-    for home in 0..modules {
-        seen = with_module(caps, names, slot, at, seen, home);
-    }
-    seen
+    caps.first_writer(slot, &Lacking { caps, names, at })
 }
 
 /// Whether the writers of a slot hold the call of the function at an address: the principals that owned one of the slot's
-/// eight bytes at some moment since it was last zeroed. It takes no memory.
-#[tactic(auto, using(crate::proofs::Told::are_told))]
+/// eight bytes at some moment since it was last zeroed. It takes no memory. Each writer is asked at most once for each of
+/// the parts of 64 bytes that the slot lies in, and once more whether it is one of the principals that there are.
 pub fn slot_writers<C: CapStore + Drop>(
     caps: &Recorded<C>,
     names: &Principals,
@@ -125,8 +111,11 @@ pub fn slot_writers<C: CapStore + Drop>(
     ensures { (s : State) → StandsRecorded C.stands caps.now s.history
         → AreTold s slot at (filter (is_slot_writer s.history slot) (flat_map (module_principals names.now.names) (below names.now.modules))) result }
 {
-    if caps.is_clean(slot) {
-        return SlotWriters::Nobody;
+    match first_known(caps, names, slot) {
+        None => SlotWriters::Nobody,
+        Some(_) => match first_lacking(caps, names, slot, at) {
+            Some(writer) => SlotWriters::Lacks(writer),
+            None => SlotWriters::AllHold,
+        },
     }
-    with_modules(caps, names, slot, at)
 }

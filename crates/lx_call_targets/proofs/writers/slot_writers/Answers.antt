@@ -1,11 +1,25 @@
--- A clean slot has no writers.
-use Rattle.std.specs.List.{flat_map}
-use Rattle.lx_model.specs.State.{module_principals}
-use Rattle.lx_slot_types.specs.Gets.{below}
-use Rattle.lx_call_targets.proofs.Told.{told_clean}
+-- What the two walks found tells what all writers hold.
+use Rattle.std.proofs.Common.{subst}
+use Rattle.lx_writer_sets.specs.Sets.{IsFirstWriter}
+use Rattle.lx_call_targets.specs.Writers.{is_known, lacks}
+use Rattle.lx_call_targets.proofs.Told.{all_hold, lacking, nobody}
 use Rattle.lx_call_targets.proofs.writers.slot_writers.Goals as goal
 
-pub returns-then-is_clean : goal.returns-then-is_clean
-returns-then-is_clean g c = λ s stands.
-    told_clean s.history c.args.slot (flat_map (module_principals c.args.names.now.names) (below c.args.names.now.modules))
-    ((c.is_clean.ensures s.history stands).0 c.if-is_clean.true)
+pub returns-in-None : goal.returns-in-None
+returns-in-None g c = λ s stands.
+    let names = c.args.names.now in
+    nobody s c.args.slot c.args.at names.names names.modules
+    (subst (IsFirstWriter s.history c.args.slot (is_known names.modules names.names)) c.in-None.is (c.first_known.ensures s.history stands))
+
+pub returns-in-Some-first_lacking : goal.returns-in-Some-first_lacking
+returns-in-Some-first_lacking g c = λ s stands.
+    let names = c.args.names.now in
+    lacking s c.args.slot c.args.at names.names names.modules c.in-Some-first_lacking.writer
+    (subst (IsFirstWriter s.history c.args.slot (lacks names.modules names.names s.history c.args.at)) c.in-Some-first_lacking.is (c.first_lacking.ensures s.history stands))
+
+pub returns-in-None-first_lacking : goal.returns-in-None-first_lacking
+returns-in-None-first_lacking g c = λ s stands.
+    let names = c.args.names.now in
+    all_hold s c.args.slot c.args.at names.names names.modules c.in-Some.field-0
+    (subst (IsFirstWriter s.history c.args.slot (is_known names.modules names.names)) c.in-Some.is (c.first_known.ensures s.history stands))
+    (subst (IsFirstWriter s.history c.args.slot (lacks names.modules names.names s.history c.args.at)) c.in-None-first_lacking.is (c.first_lacking.ensures s.history stands))
