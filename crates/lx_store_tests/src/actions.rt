@@ -588,10 +588,11 @@ fn keeps_room<C: CapStore>(
 ) -> Result<bool, Memory> {
     let action = action_of(bench.alloc, deed)?;
     let spare = caps.spare();
-    let done = is_short(&bench.interface, &action) && {
-        let (i, env, space) = (&bench.interface, &bench.env, &bench.space);
-        perform(i, &action, env, 0, between.0, between.1, space, caps).is_ok()
-    };
+    let done = is_short(&bench.interface, &action)
+        && {
+            let (i, env, space) = (&bench.interface, &bench.env, &bench.space);
+            perform(i, &action, env, 0, between.0, between.1, space, caps).is_ok()
+        };
     drop(action);
     Ok(done && caps.spare() == spare)
 }
