@@ -1,5 +1,5 @@
 -- Passes that refuse for the first fault of a list.
-use Rattle.std.proofs.Common.{◌≡◌, ℕ, ◌+◌, ◌<◌, ◌≤◌, Option, Some, None, List, ◌∷◌, length, get_or, drop, ap, sym, ◌∙◌}
+use Rattle.std.proofs.Common.{◌≡◌, ℕ, ◌+◌, ◌<◌, ◌≤◌, Option, Some, None, List, ◌∷◌, length, get_or, drop, ap, sym, subst, ◌∙◌}
 use Rattle.std.specs.Prelude.{option_map}
 use Rattle.std.specs.Option.{option_or}
 use Rattle.std.proofs.lemmas.List.{drop_more, drop_all}
@@ -14,7 +14,7 @@ use Rattle.lx_ir.specs.Faults.{first_some}
 use Rattle.lx_image_texts.specs.ImageFaults.{ImageFault, fault_at, fault_in_block, fault_in_blocks, first_op, kind_at}
 use Rattle.lx_image_marks.specs.declared.fault.Refusal.{Refusal}
 use Rattle.lx_image_marks.specs.declared.fault.Refusal.TheVariants as refusal
-use Rattle.lx_image_marks.specs.Told.{IsAnswer}
+use Rattle.lx_image_marks.specs.Told.{IsAnswer, IsAnswerOr}
 
 -- what is left of a list begins with the element at the place
 pub rest_at : {X : Type 0} (xs : List X) (i : ℕ) (x : X) → i < length xs → x ≡ get_or xs i x → drop i xs ≡ x ∷ drop (i + 1) xs
@@ -27,9 +27,17 @@ pub first_end : {A B : Type 0} (f : A → Option B) (xs : List A) (i : ℕ) → 
 first_end f xs i h = ap (first_some f) (drop_all i xs h)
 
 -- a fault that comes first is the answer
-pub first_answer : (x rest y : Option ImageFault) (e : Refusal) → y ≡ option_or x rest → IsAnswer x e → IsAnswer y e
-first_answer x rest y (refusal.Fault f) p h = or_some x rest y _ p h
-first_answer x rest y refusal.Memory p h = tt
+pub first_answer : (w : Type 0) (x rest y : Option ImageFault) (e : Refusal) → y ≡ option_or x rest → IsAnswerOr w x e → IsAnswerOr w y e
+first_answer w x rest y (refusal.Fault f) p h = or_some x rest y _ p h
+first_answer w x rest y refusal.Memory p h = h
+
+-- what is answered, whatever the reason of want of memory is
+pub any_want : (w : Type 0) (x : Option ImageFault) (e : Refusal) → IsAnswerOr w x e → IsAnswer x e
+any_want w x (refusal.Fault f) h = h
+any_want w x refusal.Memory h = tt
+
+pub wanted : (w : Type 0) (x : Option ImageFault) (e : Refusal) → e ≡ refusal.Memory → w → IsAnswerOr w x e
+wanted w x e is h = subst (IsAnswerOr w x) (sym is) h
 
 pub block_step : (m : Module) (f : Function) (place : ℕ) (before next : Option Op) (xs : List Instr) (k : ℕ) (x : Instr) → k < length xs → x ≡ get_or xs k x → next ≡ first_op (drop (k + 1) xs)
     → fault_in_block m f place before (drop k xs) ≡ option_or (option_map (fault_at f place x) (kind_at m f before x.op next)) (fault_in_block m f (1 + place) (Some x.op) (drop (k + 1) xs))

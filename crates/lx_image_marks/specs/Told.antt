@@ -36,3 +36,12 @@ IsAnswer x refusal.Memory = ⊤
 -- a pass goes on exactly where there is no fault, and refuses for the fault that there is
 abbrev pub Gives : {T : Type 0} → Option ImageFault → Result T Refusal → Type 0
 Gives x r = MatchResult r (λ _. x ≡ None) (IsAnswer x)
+
+-- The same, where want of memory has this reason.
+
+abbrev pub IsAnswerOr : Type 0 → Option ImageFault → Refusal → Type 0
+IsAnswerOr want x (refusal.Fault f) = IsAnswer x (refusal.Fault f)
+IsAnswerOr want x refusal.Memory = want
+
+abbrev pub GivesOr : {T : Type 0} → Type 0 → Option ImageFault → Result T Refusal → Type 0
+GivesOr want x r = MatchResult r (λ _. x ≡ None) (IsAnswerOr want x)

@@ -1,7 +1,8 @@
 //! The faults of images.
 ghost use Rattle.std.specs.Prelude.{◌≡◌, Some};
-ghost use Rattle.lx_image_marks.specs.Told.{IsAnswer, kind_number, kind_of};
+ghost use Rattle.lx_image_marks.specs.Told.{IsAnswer, IsAnswerOr, kind_number, kind_of};
 
+use crate::means::Means;
 use lx_words::{Memory, Name};
 use std::alloc::{AllocError, Global};
 use thiserror::Error;
@@ -89,11 +90,18 @@ impl From<AllocError> for Refusal {
     }
 }
 
-/// The refusal for a fault of this kind, or for want of memory for the function's name.
-pub fn refuse(alloc: Global, kind: FaultKind, line: u32, function: &[u8], place: u32) -> Refusal
-    ensures { IsAnswer (Some (record { kind = kind_of kind; line = line; function = function.now; place = place })) result }
+/// The refusal for a fault of this kind, or for want of memory for the function's name, over any means.
+#[tactic(auto, using(crate::proofs::Passes::wanted))]
+pub(crate) fn refuse_by<M: Means>(
+    means: &M,
+    kind: FaultKind,
+    line: u32,
+    function: &[u8],
+    place: u32,
+) -> Refusal
+    ensures { IsAnswerOr (M.lacks means.now) (Some (record { kind = kind_of kind; line = line; function = function.now; place = place })) result }
 {
-    match Name::from_bytes(alloc, function) {
+    match means.name(function) {
         Ok(function) => Refusal::Fault(ImageFault {
             kind,
             line,
@@ -102,4 +110,12 @@ pub fn refuse(alloc: Global, kind: FaultKind, line: u32, function: &[u8], place:
         }),
         Err(_) => Refusal::Memory,
     }
+}
+
+/// The refusal for a fault of this kind, or for want of memory for the function's name.
+#[tactic(auto, using(crate::proofs::Passes::any_want))]
+pub fn refuse(alloc: Global, kind: FaultKind, line: u32, function: &[u8], place: u32) -> Refusal
+    ensures { IsAnswer (Some (record { kind = kind_of kind; line = line; function = function.now; place = place })) result }
+{
+    refuse_by(&alloc, kind, line, function, place)
 }

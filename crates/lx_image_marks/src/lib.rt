@@ -12,6 +12,7 @@ mod fault;
 mod imports;
 mod kinds;
 mod marks;
+mod means;
 mod mentions;
 mod names;
 mod text;
