@@ -27,9 +27,14 @@ pub first_end : {A B : Type 0} (f : A → Option B) (xs : List A) (i : ℕ) → 
 first_end f xs i h = ap (first_some f) (drop_all i xs h)
 
 -- a fault that comes first is the answer
-pub first_answer : (w : Type 0) (x rest y : Option ImageFault) (e : Refusal) → y ≡ option_or x rest → IsAnswerOr w x e → IsAnswerOr w y e
-first_answer w x rest y (refusal.Fault f) p h = or_some x rest y _ p h
-first_answer w x rest y refusal.Memory p h = h
+pub first_answer : (x rest y : Option ImageFault) (e : Refusal) → y ≡ option_or x rest → IsAnswer x e → IsAnswer y e
+first_answer x rest y (refusal.Fault f) p h = or_some x rest y _ p h
+first_answer x rest y refusal.Memory p h = tt
+
+-- and so whatever the reason of want of memory is
+pub first_told : (w : Type 0) (x rest y : Option ImageFault) (e : Refusal) → y ≡ option_or x rest → IsAnswerOr w x e → IsAnswerOr w y e
+first_told w x rest y (refusal.Fault f) p h = or_some x rest y _ p h
+first_told w x rest y refusal.Memory p h = h
 
 -- what is answered, whatever the reason of want of memory is
 pub any_want : (w : Type 0) (x : Option ImageFault) (e : Refusal) → IsAnswerOr w x e → IsAnswer x e

@@ -81,7 +81,7 @@ fn op_at(instrs: &[Instr], k: usize) -> Option<&Op>
     }
 }
 
-#[tactic(auto, using(crate::proofs::Passes::block_step, crate::proofs::Passes::block_end, crate::proofs::Passes::first_answer, crate::proofs::Passes::wanted))]
+#[tactic(auto, using(crate::proofs::Passes::block_step, crate::proofs::Passes::block_end, crate::proofs::Passes::first_told, crate::proofs::Passes::wanted))]
 fn check_block<M: Means>(
     means: &M,
     body: &Body<'_>,
@@ -107,7 +107,7 @@ fn check_block<M: Means>(
     Ok(())
 }
 
-#[tactic(auto, using(crate::proofs::Passes::blocks_step, crate::proofs::Passes::blocks_end, crate::proofs::Passes::first_answer, crate::proofs::Passes::wanted))]
+#[tactic(auto, using(crate::proofs::Passes::blocks_step, crate::proofs::Passes::blocks_end, crate::proofs::Passes::first_told, crate::proofs::Passes::wanted))]
 fn check_blocks<M: Means>(means: &M, body: &Body<'_>, blocks: &[Block]) -> Result<(), Refusal>
     requires { HasRooms body.now }
     ensures { GivesOr (M.lacks means.now) (fault_in_blocks body.now.text.now body.now.function.now 0 blocks.now) result }
@@ -138,7 +138,7 @@ fn check_function<M: Means>(means: &M, text: &ImageText<'_>, f: &Function) -> Re
 }
 
 /// Finds the first fault at an instruction over any means.
-#[tactic(auto, using(crate::proofs::Passes::first_step, crate::proofs::Passes::first_end, crate::proofs::Passes::first_answer))]
+#[tactic(auto, using(crate::proofs::Passes::first_step, crate::proofs::Passes::first_end, crate::proofs::Passes::first_told))]
 fn check_functions<M: Means>(means: &M, text: &ImageText<'_>) -> Result<(), Refusal>
     requires { IsLawful text.now }
     ensures { GivesOr (M.lacks means.now) (first_some (fault_in_function text.now) text.now.functions) result }
