@@ -19,6 +19,8 @@ mod common;
 #[cfg(test)]
 mod counted;
 #[cfg(test)]
+mod heaps;
+#[cfg(test)]
 mod memory;
 #[cfg(test)]
 mod nodes;
