@@ -11,6 +11,8 @@
 #[cfg(test)]
 mod actions;
 #[cfg(test)]
+mod behind;
+#[cfg(test)]
 mod caps;
 #[cfg(test)]
 mod certificates;
@@ -20,6 +22,8 @@ mod common;
 mod counted;
 #[cfg(test)]
 mod heaps;
+#[cfg(test)]
+mod many_writers;
 #[cfg(test)]
 mod memory;
 #[cfg(test)]

@@ -1,4 +1,5 @@
 //! Writers of slots, as ranges are noted and zeroed.
+use crate::behind::Behind;
 use crate::common::{FIRST, SECOND, SHARED, STRANGER, Step, goes_so};
 use lx_caps::{Cap, PlainCaps, Principal, cells, mapped};
 use lx_words::Memory;
@@ -35,12 +36,12 @@ fn are_listed(sets: &WriterSets, slot: u64, wanted: &[Principal]) -> bool {
     }
     let mut writer = None;
     for want in wanted {
-        writer = sets.next_writer(slot, writer);
+        writer = sets.first_writer(slot, &Behind { after: writer });
         if writer != Some(*want) || !sets.is_writer(slot, *want) {
             return false;
         }
     }
-    sets.next_writer(slot, writer).is_none()
+    sets.first_writer(slot, &Behind { after: writer }).is_none()
 }
 
 /// Whether a slot has these writers and no other.

@@ -1,4 +1,5 @@
 //! Writers of a slot, as owners come and go and bytes are zeroed.
+use crate::behind::Behind;
 use crate::common::{FIRST, SHARED, Step, goes_so};
 use lx_caps::{Atom, PlainCaps, Principal, mapped};
 use lx_words::Memory;
@@ -38,7 +39,7 @@ fn next_writer(
     after: Option<Principal>,
 ) -> Option<Principal> {
     if slot < 0x3100000 {
-        caps.next_writer(slot, after)
+        caps.first_writer(slot, &Behind { after })
     } else {
         None
     }
