@@ -7,8 +7,9 @@ use std::test::Fail;
 /// `#` stands for the number, and `$` for the same in hexadecimal.
 pub type Part = (&'static str, u32, u32);
 
-/// Calls through a slot, each of eight events, and references that are copied, each in three events.
-static LONG: [Part; 9] = [
+/// Calls through a slot, each of eight events; references that are copied, each in three events; and a module that may call more
+/// functions than 12 bits count.
+static LONG: [Part; 17] = [
     (
         "---- 2,000 slot calls
 ---- case
@@ -86,6 +87,41 @@ owns m.shared call 0x10090
         1,
     ),
     ("owns m.shared ref file 0x$\n", 0, 5000),
+    (
+        "---- 4,097 functions that one module may call
+---- file thousands.txt
+interface 1
+",
+        0,
+        1,
+    ),
+    ("export f# : void ()\n", 0, 4097),
+    ("---- file thousands.ll\n", 0, 1),
+    ("define void @f#() {\nret void\n}\n", 0, 4097),
+    ("---- file caller.ll\n", 0, 1),
+    ("declare void @f#()\n", 0, 4097),
+    (
+        "define void @main() {
+call void @f4096()
+ret void
+}
+---- case
+lxfi case 1
+kernel file thousands.ll
+interface file thousands.txt
+module m caller.ll
+thread
+call m:main fuel 10
+---- whole
+status 0
+schedule 0*5
+call 0.0 m:main returned
+image m guards 0 checks 0 wrappers 4097
+",
+        0,
+        1,
+    ),
+    ("owns m.shared call 0x$0\n", 4102, 8200),
 ];
 
 /// As many calls as a case may have, in which four threads take turns: 14 events with kmalloc and kfree, 8 with dev_wipe, 8
