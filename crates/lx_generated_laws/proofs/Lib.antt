@@ -4,6 +4,7 @@ pub mod Counts
 pub mod Cases
 pub mod Lined
 pub mod Assigned
+pub mod ModuleReading
 pub mod Modules
 pub mod Pieces
 pub mod Statements

@@ -1,6 +1,7 @@
--- The kernel is printed by its text, and no fault stands in it.
+-- The kernel is printed by its text, the module of generated cases is read of its own, and no fault stands in them.
 use Rattle.std.proofs.Common.{◌≡◌, ◌⊎◌, inl, inr, List, [], ◌∷◌, ℕ, None, refl, sym, subst, arith}
 use Rattle.std.specs.Prelude.{IsTrue}
+use Rattle.lx_generate.specs.Generated.{module_text}
 use Rattle.lx_generate.specs.Kernel.{kernel_text}
 use Rattle.lx_ir.specs.declared.module.Module.{Module}
 use Rattle.lx_ir.specs.Faults.{FirstFault}
@@ -8,15 +9,18 @@ use Rattle.lx_ir.specs.Lawful.{IsLawful, IsPlain}
 use Rattle.lx_ir.specs.Text.{module_text as printed, name_text}
 use Rattle.lx_ir_calls.specs.declared.intrinsics.TextForm.TheVariants.{Program}
 use Rattle.lx_ir_complete.specs.Laws.{TextsAreAnswered}
+use Rattle.lx_ir_complete.specs.PieceLaws.{LaidAreScanned}
 use Rattle.lx_ir_complete.specs.RoundTripLaws.{IsReadBack, RoundTrips}
 use Rattle.lx_ir_complete.specs.Said.{is_kept_module}
 use Rattle.lx_ir_complete.specs.Same.{SameModules}
 use Rattle.lx_ir_read.specs.Laws.{ModulesAreFound}
 use Rattle.lx_ir_read.specs.declared.fault.ReadFault.{ReadFault}
 use Rattle.lx_ir_read.specs.Reading.{SaysModule, FirstFault as ReadFails}
+use Rattle.lx_worked_programs.specs.Generated.{the_module}
 use Rattle.lx_worked_programs.specs.Kernel.{kernel}
-use Rattle.lx_generated_laws.specs.Builtin.{IsSoundText, KernelIsSound}
+use Rattle.lx_generated_laws.specs.Builtin.{IsSoundText, KernelIsSound, ModuleIsSound}
 use Rattle.lx_generated_laws.proofs.Lined.{lined, same_lined}
+use Rattle.lx_generated_laws.proofs.ModuleReading.{module_is_said, read_module}
 use Rattle.lx_generated_laws.proofs.Assigned.{Table, no_fault}
 
 -- a text that a lawful module prints
@@ -80,3 +84,25 @@ kernel_printed = record {
 
 pub kernel_is_sound : RoundTrips Program → TextsAreAnswered → ModulesAreFound → KernelIsSound
 kernel_is_sound trips answered found = sound_text kernel_text kernel trips answered found kernel_printed
+
+-- what is read of the module's text is the module, lines aside
+same_module : SameModules read_module the_module
+same_module = record {
+  types = refl;
+  globals = tt;
+  functions = (
+    record { name = refl; params = refl; locals = refl; ret = refl; blocks = tt },
+    (
+      record { name = refl; params = refl; locals = refl; ret = refl; blocks = tt },
+      (
+        record { name = refl; params = refl; locals = refl; ret = refl; blocks = ((refl, refl), tt) },
+        (record { name = refl; params = refl; locals = refl; ret = refl; blocks = ((refl, refl), tt) }, tt),
+      ),
+    ),
+  );
+}
+
+pub module_is_sound : LaidAreScanned → ModulesAreFound → ModuleIsSound
+module_is_sound scanned found =
+    let said : SaysModule Program module_text read_module = module_is_said scanned in
+    record { read = read_module; is = found Program module_text read_module said; says = said; same = same_module; no_fault = no_fault read_module [] refl refl }

@@ -1,20 +1,20 @@
-//! Laws of the texts that the program brings along and generates: in its kernel and its interface no fault stands, and each generated text
-//! says its case.
+//! Laws of the texts that the program brings along and generates: in its kernel, its interface and the module of generated cases no fault
+//! stands, and each generated text says its case.
 //!
 //! ```text
 //! builtin_laws();
-//! // The text of the kernel says a module, in which no fault stands; that of the interface says one, line by line.
+//! // The texts of the kernel and of the generated module say modules in which no fault stands; that of the interface says one, line by line.
 //! generated_case_laws();
 //! // The text of 200 generated calls says a case, and so does that of any number of calls that a case may have.
 //! ```
 #![tactic(auto)]
 
-ghost use Rattle.lx_generated_laws.specs.Builtin.{InterfaceIsSaid, KernelIsSound};
+ghost use Rattle.lx_generated_laws.specs.Builtin.{InterfaceIsSaid, KernelIsSound, ModuleIsSound};
 ghost use Rattle.lx_generated_laws.specs.Cases.{CasesAreSaid};
 
 use lx_annot_grammar::interface_laws;
 use lx_annot_laws::interface_lexeme_laws;
-use lx_ir_complete::{every_text_laws, round_trip_laws};
+use lx_ir_complete::{every_text_laws, lexeme_laws, round_trip_laws};
 use lx_ir_read::module_laws;
 use lx_words::number_texts;
 
@@ -25,14 +25,16 @@ pub fn generated_case_laws()
     number_texts();
 }
 
-/// The text of the kernel is the module that is given, lines aside, and no fault stands in it. The text of the interface is the interface
-/// that is given.
+/// The texts of the kernel and of the module of a generated case say the modules that are given, lines aside, and no fault stands in
+/// them. The text of the interface says the interface that is given.
 pub fn builtin_laws()
     ensures kernel { KernelIsSound }
     ensures interface { InterfaceIsSaid }
+    ensures generated { ModuleIsSound }
 {
     every_text_laws();
     round_trip_laws();
+    lexeme_laws();
     module_laws();
     interface_lexeme_laws();
     interface_laws();
