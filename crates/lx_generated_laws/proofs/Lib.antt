@@ -2,10 +2,14 @@ pub mod Lines
 pub mod Calls
 pub mod Counts
 pub mod Cases
+pub mod Sizes
 pub mod Lined
 pub mod Assigned
+pub mod Hosted
 pub mod ModuleReading
 pub mod Modules
 pub mod Pieces
 pub mod Statements
 pub mod Interfaces
+pub mod Linking
+pub mod Inputs

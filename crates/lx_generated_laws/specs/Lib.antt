@@ -1,2 +1,3 @@
 pub mod Builtin
 pub mod Cases
+pub mod Inputs

@@ -1,16 +1,19 @@
 //! Laws of the texts that the program brings along and generates: in its kernel, its interface and the module of generated cases no fault
-//! stands, and each generated text says its case.
+//! stands, each generated text says its case, and each generated case is an input.
 //!
 //! ```text
 //! builtin_laws();
 //! // The texts of the kernel and of the generated module say modules in which no fault stands; that of the interface says one, line by line.
 //! generated_case_laws();
 //! // The text of 200 generated calls says a case, and so does that of any number of calls that a case may have.
+//! generated_input_laws();
+//! // The files of 200 generated calls are an input, and so are those of any number of calls that a case may have.
 //! ```
 #![tactic(auto)]
 
 ghost use Rattle.lx_generated_laws.specs.Builtin.{InterfaceIsSaid, KernelIsSound, ModuleIsSound};
 ghost use Rattle.lx_generated_laws.specs.Cases.{CasesAreSaid};
+ghost use Rattle.lx_generated_laws.specs.Inputs.{GeneratedFilesAreInputs};
 
 use lx_annot_grammar::interface_laws;
 use lx_annot_laws::interface_lexeme_laws;
@@ -38,4 +41,12 @@ pub fn builtin_laws()
     module_laws();
     interface_lexeme_laws();
     interface_laws();
+}
+
+/// The files of a generated case are an input, for each number of calls that a case may have: no fault stands in its texts, and they link.
+pub fn generated_input_laws()
+    ensures { GeneratedFilesAreInputs }
+{
+    generated_case_laws();
+    builtin_laws();
 }
