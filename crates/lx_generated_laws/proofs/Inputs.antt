@@ -1,5 +1,5 @@
 -- The files of a generated case are an input.
-use Rattle.std.proofs.Common.{◌≡◌, ℕ, ◌≤◌, false, List, [], ◌∷◌, None, Ok, refl, sym, subst}
+use Rattle.std.proofs.Common.{◌≡◌, ℕ, ◌≤◌, List, [], ◌∷◌, None, Ok, refl, subst}
 use Rattle.std.specs.Prelude.{codes}
 use Rattle.lx_generate.specs.Generated.{case_text, module_text}
 use Rattle.lx_generate.specs.Interface.{interface_text}
@@ -8,11 +8,9 @@ use Rattle.lx_ir.specs.declared.module.Module.{Module}
 use Rattle.lx_ir.specs.Faults.{FirstFault}
 use Rattle.lx_propagate.specs.Slots.{conflict_of}
 use Rattle.lx_link.specs.Answers.{link_fault}
-use Rattle.lx_cproto.specs.Texts.{is_cproto}
-use Rattle.lx_files.specs.declared.sources.Sources.{Sources}
-use Rattle.lx_files.specs.Dialects.{IsBy}
-use Rattle.lx_files.specs.Inputs.{ReadsModule, ReadsInterface, SourcesTurn, builtin, sources}
 use Rattle.lx_input.specs.Files.Asked.{nothing}
+use Rattle.lx_input.specs.Files.Inputs.{ReadsModule, ReadsInterface, SourcesTurn, builtin, sources}
+use Rattle.lx_input.specs.Files.Sources.{Sources}
 use Rattle.lx_input.specs.Inputs.{CheckTurn, input_of, texts_of}
 use Rattle.lx_worked_programs.specs.Kernel.{interface}
 use Rattle.lx_generated_laws.specs.Builtin.{InterfaceIsSaid, KernelIsSound, ModuleIsSound}
@@ -28,13 +26,10 @@ record Read (k m : Module) : Type 0 where
   of_interface : ReadsInterface builtin interface_text (Ok interface)
   of_module : ReadsModule (codes "gen.ll") module_text (Ok m)
 
--- the interface's text is no text of prototypes
-statements_first : is_cproto interface_text ≡ false
+-- the interface's text is one of statements and not of prototypes, as its first line tells
+interface_read : InterfaceIsSaid → ReadsInterface builtin interface_text (Ok interface)
 unfolding interface_text
-statements_first = refl
-
-pub interface_read : InterfaceIsSaid → ReadsInterface builtin interface_text (Ok interface)
-interface_read said = subst (λ b. IsBy b interface_text interface) (sym statements_first) said.is
+interface_read said = said.is
 
 -- the files give these texts
 sources_read : (k m : Module) (n : ℕ) → n ≤ 4096 → CasesAreSaid → Read k m → SourcesTurn (generated_files n) generated_name nothing (Ok (sources (generated_case n) k interface (m ∷ []) None None None))
