@@ -11,8 +11,6 @@
 #[cfg(test)]
 mod actions;
 #[cfg(test)]
-mod behind;
-#[cfg(test)]
 mod caps;
 #[cfg(test)]
 mod certificates;

@@ -1,5 +1,4 @@
 //! Many writers of one slot, beside a plain list of what each of them wrote.
-use crate::behind::Behind;
 use lx_caps::{Cap, PlainCaps, Principal, cells, mapped};
 use lx_words::Memory;
 use lx_writer_sets::WriterSets;
@@ -76,7 +75,7 @@ static FIRSTS: [(Option<Principal>, Option<Principal>, Option<Principal>); 5] = 
 
 fn assert_firsts(rt: &impl Abort, sets: &WriterSets, is_zeroed: bool) {
     for (number, (after, all, left)) in FIRSTS.iter().enumerate() {
-        let first = sets.first_writer(SLOT, &Behind { after: *after });
+        let first = sets.next_writer(SLOT, *after);
         let wanted = if is_zeroed { *left } else { *all };
         assert!(rt; first == wanted, "row {number}");
     }

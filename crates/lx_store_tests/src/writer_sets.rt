@@ -1,5 +1,4 @@
 //! Writers of slots, as ranges are noted and zeroed.
-use crate::behind::Behind;
 use crate::common::{FIRST, SECOND, SHARED, STRANGER, Step, goes_so};
 use lx_caps::{Cap, PlainCaps, Principal, cells, mapped};
 use lx_words::Memory;
@@ -36,12 +35,12 @@ fn are_listed(sets: &WriterSets, slot: u64, wanted: &[Principal]) -> bool {
     }
     let mut writer = None;
     for want in wanted {
-        writer = sets.first_writer(slot, &Behind { after: writer });
+        writer = sets.next_writer(slot, writer);
         if writer != Some(*want) || !sets.is_writer(slot, *want) {
             return false;
         }
     }
-    sets.first_writer(slot, &Behind { after: writer }).is_none()
+    sets.next_writer(slot, writer).is_none()
 }
 
 /// Whether a slot has these writers and no other.

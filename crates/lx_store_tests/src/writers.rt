@@ -1,5 +1,4 @@
 //! Writers of a slot, as owners come and go and bytes are zeroed.
-use crate::behind::Behind;
 use crate::common::{FIRST, SHARED, Step, goes_so};
 use lx_caps::{Atom, PlainCaps, Principal, mapped};
 use lx_words::Memory;
@@ -39,7 +38,7 @@ fn next_writer(
     after: Option<Principal>,
 ) -> Option<Principal> {
     if slot < 0x3100000 {
-        caps.first_writer(slot, &Behind { after })
+        caps.next_writer(slot, after)
     } else {
         None
     }

@@ -4,7 +4,7 @@ use Rattle.std.specs.Prelude.{◌≡◌, ℕ, ◌+◌, ◌-◌, ◌/◌, ◌%◌
 use Rattle.std.specs.List.{list_any}
 use Rattle.lx_caps.specs.declared.Principal.{Principal}
 use Rattle.lx_caps.specs.History.{History, same_principal}
-use Rattle.lx_caps.specs.Precedence.{IsFirstPrincipal}
+use Rattle.lx_caps.specs.Precedence.{follows, IsFirstPrincipal}
 use Rattle.lx_caps.specs.Writers.{is_writer, is_slot_writer}
 use Rattle.lx_cap_nodes.specs.Words.{nodes_at}
 use Rattle.lx_writer_sets.specs.Bits.{is_set}
@@ -72,3 +72,7 @@ count_in lists (Some l) = length (nodes_at lists l)
 -- the first writer of the slot that passes the test, if there is one
 abbrev pub IsFirstWriter : History → ℕ → (Principal → Bool) → Option Principal → Type 0
 IsFirstWriter h slot t first = IsFirstPrincipal (λ q. t q && is_slot_writer h slot q) first
+
+-- the next writer of the slot behind the given principal, if there is one
+abbrev pub IsNextWriter : History → ℕ → Option Principal → Option Principal → Type 0
+IsNextWriter h slot after next = IsFirstPrincipal (λ q. follows after q && is_slot_writer h slot q) next

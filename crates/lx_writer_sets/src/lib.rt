@@ -8,7 +8,8 @@
 //! let mut sets = WriterSets::new(alloc);
 //! sets.reserve(2)?;
 //! sets.note(Principal::Shared(0), 0x1000000, 8);
-//! // The first writer of the slot, in the order of principals, that passes the test.
+//! // The first writer of the slot, in the order of principals; and the first that passes the test.
+//! sets.next_writer(0x1000000, None);
 //! sets.first_writer(0x1000000, &test);
 //! // Who does not own the bytes any more is forgotten.
 //! sets.zero(0x1000000, 8, &caps);
@@ -24,10 +25,11 @@
 //! caps.grant(Principal::Shared(0), Cap::Write { at: 0x1000000, size: 8 });
 //! caps.strip(Cap::Write { at: 0x1000000, size: 8 });
 //! // The module may still have left something in the slot there.
-//! caps.first_writer(0x1000000, &test);
+//! caps.next_writer(0x1000000, None);
 //! ```
 #![tactic(auto)]
 
+mod behind;
 mod bitmap;
 mod bits;
 mod chain;

@@ -5,7 +5,7 @@ ghost use Rattle.lx_caps.specs.declared.Principal.{Principal};
 ghost use Rattle.lx_caps.specs.History.{History, without_zeros};
 ghost use Rattle.lx_caps.specs.Regions.{mapped};
 ghost use Rattle.lx_caps.specs.Writers.{is_slot_writer};
-ghost use Rattle.lx_writer_sets.specs.Sets.{IsFirstWriter};
+ghost use Rattle.lx_writer_sets.specs.Sets.{IsFirstWriter, IsNextWriter};
 
 use crate::noted::note_cap;
 use crate::{PrincipalTest, WriterSets, writer_set_laws};
@@ -163,6 +163,15 @@ impl<C: CapStore + Drop> Recorded<C> {
         ensures { (h : History) → ⟦<Recorded<C> as CapStore>⟧.stands self.now h → (t : Principal → Bool) → T.stands test.now t → IsFirstWriter h slot t result }
     {
         self.sets.first_writer(slot, test)
+    }
+
+    /// Gives the next writer of a slot, in the order of principals, behind `after`: the next principal that owned one of the
+    /// slot's eight bytes at some moment since that byte was last zeroed, that moment included.
+    pub fn next_writer(&self, slot: u64, after: Option<Principal>) -> Option<Principal>
+        requires { slot + 8 ≤ 2 ^ 64 }
+        ensures { (h : History) → ⟦<Recorded<C> as CapStore>⟧.stands self.now h → IsNextWriter h slot after result }
+    {
+        self.sets.next_writer(slot, after)
     }
 
     /// Says whether the principal is a writer of the slot.

@@ -2,13 +2,13 @@
 ghost use Rattle.std.specs.Prelude.{◌≡◌};
 ghost use Rattle.lx_caps.specs.Precedence.{follows};
 
+use crate::PrincipalTest;
 use lx_caps::{Principal, follows};
-use lx_writer_sets::PrincipalTest;
 
-/// The principals behind one, in order, or all of them.
+/// The test of the principals behind one, in their order, which all pass for `None`.
 #[derive(Clone, Copy)]
-pub struct Behind {
-    pub after: Option<Principal>,
+pub(crate) struct Behind {
+    pub(crate) after: Option<Principal>,
 }
 
 impl PrincipalTest for Behind {
