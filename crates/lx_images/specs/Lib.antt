@@ -3,6 +3,7 @@ pub mod Wrappers
 pub mod WrapperForm
 pub mod WrapperLines
 pub mod Image
+pub mod Asker
 pub mod ImageWorld
 pub mod ImageCode
 pub mod Guarded
