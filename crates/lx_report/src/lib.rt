@@ -30,15 +30,15 @@ mod told;
 
 use crate::lines::{put_calls, put_images, put_notes, put_owners};
 use crate::schedule::put_schedule;
-use crate::told::Told;
 use lx_model::account::Account;
 use lx_model::program::Program;
 use lx_words::{Memory, number_texts};
-pub use names::put_principal;
-pub use reply::put_cap;
+pub use names::{put_called, put_principal};
+pub use reply::{put_cap, put_outcome};
 use std::alloc::Global;
 pub use teller::Teller;
-pub use text::{put, put_address, put_bytes, put_number};
+pub use text::{put, put_address, put_bytes, put_number, put_signed};
+pub use told::Told;
 
 /// The parts of a report, one behind the other. It owns nothing, so that a want of memory has nothing to drop.
 fn put_report(out: &mut Vec<u8>, told: &Told, a: &Account) -> Result<(), Memory>
@@ -73,7 +73,7 @@ pub fn report(alloc: Global, a: &Account, p: &Program) -> Result<Vec<u8>, Memory
     requires { HasLawfulModules p.now }
     ensures { IfOk result (λ text. text.items ≡ report_text p.now a.now) }
 {
-    let told = Told::new(alloc, p, a)?;
+    let told = Told::new(alloc, p, a.names.as_slice(), a.outcomes.as_slice())?;
     let text = text_of(alloc, &told, a);
     drop(told);
     text

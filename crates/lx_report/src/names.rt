@@ -92,8 +92,8 @@ fn function_name(p: &Program, n: u32) -> &[u8]
     }
 }
 
-/// A function by the text that defines it and its name there.
-pub(crate) fn put_called(out: &mut Vec<u8>, p: &Program, n: u32) -> Result<(), Memory>
+/// Adds a function by the text that defines it and its name there. Want of memory is the only error.
+pub fn put_called(out: &mut Vec<u8>, p: &Program, n: u32) -> Result<(), Memory>
     ensures { OnOk result (out.new.items ≡ out.old.items ++ called_text p.now n) }
 {
     put_home(out, p, home_of(p, n))?;

@@ -189,8 +189,8 @@ fn put_refusal(out: &mut Vec<u8>, told: &Told, refusal: Refusal) -> Result<(), M
     }
 }
 
-/// How a call of the function with this number ended.
-pub(crate) fn put_outcome(
+/// Adds how a call of the function with this number ended. Want of memory is the only error.
+pub fn put_outcome(
     out: &mut Vec<u8>,
     told: &Told,
     function: u32,

@@ -63,8 +63,9 @@ fn signed(word: Word) -> i128
     }
 }
 
+/// Adds a word as a signed number. Want of memory is the only error.
 #[tactic(auto, unfolding(crate::specs::Report::signed_word_text))]
-pub(crate) fn put_signed(out: &mut Vec<u8>, word: Word) -> Result<(), Memory>
+pub fn put_signed(out: &mut Vec<u8>, word: Word) -> Result<(), Memory>
     ensures { OnOk result (out.new.items ≡ out.old.items ++ signed_word_text word) }
 {
     put_decimal(out, signed(word))

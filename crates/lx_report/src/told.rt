@@ -4,7 +4,7 @@ ghost use Rattle.std.specs.Prelude.{◌≡◌};
 
 use crate::slots::ModuleSlots;
 use crate::teller::Teller;
-use lx_model::account::Account;
+use lx_model::account::{CallOutcome, InstanceName};
 use lx_model::program::Program;
 use lx_name_tables::InterfaceNames;
 use lx_words::Memory;
@@ -12,9 +12,10 @@ use std::alloc::Global;
 
 /// What tells principals of a program and a run, with tables of what else a report looks up in the program.
 #[derive(Drop)]
-pub(crate) struct Told<'a> {
+pub struct Told<'a> {
     pub(crate) alloc: Global,
-    pub(crate) teller: Teller<'a>,
+    /// What principals are told by.
+    pub teller: Teller<'a>,
     pub(crate) interface: InterfaceNames<'a>,
     pub(crate) slots: ModuleSlots<'a>,
     ghost same: { interface ≡ teller.program.now.interface },
@@ -29,14 +30,14 @@ impl<'a> Told<'a> {
     fn with_slots(
         alloc: Global,
         program: &'a Program,
-        a: &'a Account,
+        names: &'a [InstanceName],
         slots: ModuleSlots<'a>,
     ) -> Result<Self, Memory>
         requires { slots ≡ program.now }
         ensures program { IfOk result (λ told. told.teller.program.now ≡ program.now) }
-        ensures names { IfOk result (λ told. told.teller.names ≡ a.now.names) }
+        ensures names { IfOk result (λ told. told.teller.names ≡ names.now) }
     {
-        match Teller::new(alloc, program, a.names.as_slice()) {
+        match Teller::new(alloc, program, names) {
             Ok(teller) => Ok(Told {
                 alloc,
                 teller,
@@ -50,14 +51,20 @@ impl<'a> Told<'a> {
         }
     }
 
-    /// Makes the tables, once for a report. Want of memory is the only error.
-    pub(crate) fn new(alloc: Global, program: &'a Program, a: &'a Account) -> Result<Self, Memory>
+    /// Makes the tables, once for a text: of a program, the names of instances, and the outcomes that will be told, whose refusals
+    /// may name slot types. Want of memory is the only error.
+    pub fn new(
+        alloc: Global,
+        program: &'a Program,
+        names: &'a [InstanceName],
+        outcomes: &[CallOutcome],
+    ) -> Result<Self, Memory>
         requires { HasLawfulModules program.now }
         ensures program { IfOk result (λ told. told.teller.program.now ≡ program.now) }
-        ensures names { IfOk result (λ told. told.teller.names ≡ a.now.names) }
+        ensures names { IfOk result (λ told. told.teller.names ≡ names.now) }
     {
-        match ModuleSlots::new(alloc, program, a.outcomes.as_slice()) {
-            Ok(slots) => Told::with_slots(alloc, program, a, slots),
+        match ModuleSlots::new(alloc, program, outcomes) {
+            Ok(slots) => Told::with_slots(alloc, program, names, slots),
             Err(why) => Err(why),
         }
     }
