@@ -1,6 +1,6 @@
 //! The slot type of a function, and whether all that it gets agree.
 
-ghost use Rattle.std.specs.Prelude.{◌≡◌, ◌++◌, ◌<◌, IfOk, OnOk, Some, length, option_to_list};
+ghost use Rattle.std.specs.Prelude.{◌≡◌, ◌++◌, ◌<◌, IfOk, MatchResult, OnOk, Some, length, option_to_list};
 ghost use Rattle.lx_propagate.specs.Answers.{GivesOr, IsAnswerOr};
 ghost use Rattle.lx_propagate.specs.Decide.{conflict_in, first_conflict, mark_in, marked_in};
 ghost use Rattle.lx_propagate.specs.Slots.{conflict, slot_name};
@@ -13,35 +13,32 @@ use lx_annot::interface::Interface;
 use lx_ir::module::Function;
 use lx_slot_sums::SlotSum;
 use lx_slot_types::Marked;
-use lx_words::{Memory, Name};
+use lx_words::Memory;
 use std::alloc::Global;
 
 /// The name of the slot type with this number.
-fn slot_name(alloc: Global, i: &Interface, slot: u32) -> Result<Name, Memory>
-    ensures { IfOk result (λ name. name ≡ slot_name i.now slot) }
+fn slot_name(i: &Interface, slot: u32) -> &[u8]
+    ensures { result.now ≡ slot_name i.now slot }
 {
     match i.slots.as_slice().get(slot as usize) {
-        Some(slot) => {
-            let name = Name::from_bytes(alloc, slot.name.as_slice())?;
-            Ok(name)
-        }
-        None => Ok(Name::new(alloc)),
+        Some(slot) => slot.name.as_slice(),
+        None => &[],
     }
 }
 
 /// The conflict of two slot types of a function.
-pub fn conflict(
-    alloc: Global,
+fn conflict<M: Means>(
+    means: &M,
     i: &Interface,
     f: &Function,
     first: u32,
     second: u32,
 ) -> Result<PropagateFault, Memory>
-    ensures { IfOk result (IsAnswerOr ⊥ (Some (conflict i.now f.now first second))) }
+    ensures { MatchResult result (IsAnswerOr ⊥ (Some (conflict i.now f.now first second))) (λ _. M.lacks means.now) }
 {
-    let function = Name::from_bytes(alloc, f.name.as_slice())?;
-    let first = slot_name(alloc, i, first)?;
-    let second = slot_name(alloc, i, second)?;
+    let function = means.name(f.name.as_slice())?;
+    let first = means.name(slot_name(i, first))?;
+    let second = means.name(slot_name(i, second))?;
     Ok(PropagateFault::Conflict {
         line: f.line,
         function,
@@ -55,7 +52,7 @@ pub fn conflict(
 fn told<M: Means>(means: &M, i: &Interface, f: &Function, first: u32, second: u32) -> PropagateFault
     ensures { IsAnswerOr (M.lacks means.now) (Some (conflict i.now f.now first second)) result }
 {
-    match means.conflict(i, f, first, second) {
+    match conflict(means, i, f, first, second) {
         Ok(fault) => fault,
         Err(_) => PropagateFault::Memory,
     }

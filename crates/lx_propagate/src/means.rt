@@ -1,19 +1,16 @@
 //! What takes memory where slot types are handed on.
 
-ghost use Rattle.std.specs.Prelude.{◌≡◌, IfOk, MatchResult, Some, ⊤};
+ghost use Rattle.std.specs.Prelude.{◌≡◌, MatchResult, ⊤};
 ghost use Rattle.lx_propagate.specs.Within.{HasLawfulTypes};
-ghost use Rattle.lx_propagate.specs.Answers.{IsAnswerOr};
 ghost use Rattle.lx_propagate.specs.Told.{HasSlotTypes};
-ghost use Rattle.lx_propagate.specs.Slots.{annotated_of, conflict};
+ghost use Rattle.lx_propagate.specs.Slots.{annotated_of};
 
-use crate::decide::conflict;
-use crate::fault::PropagateFault;
 use crate::module::annotated_of;
 use crate::slots::SlotTypes;
 use lx_annot::interface::Interface;
-use lx_ir::module::{Function, Module};
+use lx_ir::module::Module;
 use lx_slot_types::Annotated;
-use lx_words::Memory;
+use lx_words::{Memory, Name};
 use std::alloc::Global;
 
 /// What takes memory where slot types are handed on. Conflicts are looked for over any means, so that the contracts can
@@ -27,15 +24,9 @@ pub trait Means {
         requires { HasLawfulTypes m.now }
         ensures { MatchResult result (HasSlotTypes i.now m.now) (λ _. lacks self.now) };
 
-    /// The conflict of two slot types of a function, with their names.
-    fn conflict(
-        &self,
-        i: &Interface,
-        f: &Function,
-        first: u32,
-        second: u32,
-    ) -> Result<PropagateFault, Memory>
-        ensures { MatchResult result (IsAnswerOr ⊥ (Some (conflict i.now f.now first second))) (λ _. lacks self.now) };
+    /// The name of these bytes, for a conflict.
+    fn name(&self, bytes: &[u8]) -> Result<Name, Memory>
+        ensures { MatchResult result (λ name. name ≡ bytes.now) (λ _. lacks self.now) };
 
     /// The functions of a module with their slot types.
     fn annotated_of(
@@ -57,15 +48,9 @@ impl Means for Global {
         Ok(types)
     }
 
-    fn conflict(
-        &self,
-        i: &Interface,
-        f: &Function,
-        first: u32,
-        second: u32,
-    ) -> Result<PropagateFault, Memory> {
-        let fault = conflict(*self, i, f, first, second)?;
-        Ok(fault)
+    fn name(&self, bytes: &[u8]) -> Result<Name, Memory> {
+        let name = Name::from_bytes(*self, bytes)?;
+        Ok(name)
     }
 
     fn annotated_of(
