@@ -20,10 +20,12 @@ use lx_slot_types::Annotated;
 use lx_words::Memory;
 use std::alloc::Global;
 
-/// Which stores of an image have a guard: each, or each but those that are spared.
+/// Which stores of an image have a guard.
 #[derive(Clone, Copy)]
-pub(crate) enum Guarding {
+pub enum Guarding {
+    /// Each but those that are spared.
     Spared,
+    /// Each.
     Full,
 }
 
@@ -121,7 +123,10 @@ fn push_images(
 
 /// The image of each module of a program, none of whose functions gets two slot types. `annotated` has the functions of each
 /// module that get one.
-pub(crate) fn images_of_program(
+///
+/// # Errors
+/// Want of memory; a module whose image no text can say is that too.
+pub fn images_of_program(
     alloc: Global,
     program: &Program,
     annotated: &[Annotated],

@@ -19,6 +19,7 @@ mod run;
 mod told;
 mod why;
 
+pub use images::{Guarding, images_of_program};
 pub use input::{account_input, run_input};
 pub use run::Host;
 pub use told::Told;
