@@ -1,5 +1,7 @@
 -- What an effect in code means.
 use Rattle.std.specs.Prelude.{Bool, true, false, slice_get}
+use Rattle.lx_ir.specs.declared.instr.Op.{Op}
+use Rattle.lx_ir.specs.declared.instr.Op.TheVariants as op
 use Rattle.lx_model.specs.declared.program.Program.{Program}
 use Rattle.lx_model.specs.Thread.{Activation}
 use Rattle.lx_model.specs.Effect.{Effect, Moves, Wants, Enters, Calls, Traps, value_effect, arrival}
@@ -20,3 +22,8 @@ effect_of p a (found.Traps trap) = Traps trap
 abbrev pub arrived_as : Bool → Activation → Effect
 arrived_as true a = Moves a
 arrived_as false a = Traps Unreachable
+
+-- a call, whose arguments take memory
+abbrev pub is_call : Op → Bool
+is_call (op.Call to ret callee args) = true
+is_call _ = false

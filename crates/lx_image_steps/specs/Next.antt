@@ -1,5 +1,5 @@
 -- What is found of the next instruction.
-use Rattle.std.specs.Prelude.{◌≡◌, Option, Some, None}
+use Rattle.std.specs.Prelude.{◌≡◌, Bool, false, Option, Some, None}
 use Rattle.lx_ir.specs.declared.instr.Op.{Op}
 use Rattle.lx_model.specs.Thread.{Activation}
 use Rattle.lx_model.specs.Effect.{effect, text_of}
@@ -7,7 +7,7 @@ use Rattle.lx_images.specs.Image.{wrapper_args}
 use Rattle.lx_images.specs.Code.{Code, wrapped_import}
 use Rattle.lx_images.specs.Wrappers.{called_lines}
 use Rattle.lx_image_code.specs.Wrappers.{wrapper_lines}
-use Rattle.lx_image_steps.specs.Effects.{effect_of}
+use Rattle.lx_image_steps.specs.Effects.{effect_of, is_call}
 use Rattle.lx_image_steps.specs.declared.next.Step.{Step}
 use Rattle.lx_image_steps.specs.declared.next.Step.TheVariants as step
 
@@ -21,3 +21,8 @@ IsStep c a o (step.Does e) = (wrapped_import c (text_of c.program a) o ≡ None)
 abbrev pub IsNext : Code → Activation → Option Op → Option Step → Type 0
 IsNext c a next None = next ≡ None
 IsNext c a next (Some s) = (o : Op) × (next ≡ Some o) × IsStep c a o s
+
+-- the next instruction is a call
+abbrev pub calls_next : Option Op → Bool
+calls_next None = false
+calls_next (Some o) = is_call o

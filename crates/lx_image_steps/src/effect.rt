@@ -1,7 +1,7 @@
 //! The effect of an instruction.
-ghost use Rattle.std.specs.Prelude.{◌≡◌, IfOk, IsTrue};
+ghost use Rattle.std.specs.Prelude.{◌≡◌, IsTrue, MatchResult, true};
 ghost use Rattle.lx_model.specs.Effect.{effect, types_of};
-ghost use Rattle.lx_image_steps.specs.Effects.{effect_of};
+ghost use Rattle.lx_image_steps.specs.Effects.{effect_of, is_call};
 ghost use Rattle.lx_code.specs.Reach.{is_sized};
 ghost use Rattle.lx_image_steps.specs.Standing.{run_of};
 
@@ -43,7 +43,7 @@ pub(crate) fn instruction_effect(
     op: &Op,
 ) -> Result<Effect, Memory>
     requires { IsTrue (is_sized (types_of code.now.program (run_of code.now run.now)) op.now) }
-    ensures { IfOk result (λ e. effect_of code.now.program (run_of code.now run.now) e ≡ effect code.now.program (run_of code.now run.now) op.now) }
+    ensures { MatchResult result (λ e. effect_of code.now.program (run_of code.now run.now) e ≡ effect code.now.program (run_of code.now run.now) op.now) (λ _. is_call op.now ≡ true) }
 {
     match op {
         Op::Binary { op, a, b, .. } => Ok(binary(code, run, *op, a, b)),

@@ -1,11 +1,11 @@
 //! What the next instruction does.
-ghost use Rattle.std.specs.Prelude.{◌≡◌, Some, IfOk, IfSome, IsTrue};
+ghost use Rattle.std.specs.Prelude.{◌≡◌, Some, IfSome, IsTrue, MatchResult, true};
 ghost use Rattle.lx_image_code.specs.Jumps.{op_at};
 ghost use Rattle.lx_code.specs.Reach.{is_sized};
 ghost use Rattle.lx_model.specs.Effect.{effect, types_of};
 ghost use Rattle.lx_images.specs.Image.{image_routine};
-ghost use Rattle.lx_image_steps.specs.Effects.{effect_of};
-ghost use Rattle.lx_image_steps.specs.Next.{IsNext, IsStep};
+ghost use Rattle.lx_image_steps.specs.Effects.{effect_of, is_call};
+ghost use Rattle.lx_image_steps.specs.Next.{IsNext, IsStep, calls_next};
 ghost use Rattle.lx_image_steps.specs.Standing.{head_of, run_of};
 
 use crate::activation::Activation;
@@ -56,7 +56,7 @@ fn step_at(
 ) -> Result<Step, Memory>
     requires sized { IsTrue (is_sized (types_of code.now.program (run_of code.now run.now)) op.now) }
     requires stands { op_at (image_routine code.now run.now.function).blocks run.now.block place ≡ Some op.now }
-    ensures { IfOk result (IsStep code.now (run_of code.now run.now) op.now) }
+    ensures { MatchResult result (IsStep code.now (run_of code.now run.now) op.now) (λ _. is_call op.now ≡ true) }
 {
     match wrapped_by(code, run, op) {
         Some(function) => {
@@ -78,9 +78,9 @@ fn step_at(
 }
 
 /// What the next instruction of a running function does; none, where there is none. The case of a large switch is found by
-/// a table and not by a search, and a large type is not laid out again. `Memory` where there is no room for the arguments of a call.
+/// a table and not by a search, and a large type is not laid out again. `Memory` comes at calls alone, where there is no room for the arguments.
 pub fn next_step(alloc: Global, code: &Code, run: &Activation) -> Result<Option<Step>, Memory>
-    ensures { IfOk result (IsNext code.now (run_of code.now run.now) (head_of (run_of code.now run.now).code)) }
+    ensures { MatchResult result (IsNext code.now (run_of code.now run.now) (head_of (run_of code.now run.now).code)) (λ _. calls_next (head_of (run_of code.now run.now).code) ≡ true) }
 {
     let _program = code.program();
     let instrs = instrs_of(code, run);

@@ -1,5 +1,5 @@
 //! Operands of instructions.
-ghost use Rattle.std.specs.Prelude.{◌≡◌, slice_index_or, IfOk, map};
+ghost use Rattle.std.specs.Prelude.{◌≡◌, ◌<◌, MatchResult, length, map, slice_index_or};
 ghost use Rattle.lx_model.specs.Thread.{zero_word};
 ghost use Rattle.lx_model.specs.Effect.{operand, argument_words, text_of};
 ghost use Rattle.lx_model.specs.Program.{module_of};
@@ -54,14 +54,14 @@ pub(crate) fn operand(code: &Code, run: &Activation, value: &Value) -> Word
     }
 }
 
-/// The words of the arguments of a call.
+/// The words of the arguments of a call. None takes no memory.
 pub(crate) fn arguments(
     alloc: Global,
     code: &Code,
     run: &Activation,
     args: &[Argument],
 ) -> Result<Words, Memory>
-    ensures { IfOk result (λ words. words ≡ argument_words code.now.program (run_of code.now run.now) args.now) }
+    ensures { MatchResult result (λ words. words ≡ argument_words code.now.program (run_of code.now run.now) args.now) (λ _. 0 < length args.now) }
 {
     let mut words = Vec::with_capacity(alloc, args.len())?;
     for arg in args {

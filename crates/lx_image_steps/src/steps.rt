@@ -1,5 +1,5 @@
 //! How a running function goes on.
-ghost use Rattle.std.specs.Prelude.{◌≡◌, ◌+◌, ◌<◌, ◌≤◌, ◌++◌, Some, List, IsTrue, IfSome, IfOk, OnOk, OnErr, map, option_copied, replicate, slice_get, vec_len, vec_capacity};
+ghost use Rattle.std.specs.Prelude.{◌≡◌, ◌+◌, ◌<◌, ◌≤◌, ◌++◌, Some, List, IsSome, IsTrue, IfSome, IfOk, MatchResult, OnErr, map, option_copied, replicate, slice_get, true, vec_len, vec_capacity};
 ghost use Rattle.lx_ir.specs.declared.instr.Op.{Op};
 ghost use Rattle.lx_model.specs.Thread.{activation_behind, code_block_of, start_of, with_register, zero_word};
 ghost use Rattle.lx_model.specs.Effect.{arrival, edge_value, is_phi, returned_by, returned_value, site_result, call_result, types_of, with_phis};
@@ -201,7 +201,7 @@ fn add_phi(
 ) -> Result<(), Memory>
     requires op { op_at (image_routine code.now before.now.function).blocks at.jump.to at.place ≡ Some op.now }
     requires label { at.jump.from.now ≡ (run_of code.now before.now).label }
-    ensures { OnOk result (words.new.items ≡ words.old.items ++ phi_words code.now.program (run_of code.now before.now) op.now) }
+    ensures { MatchResult result (λ _. words.new.items ≡ words.old.items ++ phi_words code.now.program (run_of code.now before.now) op.now) (λ _. is_phi op.now ≡ true) }
 {
     if let Op::Phi { to, edges, .. } = op {
         let found = edge_in_table(code, before.function, &at, edges.len());
@@ -225,7 +225,7 @@ fn phis_of(
 ) -> Result<Vec<PhiWord>, Memory>
     requires instrs { map (λ i. i.op) instrs.now ≡ (block_at (image_routine code.now before.now.function).blocks jump.to).code }
     requires label { jump.from.now ≡ (run_of code.now before.now).label }
-    ensures { IfOk result (λ words. with_words words.items before.now.registers.items ≡ with_phis code.now.program (run_of code.now before.now) (map (λ i. i.op) instrs.now) before.now.registers.items) }
+    ensures { MatchResult result (λ words. with_words words.items before.now.registers.items ≡ with_phis code.now.program (run_of code.now before.now) (map (λ i. i.op) instrs.now) before.now.registers.items) (λ _. IsSome (find is_phi (map (λ i. i.op) instrs.now))) }
 {
     let mut words = Vec::new(alloc);
     for place in 0..instrs.len() {
@@ -331,10 +331,11 @@ impl Activation {
     }
 
     /// The function goes to the block with a number, and its phis are evaluated together; `false`, where there is no
-    /// such block. `Memory` leaves it where it is.
+    /// such block. `Memory` leaves it where it is, and comes only where the block has phis.
     pub fn arrive(&mut self, alloc: Global, code: &Code, block: usize) -> Result<bool, Memory>
         ensures arrives { IfOk result (λ there. arrival code.now.program (run_of code.now self.old) (slice_get (run_of code.now self.old).blocks block) ≡ arrived_as there (run_of code.now self.new)) }
         ensures stays { OnErr result (run_of code.now self.new ≡ run_of code.now self.old) }
+        ensures phis { OnErr result (IsSome (find is_phi (block_at (image_routine code.now self.old.function).blocks block).code)) }
     {
         let blocks = code.blocks(self.function);
         match blocks.get(block) {

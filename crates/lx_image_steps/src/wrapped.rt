@@ -1,10 +1,11 @@
 //! Calls of the wrappers of imports.
-ghost use Rattle.std.specs.Prelude.{◌≡◌, IfOk, Some};
+ghost use Rattle.std.specs.Prelude.{◌≡◌, MatchResult, Some, true};
 ghost use Rattle.lx_model.specs.Effect.{text_of};
 ghost use Rattle.lx_images.specs.Image.{wrapped_import, wrapper_args};
 ghost use Rattle.lx_images.specs.Code.{Code as Images};
 ghost use Rattle.lx_images.specs.Wrappers.{called_lines, function_in_image, lines_of};
 ghost use Rattle.lx_image_code.specs.Wrappers.{wrapper_lines};
+ghost use Rattle.lx_image_steps.specs.Effects.{is_call};
 ghost use Rattle.lx_image_steps.specs.Standing.{run_of};
 
 use crate::activation::Activation;
@@ -58,7 +59,7 @@ pub(crate) fn arguments_of(
     run: &Activation,
     op: &Op,
 ) -> Result<Words, Memory>
-    ensures { IfOk result (λ args. args ≡ wrapper_args code.now (run_of code.now run.now) op.now) }
+    ensures { MatchResult result (λ args. args ≡ wrapper_args code.now (run_of code.now run.now) op.now) (λ _. is_call op.now ≡ true) }
 {
     match op {
         Op::Call { args, .. } => {
