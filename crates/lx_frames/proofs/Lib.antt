@@ -1,3 +1,4 @@
+pub mod Acting
 pub mod Arriving
 pub mod Counting
 pub mod Entering

@@ -1,8 +1,9 @@
 //! The frames below the top one.
-ghost use Rattle.std.specs.Prelude.{◌≡◌, ◌+◌, ◌-◌, ◌<◌, ◌≤◌, ◌∷◌, ◌++◌, [], IfSome, OnOk, vec_capacity, vec_len};
-ghost use Rattle.lx_frames.specs.Frames.{high_in, newest, older, running_in};
+ghost use Rattle.std.specs.Prelude.{◌≡◌, ◌+◌, ◌-◌, ◌<◌, ◌≤◌, ◌∷◌, ◌++◌, [], IfSome, OnOk, option_copied, vec_capacity, vec_len};
+ghost use Rattle.lx_frames.specs.Frames.{high_in, newest, older, running_in, running_on};
 
 use crate::frame::Frame;
+use lx_image_steps::Activation;
 use lx_words::Memory;
 use std::alloc::Global;
 use std::marker::Model;
@@ -125,6 +126,16 @@ impl Callers {
         ensures { result ≡ running_in self.now.frames }
     {
         self.running
+    }
+
+    /// The function that runs in the newest frame; none, where a wrapper or nothing does.
+    pub(crate) fn newest(&self) -> Option<&Activation>
+        ensures { option_copied result ≡ running_on (newest self.now.frames) }
+    {
+        match self.frames.last() {
+            Some(frame) => frame.running(),
+            None => None,
+        }
     }
 
     /// Where the stack of the newest function that runs ends; none, where none runs. Wrappers are passed over: there is at most one

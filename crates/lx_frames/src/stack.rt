@@ -1,6 +1,8 @@
 //! The frames of a thread, and the principals of the wrappers among them.
-ghost use Rattle.std.specs.Prelude.{◌≡◌, ◌≤◌, [], IfOk, IfSome, IsSome, option_copied};
+ghost use Rattle.std.specs.Prelude.{◌≡◌, ◌≤◌, [], IfOk, IfSome, IsSome, option_copied, option_map};
+ghost use Rattle.lx_images.specs.Asker.{acting};
 ghost use Rattle.lx_images.specs.Image.{Code as Images, fits_site, has_room, stack_top};
+ghost use Rattle.lx_image_steps.specs.Standing.{run_of};
 ghost use Rattle.lx_frames.specs.Frames.{args_on, frames_of, function_on, high_on, line_behind_on, line_on, running_on, value_on};
 ghost use Rattle.lx_frames.specs.Stack.{returned_on};
 ghost use Rattle.lx_model.specs.Program.{same_result};
@@ -80,6 +82,21 @@ impl FrameStack {
     {
         match &self.top {
             Some(frame) => frame.running(),
+            None => None,
+        }
+    }
+
+    /// The function for which the frames act: the one that runs on top, or the one that called the wrapper there. None, where neither
+    /// is: without a frame, and in a wrapper that the kernel's script calls.
+    #[tactic(auto, using(crate::proofs::Acting::acts_on_top, crate::proofs::Acting::acts_below))]
+    pub fn acting(&self) -> Option<&Activation>
+        ensures { (c : Images) → option_map (run_of c) (option_copied result) ≡ acting (frames_of c self.now.top self.now.below) }
+    {
+        match &self.top {
+            Some(frame) => match frame.running() {
+                Some(run) => Some(run),
+                None => self.below.newest(),
+            },
             None => None,
         }
     }
