@@ -36,7 +36,7 @@ asks_same laws c acc all t thread v well s =
     ∙ not_spared c acc all (next c.program t thread).thread (next c.program t thread).request (counted_next c (image_of c thread)).request (next_agrees laws c acc t thread well).0
 
 -- a thread of a world and its image thread
-stands_at : (c : Code) (threads : List Thread) (vs : List ImageThread) (t : ℕ) (thread : Thread) (v : ImageThread) → ThreadsStand c threads vs → slice_get threads t ≡ Some thread → slice_get vs t ≡ Some v → ThreadStands c thread v
+pub stands_at : (c : Code) (threads : List Thread) (vs : List ImageThread) (t : ℕ) (thread : Thread) (v : ImageThread) → ThreadsStand c threads vs → slice_get threads t ≡ Some thread → slice_get vs t ≡ Some v → ThreadStands c thread v
 stands_at c [] vs t thread v s et ev = none_some et
 stands_at c (x ∷ threads) [] t thread v s et ev = absurd s
 stands_at c (x ∷ threads) (y ∷ vs) zero thread v s et ev =

@@ -146,7 +146,7 @@ not_any true true h e = sym e
 not_any true false h e = sym (h refl)
 not_any false b h e = refl
 
-other_name : (names : List (List ℕ)) (x y : List ℕ) → is_distinct (y ∷ names) ≡ true → IsIn x names → bytes_eq y x ≡ false
+pub other_name : (names : List (List ℕ)) (x y : List ℕ) → is_distinct (y ∷ names) ≡ true → IsIn x names → bytes_eq y x ≡ false
 other_name names x y d i = not_any (bytes_eq y x) (list_any (bytes_eq y) names) (λ e. any_of (bytes_eq y) names x i e) (first_true (not (list_any (bytes_eq y) names)) (is_distinct names) d)
 
 pub found_here : (c : Block) (cs : List Block) (label : List ℕ) (b : Bool) → bytes_eq c.name label ≡ b → b ≡ true → code_block_named (map code_block_of (c ∷ cs)) label ≡ Some (code_block_of c)

@@ -128,7 +128,7 @@ stores_held laws loans c acc w kept stood t thread got =
 
 -- a run
 
-abbrev RunsOn : Code → World → ImageWorld → Type 0
+abbrev pub RunsOn : Code → World → ImageWorld → Type 0
 RunsOn c w v = WorldWell c.program w × WorldKept w × WorldStood c.program w × StandsFor c w v
 
 goes_on : ModelLaws → HistoryLaws → LoanLaws → (c : Code) → Accepted c → (t : ℕ) (w : World) (v : ImageWorld) → RunsOn c w v → RunsOn c (event c.program t w) (image_event c t v)
@@ -166,10 +166,14 @@ opens c script few fits = (
   opening_stands c script,
 )
 
+pub runs_on : ModelLaws → HistoryLaws → LoanLaws → (c : Code) → Accepted c → (script : List (List ScriptCall)) (schedule : List ℕ) → length script ≤ 16 → ScriptFits c.program script →
+    RunsOn c (run c.program schedule (opening c.program script)) (image_run c schedule (image_opening c script))
+runs_on laws owners loans c acc script schedule few fits =
+    run_on laws owners loans c acc schedule (opening c.program script) (image_opening c script) (opens c script few fits)
+
 pub run_stands : ModelLaws → HistoryLaws → LoanLaws → (c : Code) → Accepted c → (script : List (List ScriptCall)) (schedule : List ℕ) → length script ≤ 16 → ScriptFits c.program script →
     StandsFor c (run c.program schedule (opening c.program script)) (image_run c schedule (image_opening c script))
-run_stands laws owners loans c acc script schedule few fits =
-    (run_on laws owners loans c acc schedule (opening c.program script) (image_opening c script) (opens c script few fits)).3
+run_stands laws owners loans c acc script schedule few fits = (runs_on laws owners loans c acc script schedule few fits).3
 
 -- the registers of allocas
 
@@ -208,6 +212,8 @@ run_stood : (p : Program) → AllVerified p → SlotCalls p → (schedule : List
 run_stood p ver slots [] w st = st
 run_stood p ver slots (t ∷ ts) w st = run_stood p ver slots ts (event p t w) (event_stood p ver slots t w st)
 
+pub threads_stood : (p : Program) → AllVerified p → SlotCalls p → (script : List (List ScriptCall)) (schedule : List ℕ) → ScriptFits p script → WorldStood p (run p schedule (opening p script))
+threads_stood p ver slots script schedule fits = run_stood p ver slots schedule (opening p script) (fresh_stood p script fits)
+
 pub run_places : (p : Program) → AllVerified p → SlotCalls p → (script : List (List ScriptCall)) (schedule : List ℕ) → ScriptFits p script → WorldPlaces p (run p schedule (opening p script))
-run_places p ver slots script schedule fits =
-    each_places p (run p schedule (opening p script)).threads (run_stood p ver slots schedule (opening p script) (fresh_stood p script fits))
+run_places p ver slots script schedule fits = each_places p (run p schedule (opening p script)).threads (threads_stood p ver slots script schedule fits)

@@ -1,0 +1,25 @@
+//! Laws of places: where in a program's text a thread asks, and that its image asks at the same place.
+//!
+//! ```text
+//! place_laws();
+//! // A thread whose image asks at 3 instructions of block `2`, two of them marks, asks where 1 instruction of that block is left: at its line.
+//! ```
+#![tactic(auto)]
+
+ghost use Rattle.lx_places.specs.Laws.{PlaceLaws};
+
+use lx_caps::{history_laws, loan_laws};
+use lx_model::model_laws;
+use lx_simulation::simulation_laws;
+
+/// A thread of accepted images asks at the place of the program's text at which the thread asks that it stands for: in the same function and
+/// block, with as many instructions left when marks are not counted. So it is at each point of a run. The line of such a place is that of the
+/// instruction that runs.
+pub fn place_laws()
+    ensures { PlaceLaws }
+{
+    history_laws();
+    loan_laws();
+    model_laws();
+    simulation_laws();
+}
