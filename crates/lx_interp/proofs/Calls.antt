@@ -1,5 +1,6 @@
 -- The calls that are left, and the events that they may have.
-use Rattle.std.proofs.Common.{◌≡◌, ℕ, zero, suc, ◌+◌, ◌<◌, ◌≤◌, true, false, not, leb, None, List, [], ◌∷◌, length, drop, IsTrue, refl, ap, ◌∙◌, arith}
+use Rattle.std.proofs.Common.{◌≡◌, ℕ, zero, suc, ◌+◌, ◌<◌, ◌≤◌, true, false, not, leb, Option, None, List, [], ◌∷◌, length, drop, IsTrue, refl, ap, ◌∙◌, arith}
+use Rattle.std.specs.Prelude.{slice_get}
 use Rattle.std.proofs.lemmas.Bool.Decides.{nat_tests}
 use Rattle.lx_model.specs.declared.program.ScriptCall.{ScriptCall}
 use Rattle.lx_model.specs.declared.request.Outcome.{Outcome}
@@ -7,9 +8,9 @@ use Rattle.lx_model.specs.declared.request.What.{What}
 use Rattle.lx_model.specs.declared.request.What.TheVariants as what
 use Rattle.lx_model.specs.Thread.{first_fuel, has_call}
 use Rattle.lx_model.specs.Next.{other_calls}
-use Rattle.lx_images.specs.Image.{Code, after_end}
+use Rattle.lx_images.specs.Image.{Code, ImageThread, after_end}
 use Rattle.lx_interp.specs.declared.runner.Runner.{Runner}
-use Rattle.lx_interp.specs.Runner.{calls_left, events_left, events_of, paid, paid_for, thread_of, unpaid_events}
+use Rattle.lx_interp.specs.Runner.{StandsFor, calls_left, events_left, events_of, paid, paid_for, thread_of, unpaid_events}
 
 -- no call is left where as many have ended
 none_before : (n : ℕ) → leb (suc n) 0 ≡ false
@@ -26,6 +27,16 @@ none_left zero [] = none_of_none 0
 none_left zero (c ∷ cs) = none_before (length cs)
 none_left (suc n) [] = none_of_none (suc n)
 none_left (suc n) (c ∷ cs) = before_more (length cs) n ∙ none_left n cs
+
+-- the first one that is left, among all
+pub first_left : (n : ℕ) (calls : List ScriptCall) → slice_get calls n ≡ slice_get (drop n calls) 0
+first_left zero [] = refl
+first_left zero (c ∷ cs) = refl
+first_left (suc n) [] = refl
+first_left (suc n) (c ∷ cs) = first_left n cs
+
+pub call_of : (c : Code) (t : ℕ) (r : Runner) (v : ImageThread) (found : Option ScriptCall) → found ≡ slice_get r.calls (length r.endings.items) → StandsFor c t r v → found ≡ slice_get v.calls 0
+call_of c t r v found e h = e ∙ first_left (length r.endings.items) r.calls ∙ ap (λ (xs : List ScriptCall). slice_get xs 0) h.calls
 
 -- a call is left within the list
 pub some_left : (n : ℕ) (calls : List ScriptCall) → IsTrue (has_call (drop n calls)) → n < length calls

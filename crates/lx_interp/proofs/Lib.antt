@@ -1,3 +1,4 @@
+pub mod Askers
 pub mod Calls
 pub mod Falling
 pub mod Lines

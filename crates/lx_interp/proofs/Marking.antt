@@ -17,7 +17,7 @@ use Rattle.lx_frames.specs.declared.frame.Frame.TheVariants as kept
 use Rattle.lx_interp.specs.declared.runner.Runner.{Runner}
 use Rattle.lx_frames.specs.Frames.{Stack, frame_of, frames_of, marked_frame_step, runs}
 use Rattle.lx_frames.specs.Stack.{IsReadyIf}
-use Rattle.lx_interp.specs.Runner.{GoesOn, asking_behind, asking_or, marked_step, thread_of}
+use Rattle.lx_interp.specs.Runner.{GoesOn, StepsAlike, asking_behind, asking_or, marked_step, thread_of}
 use Rattle.lx_interp.proofs.Takings.{left_same, thread_is}
 
 -- what a function on top comes to has nothing of the frames that the thread had
@@ -73,18 +73,23 @@ same_behind c v f g fs (Asks w q) = refl
 undue : (c : Code) (m : Option Marks) (v : ImageThread) → v.due ≡ None → marked_step c m v ≡ marked_frame_step c m v v.frames
 undue c m v e = ap (λ d. due_or d v (marked_frame_step c m v v.frames)) e
 
--- a function that has gone past its marks asks what it would have asked
+-- a function that has gone past its marks has the step that it would have had
+marks_step : (c : Code) (m : Marks) (v : ImageThread) (f g : ImageFrame) (fs : List ImageFrame) → v.due ≡ None → IsFunction g →
+    ((w : ImageThread) (hs : List ImageFrame) → marked_frame_step c None w (f ∷ hs) ≡ marked_frame_step c (Some m) w (g ∷ hs)) →
+    marked_step c (Some m) (with_frames (g ∷ fs) v) ≡ marked_step c None (with_frames (f ∷ fs) v)
+marks_step c m v f g fs due function step =
+    undue c (Some m) (with_frames (g ∷ fs) v) due
+    ∙ frames_apart c m v (g ∷ fs) g fs function
+    ∙ sym (frames_apart c m v (f ∷ fs) g fs function)
+    ∙ sym (step (with_frames (f ∷ fs) v) fs)
+    ∙ sym (undue c None (with_frames (f ∷ fs) v) due)
+
+-- and asks what it would have asked
 pub marks_taken : (c : Code) (m : Marks) (v : ImageThread) (f g : ImageFrame) (fs : List ImageFrame) → v.due ≡ None → IsFunction g →
     ((w : ImageThread) (hs : List ImageFrame) → marked_frame_step c None w (f ∷ hs) ≡ marked_frame_step c (Some m) w (g ∷ hs)) →
     asking_or c (Some m) (with_frames (g ∷ fs) v) None ≡ asking_or c None (with_frames (f ∷ fs) v) None
 marks_taken c m v f g fs due function step =
-    ap (asking_behind c (with_frames (g ∷ fs) v)) (undue c (Some m) (with_frames (g ∷ fs) v) due)
-    ∙ same_behind c v f g fs (marked_frame_step c (Some m) (with_frames (g ∷ fs) v) (g ∷ fs))
-    ∙ ap (asking_behind c (with_frames (f ∷ fs) v))
-    (frames_apart c m v (g ∷ fs) g fs function
-    ∙ sym (frames_apart c m v (f ∷ fs) g fs function)
-    ∙ sym (step (with_frames (f ∷ fs) v) fs)
-    ∙ sym (undue c None (with_frames (f ∷ fs) v) due))
+    ap (asking_behind c (with_frames (g ∷ fs) v)) (marks_step c m v f g fs due function step) ∙ same_behind c v f g fs (marked_step c None (with_frames (f ∷ fs) v))
 
 -- the runner behind the marks
 
@@ -114,6 +119,29 @@ asks_same c old new f g (Some m) due top h state =
     ap (λ v. asking_or c (Some m) v None) state
     ∙ marks_taken c m (thread_of c old) (frame_of c f) (frame_of c g) (map (frame_of c) old.stack.below.frames) due (function_of c g h.0) h.1
     ∙ ap (λ v. asking_or c None v None) (sym (thread_with c old old f refl refl refl refl top refl refl))
+
+step_same : (c : Code) (old new : Runner) (f g : KeptFrame) (taken : Option Marks) → old.due ≡ None → old.stack.top ≡ Some f → TakesMarks c f g taken →
+    thread_of c new ≡ with_frames (frame_of c g ∷ map (frame_of c) old.stack.below.frames) (thread_of c old) → marked_step c taken (thread_of c new) ≡ marked_step c None (thread_of c old)
+step_same c old new f g None due top h state =
+    ap (marked_step c None)
+    (state
+    ∙ ap (λ x. with_frames (frame_of c x ∷ map (frame_of c) old.stack.below.frames) (thread_of c old)) h
+    ∙ sym (thread_with c old old f refl refl refl refl top refl refl))
+step_same c old new f g (Some m) due top h state =
+    ap (marked_step c (Some m)) state
+    ∙ marks_step c m (thread_of c old) (frame_of c f) (frame_of c g) (map (frame_of c) old.stack.below.frames) due (function_of c g h.0) h.1
+    ∙ ap (marked_step c None) (sym (thread_with c old old f refl refl refl refl top refl refl))
+
+pub passed_step : (c : Code) (old new : Runner) (f g : KeptFrame) (taken : Option Marks) → old.due ≡ None → old.marks ≡ None → old.stack.top ≡ Some f → TakesMarks c f g taken →
+    new.calls ≡ old.calls → new.endings ≡ old.endings → new.fuel ≡ old.fuel → new.due ≡ old.due → new.stack.top ≡ Some g → new.stack.below ≡ old.stack.below → new.stack.shadow ≡ old.stack.shadow → new.marks ≡ taken →
+    StepsAlike c old new
+passed_step c old new f g taken due marks top h e1 e2 e3 e4 e5 e6 e7 e8 =
+    record {
+      step =
+          ap (λ (m : Option Marks). marked_step c m (thread_of c new)) e8
+          ∙ step_same c old new f g taken due top h (thread_with c old new g e1 e2 e3 e4 e5 e6 e7)
+          ∙ ap (λ (m : Option Marks). marked_step c m (thread_of c old)) (sym marks);
+    }
 
 pub passed_on : (c : Code) (old new : Runner) (f g : KeptFrame) (taken : Option Marks) → old.request ≡ None → old.due ≡ None → old.marks ≡ None → old.stack.top ≡ Some f → TakesMarks c f g taken →
     new.thread ≡ old.thread → new.calls ≡ old.calls → new.endings ≡ old.endings → new.fuel ≡ old.fuel → new.due ≡ old.due → new.stack.top ≡ Some g → new.stack.below ≡ old.stack.below → new.stack.shadow ≡ old.stack.shadow → new.marks ≡ taken → new.request ≡ old.request →

@@ -12,24 +12,24 @@ use Rattle.lx_images.specs.Image.{Code, ImageAsking, ImageFrame, ImageThread, Ma
 use Rattle.lx_frames.specs.declared.stack.FrameStack.{FrameStack}
 use Rattle.lx_interp.specs.declared.runner.Runner.{Runner}
 use Rattle.lx_frames.specs.Stack.{HasRoomFor, IsReadyIf, Shows}
-use Rattle.lx_interp.specs.Runner.{Becomes, HasCallIf, IsAsking, StandsFor, asking_or, end_in, may_answer, thread_of}
+use Rattle.lx_interp.specs.Runner.{Becomes, HasCallIf, IsAsking, IsAt, StandsFor, asking_or, end_in, may_answer, thread_of}
 use Rattle.lx_interp.proofs.Goings.{next_is}
 use Rattle.lx_interp.proofs.Takings.{left_same, thread_is}
 
--- a runner that nothing is asked of stands for its thread
-pub stands_by : (c : Code) (t : ℕ) (new : Runner) (v : ImageThread) → new.thread ≡ t → new.marks ≡ None → new.request ≡ None → thread_of c new ≡ v → StandsFor c t new v
-stands_by c t new v number marks idle state =
+-- a runner that is exactly at its thread stands for it
+pub stands_by : (c : Code) (t : ℕ) (new : Runner) (v : ImageThread) → IsAt c t new v → StandsFor c t new v
+stands_by c t new v at =
     record {
-      number = number;
-      ready = subst (IsReadyIf c new.stack) (sym idle) tt;
-      works = subst (HasCallIf new) (sym idle) tt;
+      number = at.number;
+      ready = subst (IsReadyIf c new.stack) (sym at.idle) tt;
+      works = subst (HasCallIf new) (sym at.idle) tt;
       asks =
-          ap (asking_or c new.marks (thread_of c new)) idle
-          ∙ ap (λ (m : Option Marks). asking_or c m (thread_of c new) None) marks
+          ap (asking_or c new.marks (thread_of c new)) at.idle
+          ∙ ap (λ (m : Option Marks). asking_or c m (thread_of c new) None) at.marks
           ∙ next_is c (thread_of c new)
-          ∙ ap (image_next c) state;
-      calls = ap (λ (x : ImageThread). x.calls) state;
-      ended = ap (λ (x : ImageThread). x.ended) state;
+          ∙ ap (image_next c) at.state;
+      calls = ap (λ (x : ImageThread). x.calls) at.state;
+      ended = ap (λ (x : ImageThread). x.ended) at.state;
     }
 
 end_absorbed : (c : Code) (t : ℕ) (v : ImageThread) (r : Request) (answer : Reply) (o : Outcome) → Some o ≡ end_in answer → after_end o v ≡ image_absorb c t v r answer
@@ -46,27 +46,36 @@ reply_absorbed c t v r (Value x) e = refl
 reply_absorbed c t v r Done e = refl
 reply_absorbed c t v r (Entered n q b) e = refl
 
-pub end_stands : (c : Code) (t : ℕ) (old mid new : Runner) (asking : ImageAsking) (answer : Reply) (o : Outcome) → IsAsking c t old asking → Some o ≡ end_in answer →
+pub end_at : (c : Code) (t : ℕ) (old mid new : Runner) (asking : ImageAsking) (answer : Reply) (o : Outcome) → IsAsking c t old asking → Some o ≡ end_in answer →
     mid.thread ≡ old.thread → thread_of c mid ≡ thread_of c old → mid.marks ≡ None → mid.request ≡ None →
-    Becomes c mid new (after_end o (thread_of c mid)) → StandsFor c t new (image_absorb c t asking.thread asking.request answer)
-end_stands c t old mid new asking answer o a e number state marks idle b =
-    stands_by c t new _ (b.number ∙ number ∙ a.number) (b.marks ∙ marks) (b.request ∙ idle)
-    (b.state ∙ ap (after_end o) (state ∙ sym a.thread) ∙ end_absorbed c t asking.thread asking.request answer o e)
+    Becomes c mid new (after_end o (thread_of c mid)) → IsAt c t new (image_absorb c t asking.thread asking.request answer)
+end_at c t old mid new asking answer o a e number state marks idle b =
+    record {
+      number = b.number ∙ number ∙ a.number;
+      state = b.state ∙ ap (after_end o) (state ∙ sym a.thread) ∙ end_absorbed c t asking.thread asking.request answer o e;
+      marks = b.marks ∙ marks;
+      idle = b.request ∙ idle;
+    }
 
 pub asked_is : (c : Code) (t : ℕ) (old : Runner) (asking : ImageAsking) (q : Request) → IsAsking c t old asking → Some q ≡ old.request → q ≡ asking.request
 asked_is c t old asking q a e = same_Some q asking.request (e ∙ a.request)
 
-pub reply_stands : (c : Code) (t : ℕ) (old mid new : Runner) (asking : ImageAsking) (q : Request) (answer : Reply) → IsAsking c t old asking → Some q ≡ old.request → None ≡ end_in answer →
+reply_at : (c : Code) (t : ℕ) (old mid new : Runner) (asking : ImageAsking) (q : Request) (answer : Reply) → IsAsking c t old asking → Some q ≡ old.request → None ≡ end_in answer →
     mid.thread ≡ old.thread → thread_of c mid ≡ thread_of c old → mid.marks ≡ None → mid.request ≡ None →
-    Becomes c mid new (after_reply c mid.thread (thread_of c mid) q.what answer) → StandsFor c t new (image_absorb c t asking.thread asking.request answer)
-reply_stands c t old mid new asking q answer a is e number state marks idle b =
+    Becomes c mid new (after_reply c mid.thread (thread_of c mid) q.what answer) → IsAt c t new (image_absorb c t asking.thread asking.request answer)
+reply_at c t old mid new asking q answer a is e number state marks idle b =
     let n : mid.thread ≡ t = number ∙ a.number in
-    stands_by c t new _ (b.number ∙ n) (b.marks ∙ marks) (b.request ∙ idle)
-    (b.state
-    ∙ ap (λ k. after_reply c k (thread_of c mid) q.what answer) n
-    ∙ ap (λ x. after_reply c t x q.what answer) (state ∙ sym a.thread)
-    ∙ reply_absorbed c t asking.thread q answer e
-    ∙ ap (λ r. image_absorb c t asking.thread r answer) (asked_is c t old asking q a is))
+    record {
+      number = b.number ∙ n;
+      state =
+          b.state
+          ∙ ap (λ k. after_reply c k (thread_of c mid) q.what answer) n
+          ∙ ap (λ x. after_reply c t x q.what answer) (state ∙ sym a.thread)
+          ∙ reply_absorbed c t asking.thread q answer e
+          ∙ ap (λ r. image_absorb c t asking.thread r answer) (asked_is c t old asking q a is);
+      marks = b.marks ∙ marks;
+      idle = b.request ∙ idle;
+    }
 
 -- the thread behind an entry
 
@@ -91,7 +100,7 @@ asked_may c t old asking q answer a is m = ap (λ (r : Request). may_answer r.wh
 pub reply_taken : (c : Code) (t : ℕ) (old mid new : Runner) (asking : ImageAsking) (q : Request) (answer : Reply) → IsAsking c t old asking → Some q ≡ old.request → None ≡ end_in answer → IsTrue (may_answer asking.request.what answer) →
     mid.thread ≡ old.thread → thread_of c mid ≡ thread_of c old → mid.stack ≡ old.stack → mid.marks ≡ None → mid.request ≡ None →
     (HasRoomFor c mid.stack q.what → IsTrue (may_answer q.what answer) → end_in answer ≡ None → Becomes c mid new (after_reply c mid.thread (thread_of c mid) q.what answer)) →
-    StandsFor c t new (image_absorb c t asking.thread asking.request answer)
+    IsAt c t new (image_absorb c t asking.thread asking.request answer)
 reply_taken c t old mid new asking q answer a is e m number state same marks idle becomes =
-    reply_stands c t old mid new asking q answer a is e number state marks idle
+    reply_at c t old mid new asking q answer a is e number state marks idle
     (becomes (subst (λ (s : FrameStack). HasRoomFor c s q.what) (sym same) (asked_ready c t old asking q a is)) (asked_may c t old asking q answer a is m) (sym e))

@@ -99,6 +99,13 @@ pub record IsAsking (c : Code) (t : ℕ) (r : Runner) (asking : ImageAsking) : T
   pub thread : asking.thread ≡ thread_of c r
   pub request : request_of r ≡ Some asking.request
 
+-- the runner of the thread with this number is exactly at this thread: no register step is taken, and nothing is asked
+pub record IsAt (c : Code) (t : ℕ) (r : Runner) (thread : ImageThread) : Type 0 where
+  pub number : r.thread ≡ t
+  pub state : thread_of c r ≡ thread
+  pub marks : r.marks ≡ None
+  pub idle : r.request ≡ None
+
 -- the replies that the monitor may give to what is asked: bytes of the stack end within the stack's room, and only an
 -- end answers the request to end
 abbrev pub may_answer : What → Reply → Bool
@@ -276,6 +283,10 @@ pub record GoesOn (c : Code) (old new : Runner) : Type 0 where
   pub ended : new.endings ≡ old.endings
   pub asks : asking_of c new ≡ asking_of c old
   pub ready : IsReady c new
+
+-- the next step is the same, wherever the marks of its instruction have been taken
+pub record StepsAlike (c : Code) (old new : Runner) : Type 0 where
+  pub step : marked_step c new.marks (thread_of c new) ≡ marked_step c old.marks (thread_of c old)
 
 -- how many steps the runner may take before it asks, and 0 where it asks
 abbrev pub steps_before : Code → Runner → Option Request → ℕ

@@ -16,7 +16,9 @@
 
 mod ending;
 mod runner;
+mod standing;
 
 pub use ending::Ending;
 pub use lx_image_code::Code;
 pub use runner::Runner;
+pub use standing::Standing;

@@ -3,6 +3,7 @@ ghost use Rattle.std.specs.Prelude.{◌≤◌, length, vec_capacity};
 
 mod effects;
 mod replies;
+mod standing;
 mod steps;
 mod wrappers;
 

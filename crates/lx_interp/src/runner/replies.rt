@@ -8,7 +8,7 @@ ghost use Rattle.lx_words.specs.Word.{word};
 ghost use Rattle.lx_images.specs.Image.{Code as Images, ImageAsking, after_end, after_entry, after_reply, after_ret, behind_line, fits_site, image_absorb, on_running, past_instruction, with_due, with_frames};
 ghost use Rattle.lx_frames.specs.Frames.{HasSpaceOn, frames_of};
 ghost use Rattle.lx_frames.specs.Stack.{CanEnter, CanGoOn, HasRoomFor};
-ghost use Rattle.lx_interp.specs.Runner.{Becomes, IsAsking, KeepsFuel, StandsFor, behind_direct, calls_left, end_in, events_left, is_direct, may_answer, reply_value, request_of, spends, thread_of};
+ghost use Rattle.lx_interp.specs.Runner.{Becomes, IsAsking, IsAt, KeepsFuel, StandsFor, behind_direct, calls_left, end_in, events_left, is_direct, may_answer, reply_value, request_of, spends, thread_of};
 
 use super::Runner;
 use super::steps::fuel_at;
@@ -196,6 +196,7 @@ impl Runner {
     /// Takes in the reply to what the runner asks. It takes no memory.
     pub fn absorb(&mut self, code: &Code, reply: &Reply)
         ensures stands { (t : ℕ) → (asking : ImageAsking) → IsAsking code.now t self.old asking → IsTrue (may_answer asking.request.what reply.now) → StandsFor code.now t self.new (image_absorb code.now t asking.thread asking.request reply.now) }
+        ensures at { (t : ℕ) → (asking : ImageAsking) → IsAsking code.now t self.old asking → IsTrue (may_answer asking.request.what reply.now) → IsAt code.now t self.new (image_absorb code.now t asking.thread asking.request reply.now) }
         ensures idle { request_of self.new ≡ None }
         ensures events { (t : ℕ) → (asking : ImageAsking) → IsAsking code.now t self.old asking → IsTrue (may_answer asking.request.what reply.now) → events_left self.new < events_left self.old }
         ensures spends { IsTrue (has_call (calls_left self.old)) → IsTrue (spends (request_of self.old) reply.now) → events_left self.new < events_left self.old }

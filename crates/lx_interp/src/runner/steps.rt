@@ -1,12 +1,12 @@
 //! Register steps, up to the next request.
-ghost use Rattle.std.specs.Prelude.{◌≡◌, ℕ, ◌≤◌, ◌<◌, false, not, IsTrue, drop, IfOk, OnOk, OnErr, IsSome, IsNone, Some, None, option_copied};
+ghost use Rattle.std.specs.Prelude.{◌≡◌, ℕ, ◌≤◌, ◌<◌, false, not, IsTrue, drop, IfOk, OnOk, OnErr, IsSome, IsNone, Some, None, option_copied, slice_get};
 ghost use Rattle.lx_model.specs.declared.request.Way.TheVariants.{Script};
 ghost use Rattle.lx_model.specs.declared.request.What.TheVariants as what;
 ghost use Rattle.lx_model.specs.Thread.{first_fuel, has_call};
 ghost use Rattle.lx_images.specs.Image.{Code as Images, ImageAsking, ImageThread, Marks, image_next, start_step};
 ghost use Rattle.lx_images.specs.ImageWorld.{fresh_image_thread};
 ghost use Rattle.lx_frames.specs.Frames.{frames_of, line_on, marked_frame_step, running_on};
-ghost use Rattle.lx_interp.specs.Runner.{GoesOn, HasStayed, HasTaken, IsAsking, IsMarked, StandsFor, calls_left, events_left, events_of, instruction_in, instruction_on, marked_step, marks_in, next_in, poorer, request_of, steps_before, thread_of};
+ghost use Rattle.lx_interp.specs.Runner.{GoesOn, HasStayed, HasTaken, IsAsking, IsAt, IsMarked, StandsFor, StepsAlike, calls_left, events_left, events_of, instruction_in, instruction_on, marked_step, marks_in, next_in, poorer, request_of, steps_before, thread_of};
 
 use super::Runner;
 use super::effects::finishing;
@@ -48,6 +48,7 @@ impl Runner {
     /// Want of memory for the copies, for the endings of the calls and for the shadow stack.
     pub fn open(alloc: Global, thread: u32, calls: &Calls) -> Result<Runner, Memory>
         ensures fresh { IfOk result (λ r. (c : Images) → StandsFor c thread r (fresh_image_thread calls.now)) }
+        ensures at { IfOk result (λ r. (c : Images) → IsAt c thread r (fresh_image_thread calls.now)) }
         ensures idle { IfOk result (λ r. request_of r ≡ None) }
         ensures events { IfOk result (λ r. events_left r ≡ events_of calls.now) }
     {
@@ -75,6 +76,15 @@ impl Runner {
         ensures left { result ≡ not (has_call (calls_left self.now)) }
     {
         self.calls.len() <= self.endings.as_slice().len()
+    }
+
+    /// The call that the thread is in, or comes to next: the first one that has not ended. None, where all have.
+    #[tactic(auto, using(crate::proofs::Calls::first_left, crate::proofs::Calls::call_of))]
+    pub fn current_call(&self) -> Option<&ScriptCall>
+        ensures left { option_copied result ≡ slice_get (calls_left self.now) 0 }
+        ensures stands { (c : Images) → (t : ℕ) → (thread : ImageThread) → StandsFor c t self.now thread → option_copied result ≡ slice_get thread.calls 0 }
+    {
+        self.calls.as_slice().get(self.endings.len())
     }
 
     // The first call that is left starts.
@@ -204,7 +214,7 @@ impl Runner {
     }
 
     // A step of a thread that has a call left and asks nothing.
-    fn take_step(&mut self, code: &Code) -> Result<(), Memory>
+    pub(super) fn take_step(&mut self, code: &Code) -> Result<(), Memory>
         requires request { self.old.request ≡ None }
         requires marked { IsMarked self.old }
         requires work { IsTrue (has_call (calls_left self.old)) }
@@ -221,10 +231,11 @@ impl Runner {
     }
 
     // Goes past the guards and checks before the next instruction, unless that was done before a want of memory.
-    fn pass_marks(&mut self, code: &Code)
+    pub(super) fn pass_marks(&mut self, code: &Code)
         requires { self.old.request ≡ None }
         ensures goes_on { GoesOn code.now self.old self.new }
         ensures marked { IsMarked self.new }
+        ensures step { StepsAlike code.now self.old self.new }
         ensures before { steps_before code.now self.new None ≡ steps_before code.now self.old None }
         ensures idle { self.new.request ≡ None }
         ensures spares { events_left self.new ≡ events_left self.old }
