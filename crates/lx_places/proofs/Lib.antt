@@ -1,2 +1,3 @@
+mod Askers
 mod Asking
 mod Meaning

@@ -1,5 +1,5 @@
 -- The place at which a thread asks means the instruction that runs.
-use Rattle.std.proofs.Common.{◌≡◌, ℕ, zero, suc, ◌-◌, ◌<◌, ◌≤◌, Bool, true, false, not, List, [], ◌∷◌, length, map, drop, Option, Some, None, refl, sym, subst, ◌∙◌, ap, arith}
+use Rattle.std.proofs.Common.{◌≡◌, ◌≢◌, ℕ, zero, suc, ◌-◌, ◌<◌, ◌≤◌, Bool, true, false, not, List, [], ◌∷◌, length, map, drop, Option, Some, None, refl, sym, subst, ◌∙◌, ap, arith}
 use Rattle.std.specs.Prelude.{bytes_eq, option_map, option_and_then, slice_get, if◌then◌else◌}
 use Rattle.std.specs.List.{list_any}
 use Rattle.std.proofs.lemmas.Bool.{le-leb}
@@ -20,14 +20,18 @@ use Rattle.lx_model.specs.declared.program.Program.{Program}
 use Rattle.lx_model.specs.Program.{function_of, module_of}
 use Rattle.lx_model.specs.Thread.{Activation, Stage, Pre, Body, Post, Crossing, Frame, Thread}
 use Rattle.lx_model.specs.Effect.{text_of, types_of}
-use Rattle.lx_model.specs.Next.{Step, Goes, Asks, step}
+use Rattle.lx_model.specs.declared.request.Outcome.{Outcome}
+use Rattle.lx_model.specs.declared.request.Outcome.TheVariants.{Trapped, Budget}
+use Rattle.lx_model.specs.declared.request.Trap.TheVariants.{Unreachable}
+use Rattle.lx_model.specs.declared.request.Request.{Request}
+use Rattle.lx_model.specs.Next.{Step, Goes, Asks, comes_to, due_or, finish, frame_step, if_paid, instruction_step, stage_step, step, undue_step}
 use Rattle.lx_images.specs.Guarded.{SlotCalls}
 use Rattle.lx_simulation.proofs.Elements.{in_got, in_map}
-use Rattle.lx_simulation.proofs.Frames.{AllVerified, sound_at, StoodBy, StoodIn, StageStood, TopStood, WaitStood, FramesStood, ThreadStood, StepStood, step_stood}
+use Rattle.lx_simulation.proofs.Frames.{AllVerified, PassesCode, sound_at, StoodBy, StoodIn, StageStood, TopStood, WaitStood, FramesStood, ThreadStood, StepStood, step_stood}
 use Rattle.lx_simulation.proofs.Imaging.{other_name}
 use Rattle.lx_simulation.proofs.Verifying.{op_of, name_of_block, Sound}
 use Rattle.lx_simulation.proofs.Walking.{Here, here, name_of, no_ops}
-use Rattle.lx_places.specs.Place.{place_of, first_run, acting_at, acting_in, acting, asker_within, with_left, instr_at}
+use Rattle.lx_places.specs.Place.{Place, place_of, first_run, acting_at, acting_in, acting, asker_within, with_left, instr_at}
 use Rattle.lx_places.specs.Laws.{Means}
 
 -- the function for which frames act is at a place of its text
@@ -113,3 +117,57 @@ means_by p ver a o os (Some g) ef st ec =
 
 pub frames_mean : (p : Program) → AllVerified p → (fs : List Frame) → FramesStood p fs → (a : Activation) (o : Op) (os : List Op) → acting fs ≡ Some a → a.code ≡ o ∷ os → Means p (place_of a) o
 frames_mean p ver fs st a o os e ec = means_by p ver a o os (function_of p a.function) refl (acting_stood p fs a st e) ec
+
+-- a request that is no end of a call is asked at an instruction
+
+abbrev HasCode : Activation → Type 0
+HasCode a = (o : Op) × (os : List Op) × (a.code ≡ o ∷ os)
+
+abbrev pub NoEnd : Request → Type 0
+NoEnd r = (e : Outcome) → r ≢ finish e
+
+same_request : {x y : Thread} {r q : Request} → ◌≡◌ {A = Step} (Asks x r) (Asks y q) → q ≡ r
+same_request e = cc
+
+has_code : (a : Activation) (code : List Op) → a.code ≡ code → PassesCode code → HasCode a
+has_code a [] ec passes = absurd passes
+has_code a (o ∷ os) ec passes = (o, os, ec)
+
+below_code : (p : Program) (fs : List Frame) (a : Activation) → WaitStood p fs → first_run fs ≡ Some a → HasCode a
+below_code p [] a w e = none_some e
+below_code p (f ∷ fs) a w e = subst HasCode (some_same e) (has_code f.run f.run.code refl w.1)
+
+-- a step without code ends the call, whether it is paid or not
+no_code : (p : Program) (t : ℕ) (f : Frame) (fs : List Frame) (thread w : Thread) (r : Request) (fuel : ℕ) → NoEnd r →
+    elim fuel [ zero ↦ comes_to Budget thread | suc n ↦ instruction_step p t f fs [] (record thread { fuel = n }) ] ≡ Asks w r → ⊥
+no_code p t f fs thread w r zero more e = more Budget (same_request e)
+no_code p t f fs thread w r (suc n) more e = more (Trapped Unreachable) (same_request e)
+
+own_code : (p : Program) (t : ℕ) (f : Frame) (fs : List Frame) (thread w : Thread) (r : Request) (code : List Op) → NoEnd r → f.run.code ≡ code → if_paid thread (instruction_step p t f fs code) ≡ Asks w r → HasCode f.run
+own_code p t f fs thread w r [] more ec e = absurd (no_code p t f fs thread w r thread.fuel more e)
+own_code p t f fs thread w r (o ∷ os) more ec e = (o, os, ec)
+
+stage_code : (p : Program) (t : ℕ) (f : Frame) (fs : List Frame) (x : Crossing) (s : Stage) (thread w : Thread) (r : Request) (a : Activation) → WaitStood p fs → NoEnd r → stage_step p t f fs x s thread ≡ Asks w r → acting_at s f fs ≡ Some a → HasCode a
+stage_code p t f fs x (Pre k) thread w r a below more e ea = below_code p fs a below ea
+stage_code p t f fs x Body thread w r a below more e ea = subst HasCode (some_same ea) (own_code p t f fs thread w r f.run.code more refl e)
+stage_code p t f fs x (Post k v) thread w r a below more e ea = below_code p fs a below ea
+
+frame_code : (p : Program) (t : ℕ) (f : Frame) (fs : List Frame) (x : Option Crossing) (thread w : Thread) (r : Request) (a : Activation) → WaitStood p fs → NoEnd r → frame_step p t f fs x thread ≡ Asks w r → acting_in x f fs ≡ Some a → HasCode a
+frame_code p t f fs None thread w r a below more e ea = subst HasCode (some_same ea) (own_code p t f fs thread w r f.run.code more refl e)
+frame_code p t f fs (Some x) thread w r a below more e ea = stage_code p t f fs x x.stage thread w r a below more e ea
+
+undue_code : (p : Program) (t : ℕ) (fs : List Frame) (due : Option Outcome) (thread w : Thread) (r : Request) (a : Activation) → FramesStood p fs → NoEnd r → due_or due thread (undue_step p t fs thread) ≡ Asks w r → acting fs ≡ Some a → HasCode a
+undue_code p t fs (Some o) thread w r a st more e ea = absurd (more o (same_request e))
+undue_code p t [] None thread w r a st more e ea = none_some ea
+undue_code p t (f ∷ fs) None thread w r a st more e ea = frame_code p t f fs f.crossing thread w r a st.1 more e ea
+
+place_found : (o : Option Activation) (x : Place) → option_map place_of o ≡ Some x → (a : Activation) × (o ≡ Some a) × (place_of a ≡ x)
+place_found None x e = none_some e
+place_found (Some a) x e = (a, refl, some_same e)
+
+-- the thread at whose step it is asked
+pub asked_line : (p : Program) → AllVerified p → (t : ℕ) (thread w : Thread) (r : Request) → FramesStood p thread.frames → step p t thread ≡ Asks w r → NoEnd r → (x : Place) → option_map place_of (acting thread.frames) ≡ Some x → (o : Op) × Means p x o
+asked_line p ver t thread w r st e more x ex =
+    let at = place_found (acting thread.frames) x ex in
+    let code : HasCode at.0 = undue_code p t thread.frames thread.due thread w r at.0 st more e at.1 in
+    (code.0, subst (λ (y : Place). Means p y code.0) at.2 (frames_mean p ver thread.frames st at.0 code.0 code.1 at.1 code.2))

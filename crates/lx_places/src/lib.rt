@@ -2,7 +2,7 @@
 //!
 //! ```text
 //! place_laws();
-//! // A thread whose image asks at 3 instructions of block `2`, two of them marks, asks where 1 instruction of that block is left: at its line.
+//! // An image that asks before `check`, `call` and `ret` of block `2` asks where 2 instructions of that block of the text are left: at the call.
 //! ```
 #![tactic(auto)]
 
