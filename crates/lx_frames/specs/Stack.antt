@@ -1,5 +1,5 @@
 -- What stands on the stack of frames of a thread, for what it has room, and what is entered on it.
-use Rattle.std.specs.Prelude.{◌≡◌, ℕ, ◌+◌, ◌≤◌, ◌<◌, Option, Some, None, List, [], ◌∷◌, length, vec_capacity, ⊤}
+use Rattle.std.specs.Prelude.{◌≡◌, ℕ, ◌+◌, ◌≤◌, ◌<◌, Bool, true, false, Option, Some, None, List, [], ◌∷◌, length, vec_capacity, ⊤}
 use Rattle.lx_words.specs.Word.{Word}
 use Rattle.lx_caps.specs.declared.Principal.{Principal}
 use Rattle.lx_model.specs.declared.request.Request.{Request}
@@ -40,6 +40,12 @@ HasRoomFor c s (what.Perform n post k env source dest) = CanGoOn c s s.top
 HasRoomFor c s (what.Enter way args) = CanEnter c s (length args) 2 × CanGoOn c s s.top × (0 < s.shadow.room)
 HasRoomFor c s (what.Alloca at size) = HasSpaceOn s.top
 HasRoomFor c s w = ⊤
+
+-- what asks for room before it is asked: an entry, and bytes of the stack
+abbrev pub takes_room : What → Bool
+takes_room (what.Enter way args) = true
+takes_room (what.Alloca at size) = true
+takes_room w = false
 
 -- and whatever is asked, if anything
 abbrev pub IsReadyIf : Code → FrameStack → Option Request → Type 0

@@ -1,5 +1,5 @@
 //! The frames below the top one.
-ghost use Rattle.std.specs.Prelude.{◌≡◌, ◌+◌, ◌-◌, ◌<◌, ◌≤◌, ◌∷◌, ◌++◌, [], IfSome, OnOk, option_copied, vec_capacity, vec_len};
+ghost use Rattle.std.specs.Prelude.{◌≡◌, ◌+◌, ◌-◌, ◌<◌, ◌≤◌, ◌∷◌, ◌++◌, [], IfSome, OnErr, OnOk, option_copied, vec_capacity, vec_len};
 ghost use Rattle.lx_frames.specs.Frames.{high_in, newest, older, running_in, running_on};
 
 use crate::frame::Frame;
@@ -68,12 +68,13 @@ impl Callers {
         }
     }
 
-    /// Makes room for so many frames more.
+    /// Makes room for so many frames more. Where there is room for them already, this takes no memory.
     ///
     /// # Errors
     /// Want of memory; the frames stay.
     pub fn reserve(&mut self, count: usize) -> Result<(), Memory>
         ensures room { OnOk result (count ≤ self.new.room) }
+        ensures full { OnErr result (self.old.room < count) }
         ensures stays { self.new.frames ≡ self.old.frames }
     {
         self.frames.reserve(count)?;

@@ -1,8 +1,8 @@
 //! Room for what a reply needs, so that taking it in takes no memory.
-ghost use Rattle.std.specs.Prelude.{◌≡◌, ◌<◌, OnOk, true};
+ghost use Rattle.std.specs.Prelude.{◌≡◌, ◌<◌, OnErr, OnOk, true};
 ghost use Rattle.lx_images.specs.Image.{Code as Images};
 ghost use Rattle.lx_frames.specs.Frames.{CountsOn, HasSpaceOn, IsUnwrapped, past_line_on};
-ghost use Rattle.lx_frames.specs.Stack.{CanEnter, CanGoOn, HasRoomFor, IsRoomier};
+ghost use Rattle.lx_frames.specs.Stack.{CanEnter, CanGoOn, HasRoomFor, IsRoomier, takes_room};
 
 use super::FrameStack;
 use crate::registers::empty_with_room;
@@ -79,7 +79,7 @@ impl FrameStack {
         Ok(())
     }
 
-    /// There is what the reply to a request needs that no wrapper makes.
+    /// There is what the reply to a request needs that no wrapper makes. Only an entry and bytes of the stack take memory.
     ///
     /// # Errors
     /// Want of memory; the frames and the principals stay.
@@ -87,6 +87,7 @@ impl FrameStack {
         requires { IsUnwrapped self.old.top }
         ensures room { OnOk result (HasRoomFor code.now self.new what.now) }
         ensures rest { (c : Images) → IsRoomier c self.old self.new }
+        ensures lacks { OnErr result (takes_room what.now ≡ true) }
     {
         match what {
             What::Alloca { .. } => self.make_space()?,
