@@ -1,3 +1,4 @@
+pub mod Generated
 pub mod Judging
 pub mod Leaves
 pub mod Named

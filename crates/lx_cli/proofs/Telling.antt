@@ -7,7 +7,8 @@ use Rattle.lx_outside.specs.declared.file_text.FileText.{FileText}
 use Rattle.lx_input.specs.Files.Asked.{Asked, AreThere}
 use Rattle.lx_input.specs.Inputs.{InputTurn}
 use Rattle.lx_input.specs.declared.input.Input.{Input}
-use Rattle.lx_cli.specs.Command.{Command, Run, Replay, Instrument, Check, Generate, Surface, Why, CommandTurn, MayCome, UntoldBy, UntoldTurn, asked_of, case_of, count_asked, generated_files}
+use Rattle.lx_generated_laws.specs.Inputs.{generated_files}
+use Rattle.lx_cli.specs.Command.{Command, Run, Replay, Instrument, Check, Generate, Surface, Why, CommandTurn, MayCome, UntoldBy, UntoldTurn, asked_of, case_of, count_asked}
 use Rattle.lx_cli.specs.declared.answer.Answer.{Answer}
 use Rattle.lx_cli.specs.declared.answer.Answer.TheVariants as answer
 use Rattle.lx_runs.specs.Reports.{TellsRun}
@@ -120,7 +121,7 @@ noted_stop before now stop (answer.Refused f) file noted is same = absurd cc
 
 -- the files of a command: its own where it generates a case, and else those of the shelf
 
-generated_is : (c : Command) (count : ℕ) → count_asked c ≡ Some count → c ≡ Generate count
+pub generated_is : (c : Command) (count : ℕ) → count_asked c ≡ Some count → c ≡ Generate count
 generated_is (Run case) count is = absurd cc
 generated_is (Replay case schedule) count is = absurd cc
 generated_is (Instrument case part) count is = absurd cc

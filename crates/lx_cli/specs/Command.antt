@@ -1,7 +1,7 @@
 -- What a command reads, and what its files come to.
-use Rattle.std.specs.Prelude.{◌≡◌, ℕ, List, [], ◌∷◌, codes, Option, Some, None, Result, IfOk}
+use Rattle.std.specs.Prelude.{◌≡◌, ℕ, List, Option, Some, None, Result, IfOk}
 use Rattle.lx_outside.specs.declared.file_text.FileText.{FileText}
-use Rattle.lx_generate.specs.Generated.{case_text, module_text}
+use Rattle.lx_generated_laws.specs.Inputs.{generated_files, generated_name}
 use Rattle.lx_input.specs.Files.Asked.{Asked, AreThere, nothing}
 use Rattle.lx_input.specs.Files.InputStop.{InputStop}
 use Rattle.lx_input.specs.Files.Turns.{HasNoted}
@@ -9,14 +9,6 @@ use Rattle.lx_input.specs.declared.input.Input.{Input}
 use Rattle.lx_input.specs.Inputs.{InputTurn}
 use Rattle.lx_input.specs.Laws.{IsReady}
 pub use Rattle.lx_cli.specs.Words.{Command, Run, Replay, Instrument, Check, Generate, Surface, Why, command_of, said, texts}
-
--- the files of a case that is generated
-
-abbrev pub generated_name : List ℕ
-generated_name = codes "generated.case"
-
-abbrev pub generated_files : ℕ → List FileText
-generated_files n = record { name = generated_name; bytes = case_text n } ∷ record { name = codes "gen.ll"; bytes = module_text } ∷ []
 
 -- how many calls are generated, where some are
 abbrev pub count_asked : Command → Option ℕ

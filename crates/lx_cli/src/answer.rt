@@ -50,8 +50,8 @@ pub(crate) fn answer_of_why(why: Why) -> Answer
     }
 }
 
-/// The exit status.
-pub(crate) fn status_of(answer: &Answer) -> u8
+/// The exit status of an answer.
+pub fn status_of(answer: &Answer) -> u8
     ensures { result ≡ status_of answer.now }
 {
     match answer {
@@ -95,8 +95,11 @@ fn accepted_line(alloc: Global) -> Result<Name, Memory>
     Ok(line)
 }
 
-/// The text that is written.
-pub(crate) fn answer_text(alloc: Global, answer: Answer) -> Result<Name, Memory>
+/// The text that is written of an answer.
+///
+/// # Errors
+/// Want of memory.
+pub fn answer_text(alloc: Global, answer: Answer) -> Result<Name, Memory>
     ensures { IfOk result (λ text. text ≡ answer_text answer) }
 {
     match answer {

@@ -1,7 +1,7 @@
 //! Cases that are generated, and the summary of their run.
 ghost use Rattle.std.specs.Prelude.{◌≡◌, ◌++◌, List, ℕ, IfOk, IfSome, OnOk};
 ghost use Rattle.lx_cli.specs.Answer.{IsSummary, count_refused, count_returned, counted, number_returned, one_refused, one_returned, sum_returned, summary_counts, summary_end, summary_head, summary_text};
-ghost use Rattle.lx_cli.specs.Command.{generated_files};
+ghost use Rattle.lx_generated_laws.specs.Inputs.{generated_files};
 ghost use Rattle.lx_input.specs.Laws.{IsReady};
 
 use crate::answer::Answer;

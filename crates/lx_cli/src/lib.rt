@@ -20,5 +20,6 @@ mod top;
 mod tree;
 mod words;
 
-pub use top::{WANT_OF_MEMORY, lxfi};
+pub use answer::{Answer, answer_text, status_of};
+pub use top::{WANT_OF_MEMORY, lxfi, put};
 pub use words::{Command, command_of};

@@ -9,9 +9,10 @@ ghost use Rattle.lx_input.specs.declared.input.Input.{Input};
 ghost use Rattle.lx_input.specs.Files.Asked.{AreThere};
 ghost use Rattle.lx_input.specs.Inputs.{InputTurn};
 ghost use Rattle.lx_input.specs.Laws.{IsReady};
+ghost use Rattle.lx_generated_laws.specs.Inputs.{generated_files};
 ghost use Rattle.lx_cli.specs.Answer.{BrokenBy, EndedBy, RefusedBy, unread_line, usage_line};
-ghost use Rattle.lx_cli.specs.Command.{CommandTurn, ComesTo, Generate, IsGenerated, IsRun, MayCome, UntoldTurn, asked_of, case_of, command_of, files_by, generated_files, said, texts};
-ghost use Rattle.lx_cli.specs.Rows.{Wrote, FellShort, Headline, NoNewFault};
+ghost use Rattle.lx_cli.specs.Command.{CommandTurn, ComesTo, Generate, IsGenerated, IsRun, MayCome, UntoldTurn, asked_of, case_of, command_of, files_by, said, texts};
+ghost use Rattle.lx_cli.specs.Rows.{Wrote, FellShort, Headline, NoNewFault, status_of};
 ghost use Rattle.lx_cli.specs.Told.{TellsInput, TellsOf, TellsRunOf, TellsWhyOf};
 
 use crate::answer::{Answer, answer_of_run, answer_of_why, answer_text, status_of};
@@ -20,6 +21,7 @@ use crate::generate::{generated_shelf, sum_up_input};
 use crate::images::{check_input, instrument_input};
 use crate::surface::surface_input;
 use crate::{Command, command_of};
+use lx_generated_laws::generated_input_laws;
 use lx_input::{Input, InputStop, input_laws, read_input};
 use lx_outside::{Gate, Shelf, Sink, put_all};
 use lx_runs::{Host, run_input, why_input};
@@ -38,8 +40,8 @@ const NOT_TAKEN: u8 = 5;
 /// The status of want of memory.
 pub const WANT_OF_MEMORY: u8 = 6;
 
-/// Writes the whole text of a status, and gives that status, or the one of a sink that did not take all.
-fn put<K: Sink>(sink: &mut K, text: &[u8], status: u8) -> u8
+/// Writes the whole text of a status, and gives that status, or 5 where the sink did not take all.
+pub fn put<K: Sink>(sink: &mut K, text: &[u8], status: u8) -> u8
     requires { status ≢ 5 }
     ensures status { result ≢ 5 → result ≡ status }
     ensures all { result ≢ 5 → (told : List ℕ) → K.bytes sink.old ≡ Some told → K.bytes sink.new ≡ Some (told ++ text.now) }
@@ -166,7 +168,11 @@ fn answer_of<R: Threads + Wait + Sync, S: Shelf, G: Gate + Sync>(
     ensures untold { IfOk result (TellsInput (Some (said command.entry)) (UntoldTurn (Some (said command.entry)) (S.faults shelf.old) (S.faults shelf.new))) }
     ensures unread { (file : List ℕ) → result ≡ Ok (Answer.Unread file) → S.faults shelf.new ≡ S.faults shelf.old ++ file ∷ [] }
     ensures generated { (count : ℕ) → said command.entry ≡ Generate count → shelf.new ≡ shelf.old }
+    // The files of a case of no more calls than a case may have are an input, which has a summary.
+    ensures summed { IfOk result (λ a. (count : ℕ) → said command.entry ≡ Generate count → count ≤ 4096 → status_of a ≡ 0) }
 {
+    input_laws();
+    generated_input_laws();
     match count_asked(command) {
         Some(count) => answer_generated(host, command, count),
         None => answer_to(host, shelf, command),
@@ -217,6 +223,8 @@ pub fn lxfi<R: Threads + Wait + Sync, S: Shelf, K: Sink, G: Gate + Sync>(
         × ((told : List ℕ) → K.bytes sink.old ≡ Some told → K.bytes sink.new ≡ Some (told ++ unread_line file)) }
     // The shelf is not read for a case that is generated.
     ensures generated { IsGenerated (texts words.now) → shelf.new ≡ shelf.old }
+    // No fault stands in such a case, and it links: its summary is written, unless a write fails or memory is wanting.
+    ensures summed { IsGenerated (texts words.now) → (result ≡ 0) ⊎ (result ≡ 5) ⊎ (result ≡ 6) }
     ensures not_taken_only { result ≡ 5 → HasRisen (K.faults sink.old) (K.faults sink.new) }
 
     // A schedule that is replayed and is not whole; a run makes its own, which is.

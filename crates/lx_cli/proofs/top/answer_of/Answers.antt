@@ -1,6 +1,7 @@
 use Rattle.std.proofs.Common.{sym}
 use Rattle.lx_cli.specs.Command.{said}
-use Rattle.lx_cli.proofs.Telling.{if_ok, generated_turn, shelf_turn, not_generated, untold_own, untold_shelf}
+use Rattle.lx_cli.proofs.Generated.{summed}
+use Rattle.lx_cli.proofs.Telling.{if_ok, generated_is, generated_turn, shelf_turn, not_generated, untold_own, untold_shelf}
 use Rattle.lx_cli.proofs.top.answer_of.Goals as goal
 
 pub returns-in-Some-clause-answer : goal.returns-in-Some-clause-answer
@@ -28,3 +29,12 @@ returns-in-None-clause-untold g c =
     if_ok c.answer_to.result
     (λ a tells. untold_shelf (said c.args.command) (g.S.Shelf.faults c.args.shelf.now) (g.S.Shelf.faults c.answer_to.new.shelf) a (sym c.in-None.ensures) tells)
     c.answer_to.ensures.untold
+
+pub returns-in-Some-clause-summed : goal.returns-in-Some-clause-summed
+returns-in-Some-clause-summed g c =
+    summed c.input_laws.ensures.one c.generated_input_laws.ensures (said c.args.command) c.in-Some.count c.answer_generated.result c.answer_generated.ensures.answer c.answer_generated.ensures.read
+    (generated_is (said c.args.command) c.in-Some.count (sym c.in-Some.ensures))
+
+pub returns-in-None-clause-summed : goal.returns-in-None-clause-summed
+returns-in-None-clause-summed g c =
+    if_ok c.answer_to.result (λ a tells. λ count is few. absurd (not_generated (said c.args.command) count (sym c.in-None.ensures) is)) c.answer_to.ensures.untold

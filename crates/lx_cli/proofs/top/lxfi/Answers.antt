@@ -2,6 +2,7 @@ use Rattle.std.proofs.Common.{◌≡◌, ◌∙◌, ◌≢◌, ◌⊎◌, inl, i
 use Rattle.lx_input.specs.Files.InputStop.TheVariants as stops
 use Rattle.lx_cli.specs.Command.{ComesTo, UntoldTurn, command_of, texts}
 use Rattle.lx_cli.specs.Rows.{status_of}
+use Rattle.lx_cli.proofs.Generated.{ends_well, few_calls}
 use Rattle.lx_cli.proofs.Written.{by_words, untold_by_words, usage_wrote, usage_short, answer_wrote, answer_short, answer_headline}
 use Rattle.lx_cli.proofs.Statuses.{none_comes, fault_comes, missing_comes, broken_comes, all_comes, refused_comes, fault_told, broken_told, refused_told, unread_of, run_is_whole, status_is, unread_told, five_or, few_statuses, unread_written, no_two, no_command, said_is}
 use Rattle.lx_cli.proofs.top.lxfi.Goals as goal
@@ -49,6 +50,9 @@ returns-in_default-clause-missing g c = λ files file files_told is gone.
 
 pub returns-in_default-clause-generated : goal.returns-in_default-clause-generated
 returns-in_default-clause-generated g c = λ is. absurd (no_command (texts c.args.words.now) (sym c.in_default.ensures) is)
+
+pub returns-in_default-clause-summed : goal.returns-in_default-clause-summed
+returns-in_default-clause-summed g c = λ is. absurd (no_command (texts c.args.words.now) (sym c.in_default.ensures) is)
 
 pub returns-in_default-clause-broken : goal.returns-in_default-clause-broken
 returns-in_default-clause-broken g c = λ files i entry files_told is at. absurd (none_comes (texts c.args.words.now) files (Ok i) (sym c.in_default.ensures) is)
@@ -130,6 +134,11 @@ returns-clause-missing g c = λ files file files_told is gone.
 
 pub returns-clause-generated : goal.returns-clause-generated
 returns-clause-generated g c = λ is. c.in-Ok.ensures.generated is.0 (said_is (c.in-Some.ensures ∙ is.1))
+
+pub returns-clause-summed : goal.returns-clause-summed
+returns-clause-summed g c = λ is.
+    ends_well c.put-2.result (status_of c.in-Ok.answer) (λ not_5. c.put-2.ensures.status not_5 ∙ c.status_of-status.ensures)
+    (c.in-Ok.ensures.summed is.0 (said_is (c.in-Some.ensures ∙ is.1)) (few_calls (texts c.args.words.now) is.0 is.1))
 
 pub returns-clause-unread_only : goal.returns-clause-unread_only
 returns-clause-unread_only g c = λ is_4.
