@@ -4,13 +4,15 @@ pub mod Atoms
 pub mod Calls
 pub mod Counted
 pub mod Cuts
+pub mod Exact
 pub mod Gathered
+pub mod InCall
 pub mod Listed
 pub mod Mentioned
 pub mod Numbered
 pub mod Ranges
 pub mod Replies
-pub mod Standing
+pub mod Threads
 pub mod Turns
 pub mod Wanted
 pub mod Wrapped

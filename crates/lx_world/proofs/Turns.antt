@@ -27,7 +27,7 @@ use Rattle.lx_world.specs.ImageRequestLaws.{ImageRequestLaws}
 use Rattle.lx_world.specs.OnImageStack.{AreOnImageStack}
 use Rattle.lx_run_laws.specs.Servable.{is_servable}
 use Rattle.lx_interp.specs.declared.runner.Runner.{Runner}
-use Rattle.lx_interp.specs.Runner.{may_answer, is_spent, IsAsking, calls_left}
+use Rattle.lx_interp.specs.Runner.{may_answer, is_spent, IsAsking, IsAt, calls_left}
 use Rattle.lx_interp.specs.Runner.{StandsFor as Runs}
 use Rattle.lx_serve.specs.declared.shared.SharedPart.{SharedPart}
 use Rattle.lx_serve.specs.Room.{taken_by}
@@ -118,14 +118,17 @@ pub turned : {C : Type 0} (stands : C → History → Type 0) (laws : ImageReque
     → StandsForState stands c.program old s → t < 16 → AreOnImageStack t v.frames → IsAsking c t mid (image_next c v) → Some q ≡ Some (image_next c v).request
     → (is_servable c.program t q ≡ true → Serves stands c.program new answer (serve c.program s t q))
     → (IsTrue (may_answer (image_next c v).request.what answer) → Runs c t after (image_absorb c t (image_next c v).thread (image_next c v).request answer))
-    → HasTurned stands c t new after s v
-turned stands laws c t s v old new mid after q answer st few on asks is serves absorbs =
+    → (IsTrue (may_answer (image_next c v).request.what answer) → IsAt c t after (image_absorb c t (image_next c v).thread (image_next c v).request answer))
+    → HasTurned stands c t new after answer s v
+turned stands laws c t s v old new mid after q answer st few on asks is serves absorbs exact =
     let r = (image_next c v).request in
     let same : q ≡ r = same_Some q r is in
     let sv = subst (λ (z : Request). is_servable c.program t z ≡ true → Serves stands c.program new answer (serve c.program s t z)) same serves (laws.asks c t v few on) in
     let may = subst (λ (a : Reply). may_answer r.what a ≡ true) (sym sv.reply) (serve_answers c.program s t r few) in
     record {
       shared = sv.state;
+      reply = sv.reply;
+      exact = subst (λ (a : Reply). IsAt c t after (image_absorb c t (image_next c v).thread r a)) sv.reply (exact may);
       runner = record {
         runs = subst (λ (a : Reply). Runs c t after (image_absorb c t (image_next c v).thread r a)) sv.reply (absorbs may);
         stack = laws.stays c s t v on;
@@ -137,13 +140,14 @@ pub turned_ends : {C : Type 0} (stands : C → History → Type 0) (laws : Image
     → StandsForState stands c.program old s → t < 16 → AreOnImageStack t v.frames → IsAsking c t mid (image_next c v) → Some q ≡ Some (image_next c v).request
     → (is_servable c.program t q ≡ true → Serves stands c.program new answer (serve c.program s t q))
     → (IsTrue (may_answer (image_next c v).request.what answer) → Runs c t after (image_absorb c t (image_next c v).thread (image_next c v).request answer))
+    → (IsTrue (may_answer (image_next c v).request.what answer) → IsAt c t after (image_absorb c t (image_next c v).thread (image_next c v).request answer))
     → (before : List ScriptCall) (room left : ℕ) → has_call before ≡ true → calls_left mid ≡ before → room ≤ left + taken_by answer
     → 2 * length (calls_left after) + room ≤ 2 * length before + left
-turned_ends stands laws c t s v old new mid after q answer st few on asks is serves absorbs before room left work same leaves =
+turned_ends stands laws c t s v old new mid after q answer st few on asks is serves absorbs exact before room left work same leaves =
     let r = (image_next c v).request in
     let asked : q ≡ r = same_Some q r is in
     let sv = subst (λ (z : Request). is_servable c.program t z ≡ true → Serves stands c.program new answer (serve c.program s t z)) asked serves (laws.asks c t v few on) in
-    let h = turned stands laws c t s v old new mid after q answer st few on asks is serves absorbs in
+    let h = turned stands laws c t s v old new mid after q answer st few on asks is serves absorbs exact in
     room_of_ends c t (image_next c v).thread r (serve c.program s t r).reply answer before (calls_left mid) (calls_left after) room left work same (ap (λ (y : ImageThread). y.calls) asks.thread)
     h.runner.runs.calls sv.reply leaves
 

@@ -12,7 +12,7 @@ use Rattle.lx_images.specs.ImageWorld.{ImageWorld}
 use Rattle.lx_interp.specs.Runner.{calls_left, events_left, request_of, unpaid_events, IsAsking}
 use Rattle.lx_world.specs.Wants.{asked_at, image_asks, may_want}
 use Rattle.lx_world.specs.Worlds.{AllStand, StandsFor}
-use Rattle.lx_world.proofs.Standing.{standing}
+use Rattle.lx_world.proofs.Threads.{standing}
 use Rattle.lx_world.proofs.Turns.{has_work_of}
 
 -- one term of a sum

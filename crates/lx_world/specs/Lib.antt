@@ -2,6 +2,8 @@ pub mod Accounts
 pub mod Answers
 pub mod Atoms
 pub mod ImageRequestLaws
+pub mod Exact
+pub mod InCall
 pub mod Laws
 pub mod Lending
 pub mod Listing

@@ -4,13 +4,14 @@ use Rattle.std.specs.List.{sum_by}
 use Rattle.lx_caps.specs.History.{History}
 use Rattle.lx_model.specs.declared.program.Program.{Program}
 use Rattle.lx_model.specs.declared.program.ScriptCall.{ScriptCall}
+use Rattle.lx_model.specs.declared.request.Reply.{Reply}
 use Rattle.lx_model.specs.State.{State}
 use Rattle.lx_model.specs.Thread.{has_call}
 use Rattle.lx_model.specs.Serve.{serve}
 use Rattle.lx_images.specs.Image.{Code, ImageThread, image_next, image_absorb}
 use Rattle.lx_images.specs.ImageWorld.{ImageWorld}
 use Rattle.lx_interp.specs.declared.runner.Runner.{Runner}
-use Rattle.lx_interp.specs.Runner.{StandsFor as Runs, calls_left, events_left, events_of}
+use Rattle.lx_interp.specs.Runner.{IsAt, StandsFor as Runs, calls_left, events_left, events_of}
 use Rattle.lx_serve.specs.Room.{journal_room, store_room}
 use Rattle.lx_serve.specs.Stands.{StandsForState}
 use Rattle.lx_serve.specs.declared.shared.SharedPart.{SharedPart}
@@ -35,10 +36,12 @@ pub record StandsForWorld {C : Type 0} (stands : C → History → Type 0) (c : 
   pub shared : StandsForState stands c.program w.shared m.state
   pub threads : AllStand c 0 w.runners.list.items m.threads
 
--- behind an event of the thread: its request is served, and it has taken in the reply
-pub record HasTurned {C : Type 0} (stands : C → History → Type 0) (c : Code) (t : ℕ) (part : SharedPart C) (r : Runner) (s : State) (v : ImageThread) : Type 0 where
+-- behind an event of the thread: its request is served with this reply, and it has taken it in
+pub record HasTurned {C : Type 0} (stands : C → History → Type 0) (c : Code) (t : ℕ) (part : SharedPart C) (r : Runner) (answer : Reply) (s : State) (v : ImageThread) : Type 0 where
   pub shared : StandsForState stands c.program part (serve c.program s t (image_next c v).request).state
+  pub reply : answer ≡ (serve c.program s t (image_next c v).request).reply
   pub runner : StandsFor c t r (image_absorb c t (image_next c v).thread (image_next c v).request (serve c.program s t (image_next c v).request).reply)
+  pub exact : IsAt c t r (image_absorb c t (image_next c v).thread (image_next c v).request (serve c.program s t (image_next c v).request).reply)
 
 -- nothing has happened that the state or the thread shows
 pub record HasStayed {C : Type 0} (stands : C → History → Type 0) (c : Code) (t : ℕ) (part : SharedPart C) (r : Runner) (s : State) (v : ImageThread) : Type 0 where

@@ -3,6 +3,8 @@
 //!
 //! ```text
 //! let mut world = World::open(alloc, code, script, shared)?;
+//! // Where in the code of images thread 0 asks next; none, where a script or the end of a call does.
+//! let place = world.local_from(0)?;
 //! // One event of thread 0: its next request is served, and it takes in the reply.
 //! world.event(0)?;
 //! // How each call ended, the notes, the images, and what each principal owns.
@@ -26,6 +28,7 @@ mod world;
 pub use fault::EventFault;
 pub use instances::instance_names;
 pub use laws::{image_answer_laws, image_request_laws};
+pub use lx_interp::Standing;
 pub use lx_serve::SharedPart;
 pub use ownership::owners;
 pub use runners::Runners;

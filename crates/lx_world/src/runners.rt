@@ -23,6 +23,7 @@ impl Drop for Runners {
 }
 
 impl Runners {
+    ghost use Rattle.lx_world.specs.Exact.{AreAt};
     ghost use Rattle.lx_world.specs.Parts.{list_of};
     ghost use Rattle.lx_world.specs.Lending.{LendsRunner};
     ghost use Rattle.lx_world.specs.Worlds.{AllStand, script_calls, script_events};
@@ -31,6 +32,7 @@ impl Runners {
     pub(crate) fn open(alloc: Global, code: &Code, script: &[Calls]) -> Result<Self, Memory>
         requires { length script.now ≤ 16 }
         ensures stand { IfOk result (λ runners. AllStand code.now 0 runners.list.items (map fresh_image_thread script.now)) }
+        ensures exact { IfOk result (λ runners. AreAt code.now runners.list.items (map fresh_image_thread script.now)) }
         ensures events { IfOk result (λ runners. sum_by events_left runners.list.items ≡ script_events script.now) }
         ensures calls { IfOk result (λ runners. sum_by (λ r. length (calls_left r)) runners.list.items ≡ script_calls script.now) }
     {

@@ -44,18 +44,18 @@ fn answer<C: CapStore + Drop>(
     }
 }
 
-/// One event of a thread that has a call left: its next request is served, and it takes in the reply. Where there is room for
+/// One event of a thread that has a call left: its next request is served, and it takes in the reply, which is told. Where there is room for
 /// the event, serving a load, a store, a block write or the end of a call never wants memory.
 pub(crate) fn turn<C: CapStore + Drop>(
     shared: &mut SharedPart<C>,
     runner: &mut Runner,
     code: &Code,
     thread: u32,
-) -> Result<(), Memory>
+) -> Result<Reply, Memory>
     requires thread { thread < 16 }
     requires work { IsTrue (has_call (calls_left runner.old)) }
-    ensures turns { OnOk result ((s : State) (v : ImageThread) → StandsForState C.stands code.now.program shared.old s → StandsFor code.now thread runner.old v
-        → HasTurned C.stands code.now thread shared.new runner.new s v) }
+    ensures turns { IfOk result (λ reply. (s : State) (v : ImageThread) → StandsForState C.stands code.now.program shared.old s → StandsFor code.now thread runner.old v
+        → HasTurned C.stands code.now thread shared.new runner.new reply s v) }
     ensures memory { OnErr result ((s : State) (v : ImageThread) → StandsForState C.stands code.now.program shared.old s → StandsFor code.now thread runner.old v
         → HasStayed C.stands code.now thread shared.new runner.new s v) }
     ensures fewer { OnOk result (events_left runner.new < events_left runner.old) }
@@ -72,7 +72,7 @@ pub(crate) fn turn<C: CapStore + Drop>(
         Some(request) => {
             let reply = answer(shared, thread, request)?;
             runner.absorb(code, &reply);
-            Ok(())
+            Ok(reply)
         }
         None => unreachable!(),
     }

@@ -7,15 +7,17 @@ ghost use Rattle.lx_model.specs.State.{State};
 ghost use Rattle.lx_images.specs.ImageWorld.{fresh_image_thread};
 ghost use Rattle.lx_serve.specs.Room.{journal_room, store_room};
 ghost use Rattle.lx_serve.specs.Stands.{StandsForState};
+ghost use Rattle.lx_world.specs.Exact.{AreAt};
+ghost use Rattle.lx_world.specs.InCall.{kept_call};
 ghost use Rattle.lx_world.specs.Worlds.{AllStand, is_idle, script_calls, script_events};
 
 use crate::fault::EventFault;
 use crate::runners::Runners;
 use crate::turn::turn;
 use lx_caps::CapStore;
-use lx_interp::{Code, Runner};
+use lx_interp::{Code, Runner, Standing};
 use lx_model::program::{Calls, Program};
-use lx_model::request::Request;
+use lx_model::request::{Reply, Request};
 use lx_serve::SharedPart;
 use lx_words::Memory;
 use std::alloc::Global;
@@ -90,6 +92,7 @@ fn open_runners<C: CapStore + Drop>(
 ) -> Result<Runners, Memory>
     requires { length script.now ≤ 16 }
     ensures stand { IfOk result (λ runners. AllStand code.now 0 runners.list.items (map fresh_image_thread script.now)) }
+    ensures exact { IfOk result (λ runners. AreAt code.now runners.list.items (map fresh_image_thread script.now)) }
     ensures events { IfOk result (λ runners. sum_by events_left runners.list.items ≡ script_events script.now) }
     ensures calls { IfOk result (λ runners. sum_by (λ r. length (calls_left r)) runners.list.items ≡ script_calls script.now) }
     ensures room { OnOk result (2 * script_calls script.now ≤ store_room C.spare shared.new) }
@@ -101,6 +104,17 @@ fn open_runners<C: CapStore + Drop>(
     Ok(runners)
 }
 
+/// How many calls of a runner have ended, and the function that the first one left calls.
+fn call_of(runner: &Runner) -> Option<(usize, u32)>
+    ensures { result ≡ kept_call runner.now }
+{
+    let ended = runner.endings().len();
+    match runner.current_call() {
+        Some(call) => Some((ended, call.function)),
+        None => None,
+    }
+}
+
 fn are_done(runners: &[Runner]) -> bool
     ensures { result ≡ list_all is_idle runners.now }
 {
@@ -108,13 +122,18 @@ fn are_done(runners: &[Runner]) -> bool
 }
 
 impl<C: CapStore + Drop> World<C> {
-    ghost use Rattle.std.specs.Prelude.{◌≡◌, ◌<◌, ◌↔◌, ℕ, false, true, ◌≤◌, OnOk, OnErr, IfOk, IsErrOf, length, option_copied};
-    ghost use Rattle.lx_images.specs.Image.{Code};
+    ghost use Rattle.std.specs.Prelude.{◌≡◌, ◌<◌, ◌↔◌, ℕ, false, true, ◌≤◌, OnOk, OnErr, IfOk, IsErrOf, Some, length, option_and_then, option_copied, option_map, slice_get};
+    ghost use Rattle.lx_model.specs.Serve.{serve};
+    ghost use Rattle.lx_images.specs.Image.{Code, ImageThread, image_next};
     ghost use Rattle.lx_images.specs.ImageWorld.{ImageWorld, image_event, image_opening};
     ghost use Rattle.lx_images.specs.Shown.{shown};
     ghost use Rattle.lx_model.specs.World.{can_act, is_done};
     ghost use Rattle.lx_model.specs.Account.{schedule_of};
     ghost use Rattle.lx_model.specs.Opening.{opening_state};
+    ghost use Rattle.lx_images.specs.Asker.{image_asks_at};
+    ghost use Rattle.lx_interp.specs.Places.{stand_in};
+    ghost use Rattle.lx_world.specs.Exact.{IsExact, IsExactBut};
+    ghost use Rattle.lx_world.specs.InCall.{call_at, kept_call};
     ghost use Rattle.lx_world.specs.Parts.{AreParts};
     ghost use Rattle.lx_world.specs.Wants.{asked_at, asked_of, image_asks, may_want};
     ghost use Rattle.lx_world.specs.Worlds.{HasEndsRoom, HasRoom, StandsForWorld, code_of, program_of, events_in, is_idle_at, script_events};
@@ -137,6 +156,7 @@ impl<C: CapStore + Drop> World<C> {
         requires opened { StandsForState C.stands code.program shared (opening_state code.program) }
         requires threads { length script.now ≤ 16 }
         ensures opens { IfOk result (λ world. StandsForWorld C.stands code world (image_opening code script.now)) }
+        ensures exact { IfOk result (λ world. IsExact code world (image_opening code script.now)) }
         ensures code { IfOk result (λ world. code_of world ≡ code) }
         ensures events { IfOk result (λ world. events_in world ≡ script_events script.now) }
         ensures room { IfOk result (λ world. script_events script.now ≤ journal_room shared → HasRoom world) }
@@ -191,6 +211,31 @@ impl<C: CapStore + Drop> World<C> {
     /// block write and no end of a call that the thread has come to ever wants any.
     pub fn event(&mut self, thread: u32) -> Result<(), EventFault>
         ensures event { OnOk result ((c : Code) (v : ImageWorld) → StandsForWorld C.stands c self.old v → StandsForWorld C.stands c self.new (image_event c thread v)) }
+        ensures exact { OnOk result ((c : Code) (v : ImageWorld) → StandsForWorld C.stands c self.old v → IsExactBut thread c self.old v → IsExact c self.new (image_event c thread v)) }
+        ensures fault { OnErr result ((c : Code) (v : ImageWorld) → StandsForWorld C.stands c self.old v → StandsForWorld C.stands c self.new v) }
+        ensures no_work { (c : Code) (v : ImageWorld) → StandsForWorld C.stands c self.old v → IsErrOf result (EventFault.NoWork thread) ↔ (can_act (shown v) thread ≡ false) }
+        ensures number { (n : ℕ) → IsErrOf result (EventFault.NoWork n) → n ≡ thread }
+        ensures unchanged { IsErrOf result (EventFault.NoWork thread) → self.new ≡ self.old }
+        ensures code { code_of self.new ≡ code_of self.old }
+        ensures fewer { OnOk result (events_in self.new < events_in self.old) }
+        ensures room { HasRoom self.old → HasRoom self.new }
+        ensures ends { (c : Code) (v : ImageWorld) → StandsForWorld C.stands c self.old v → HasEndsRoom C.spare self.old → HasEndsRoom C.spare self.new }
+        ensures no_memory { IsErrOf result EventFault.Memory → HasRoom self.old → HasEndsRoom C.spare self.old → may_want (asked_at self.new.runners.list.items thread) ≡ true }
+    {
+        match self.answer(thread) {
+            Ok(_) => Ok(()),
+            Err(why) => Err(why),
+        }
+    }
+
+    /// One event of a thread, as [`World::event`] has it, and the reply that the thread took in.
+    ///
+    /// # Errors
+    /// As in [`World::event`].
+    pub fn answer(&mut self, thread: u32) -> Result<Reply, EventFault>
+        ensures reply { IfOk result (λ reply. (c : Code) (v : ImageWorld) (x : ImageThread) → StandsForWorld C.stands c self.old v → slice_get v.threads thread ≡ Some x → reply ≡ (serve c.program v.state thread (image_next c x).request).reply) }
+        ensures event { OnOk result ((c : Code) (v : ImageWorld) → StandsForWorld C.stands c self.old v → StandsForWorld C.stands c self.new (image_event c thread v)) }
+        ensures exact { OnOk result ((c : Code) (v : ImageWorld) → StandsForWorld C.stands c self.old v → IsExactBut thread c self.old v → IsExact c self.new (image_event c thread v)) }
         ensures fault { OnErr result ((c : Code) (v : ImageWorld) → StandsForWorld C.stands c self.old v → StandsForWorld C.stands c self.new v) }
         ensures no_work { (c : Code) (v : ImageWorld) → StandsForWorld C.stands c self.old v → IsErrOf result (EventFault.NoWork thread) ↔ (can_act (shown v) thread ≡ false) }
         ensures number { (n : ℕ) → IsErrOf result (EventFault.NoWork n) → n ≡ thread }
@@ -205,13 +250,13 @@ impl<C: CapStore + Drop> World<C> {
         if self.is_idle(place) {
             return Err(EventFault::NoWork { thread });
         }
-        turn(
+        let reply = turn(
             &mut self.shared,
             self.runners.at(thread),
             &self.code,
             thread,
         )?;
-        Ok(())
+        Ok(reply)
     }
 
     /// Takes the register steps of a thread that are due before its next request, and nothing else: behind them [`World::request`] gives
@@ -235,6 +280,51 @@ impl<C: CapStore + Drop> World<C> {
         }
         self.runners.at(thread).local(&self.code)?;
         Ok(())
+    }
+
+    /// Takes the register steps of a thread as [`World::local`] does, and tells where in the code of images the thread asks behind them: the
+    /// instruction at whose step the request is made, of the function that runs, or of the one that called the wrapper on top. None, where a
+    /// script asks or the end of a call does. The place is exact where no step of the thread was taken before, as behind the opening and behind
+    /// each event; where the thread asks something already, none is told.
+    ///
+    /// # Errors
+    /// As in [`World::local`].
+    pub fn local_from(&mut self, thread: u32) -> Result<Option<Standing>, EventFault>
+        ensures stands { (c : Code) (v : ImageWorld) → StandsForWorld C.stands c self.old v → StandsForWorld C.stands c self.new v }
+        ensures asks { OnOk result ((c : Code) (v : ImageWorld) → StandsForWorld C.stands c self.old v → asked_of self.new thread ≡ image_asks c thread v) }
+        ensures from { IfOk result (λ at. (c : Code) (v : ImageWorld) (x : ImageThread) → IsExact c self.old v → slice_get v.threads thread ≡ Some x → option_map (stand_in c) at ≡ image_asks_at c x) }
+        ensures others { (c : Code) (v : ImageWorld) → IsExactBut thread c self.old v → IsExactBut thread c self.new v }
+        ensures apart { (c : Code) (v : ImageWorld) → IsExact c self.old v → IsExactBut thread c self.new v }
+        ensures no_work { (c : Code) (v : ImageWorld) → StandsForWorld C.stands c self.old v → IsErrOf result (EventFault.NoWork thread) ↔ (can_act (shown v) thread ≡ false) }
+        ensures number { (n : ℕ) → IsErrOf result (EventFault.NoWork n) → n ≡ thread }
+        ensures unchanged { IsErrOf result (EventFault.NoWork thread) → self.new ≡ self.old }
+        ensures code { code_of self.new ≡ code_of self.old }
+        ensures room { HasRoom self.old → HasRoom self.new }
+        ensures ends { HasEndsRoom C.spare self.old → HasEndsRoom C.spare self.new }
+    {
+        let place = thread as usize;
+        if self.is_idle(place) {
+            return Err(EventFault::NoWork { thread });
+        }
+        let from = self.runners.at(thread).local_from(&self.code)?;
+        Ok(from)
+    }
+
+    fn kept_call(&self, thread: u32) -> Option<(usize, u32)>
+        ensures { result ≡ option_and_then kept_call (slice_get self.now.runners.list.items thread) }
+    {
+        match self.runners.list.get(thread as usize) {
+            Some(runner) => call_of(runner),
+            None => None,
+        }
+    }
+
+    /// Which call a thread is in, or comes to next: how many of its calls have ended, and the number of the function that the first
+    /// one left calls. None, where there is no such thread or it has no call left.
+    pub fn call(&self, thread: u32) -> Option<(usize, u32)>
+        ensures { (c : Code) (v : ImageWorld) → StandsForWorld C.stands c self.now v → result ≡ call_at v thread }
+    {
+        self.kept_call(thread)
     }
 
     /// What a thread asks; nothing, where register steps are due or no call is left.

@@ -26,7 +26,7 @@ returns-clause-turns g c = λ s x st r.
     let asks = c.in_ok-local.ensures.asks t x r.runs (has_work_of m t c.args.runner.now x r c.requires.work) in
     turned g.C.CapStore.stands c.image_request_laws.ensures m t s x c.args.shared.now c.answer.new.shared c.local.new.self c.absorb.new.self c.in-Some.request.now c.in_ok-reply-in-Some.reply
     st c.requires.thread r.stack asks (c.in-Some.ensures.asked m t (image_next m x) asks)
-    (c.in_ok-reply-in-Some.ensures.served m.program s st) (c.absorb.ensures.stands t (image_next m x) asks)
+    (c.in_ok-reply-in-Some.ensures.served m.program s st) (c.absorb.ensures.stands t (image_next m x) asks) (c.absorb.ensures.at t (image_next m x) asks)
 
 pub returns-clause-ends : goal.returns-clause-ends
 returns-clause-ends g c = λ s x st r.
@@ -35,7 +35,7 @@ returns-clause-ends g c = λ s x st r.
     let asks = c.in_ok-local.ensures.asks t x r.runs (has_work_of m t c.args.runner.now x r c.requires.work) in
     turned_ends g.C.CapStore.stands c.image_request_laws.ensures m t s x c.args.shared.now c.answer.new.shared c.local.new.self c.absorb.new.self c.in-Some.request.now c.in_ok-reply-in-Some.reply
     st c.requires.thread r.stack asks (c.in-Some.ensures.asked m t (image_next m x) asks)
-    (c.in_ok-reply-in-Some.ensures.served m.program s st) (c.absorb.ensures.stands t (image_next m x) asks)
+    (c.in_ok-reply-in-Some.ensures.served m.program s st) (c.absorb.ensures.stands t (image_next m x) asks) (c.absorb.ensures.at t (image_next m x) asks)
     (calls_left c.args.runner.now) (store_room g.C.CapStore.spare c.args.shared.now) (store_room g.C.CapStore.spare c.answer.new.shared) c.requires.work c.local.ensures.calls c.in_ok-reply-in-Some.ensures.leaves
 
 pub returns-in_err-local-clause-no_memory : goal.returns-in_err-local-clause-no_memory

@@ -5,9 +5,11 @@ use Rattle.std.proofs.lemmas.Grind.{common_steps}
 use Rattle.lx_images.specs.ImageWorld.{fresh_image_thread}
 use Rattle.lx_model.specs.declared.program.ScriptCall.{ScriptCall}
 use Rattle.lx_interp.specs.Runner.{calls_left, events_left}
+use Rattle.lx_world.specs.Exact.{AreAt}
 use Rattle.lx_world.specs.Worlds.{AllStand, script_calls, script_events}
 use Rattle.lx_world.proofs.Counted.{calls_more, events_more}
-use Rattle.lx_world.proofs.Standing.{open_more}
+use Rattle.lx_world.proofs.Exact.{exact_more}
+use Rattle.lx_world.proofs.Threads.{open_more}
 use Rattle.lx_world.proofs.runners.Runners.open.Goals as goal
 
 pub loop-calls-preserved : goal.loop-calls-preserved
@@ -25,6 +27,8 @@ loop-calls-preserved c =
       as_many = omega (arith, longer, c.loop-calls.invariant.as_many);
       stand = subst (λ (ys : List (List ScriptCall)). AllStand c.args.code.now 0 new (map fresh_image_thread ys)) (sym more)
           (open_more c.args.code.now old new (take i script) r calls c.len-thread.result (grind (arith, common_steps)) pushed c.loop-calls.invariant.stand (c.in_ok-runner.ensures.fresh c.args.code.now));
+      exact = subst (λ (ys : List (List ScriptCall)). AreAt c.args.code.now new (map fresh_image_thread ys)) (sym more)
+          (exact_more c.args.code.now old new (take i script) r calls c.len-thread.result (grind (arith, common_steps)) pushed c.loop-calls.invariant.stand c.loop-calls.invariant.exact (c.in_ok-runner.ensures.at c.args.code.now));
       events = subst (λ (ys : List (List ScriptCall)). sum_by events_left new ≡ script_events ys) (sym more)
           (events_more old new (take i script) r calls pushed c.in_ok-runner.ensures.events c.loop-calls.invariant.events);
       calls = subst (λ (ys : List (List ScriptCall)). sum_by (λ q. length (calls_left q)) new ≡ script_calls ys) (sym more)

@@ -1,7 +1,7 @@
 use Rattle.std.proofs.Common.{◌∙◌, ap}
 use Rattle.std.specs.List.{list_all}
 use Rattle.lx_world.specs.Worlds.{is_idle}
-use Rattle.lx_world.proofs.Standing.{all_idle}
+use Rattle.lx_world.proofs.Threads.{all_idle}
 use Rattle.lx_world.proofs.world.World.done.Goals as goal
 
 pub returns : goal.returns

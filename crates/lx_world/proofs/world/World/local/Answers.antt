@@ -5,7 +5,7 @@ use Rattle.lx_interp.specs.Runner.{IsAsking}
 use Rattle.lx_model.specs.Thread.{has_call}
 use Rattle.lx_world.specs.Worlds.{StandsFor}
 use Rattle.lx_world.proofs.Counted.{ends_behind, room_still}
-use Rattle.lx_world.proofs.Standing.{busy, fault_stands, idle_is}
+use Rattle.lx_world.proofs.Threads.{busy, fault_stands, idle_is}
 use Rattle.lx_world.proofs.Wanted.{asks_next}
 use Rattle.lx_world.proofs.world.World.local.Goals as goal
 use Rattle.lx_caps.proofs.Tests.{not_on, not_off}

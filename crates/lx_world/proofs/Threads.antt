@@ -6,6 +6,7 @@ use Rattle.std.proofs.lemmas.List.{map-append}
 use Rattle.std.proofs.lemmas.Bool.{not-false}
 use Rattle.std.proofs.lemmas.Option.{same_Some}
 use Rattle.lx_caps.specs.History.{History}
+use Rattle.lx_model.specs.declared.request.Reply.{Reply}
 use Rattle.lx_model.specs.State.{State}
 use Rattle.lx_model.specs.Thread.{has_call, has_work}
 use Rattle.lx_images.specs.Image.{Code, ImageThread, image_next, image_absorb}
@@ -63,16 +64,16 @@ idle c i zero (y ∷ ys) (x ∷ xs) all = ap (λ cs. not (has_call cs)) all.0.ru
 idle c i (suc k) (y ∷ ys) (x ∷ xs) all = idle c (suc i) k ys xs all.1
 
 -- an event of a thread that has work
-event_of_worker : (c : Code) (t : ℕ) (w : ImageWorld) (x : ImageThread) → slice_get w.threads t ≡ Some x → IsTrue (has_call x.calls) → image_event c t w ≡ image_after_request c t w (image_next c x)
+pub event_of_worker : (c : Code) (t : ℕ) (w : ImageWorld) (x : ImageThread) → slice_get w.threads t ≡ Some x → IsTrue (has_call x.calls) → image_event c t w ≡ image_after_request c t w (image_next c x)
 event_of_worker c t w x e work = ap (λ o. image_event_of o c t w) e ∙ ap (λ b. image_event_if b c t w x) work
 
-turned_at : {C : Type 0} (stands : C → History → Type 0) (old new : World C) (w : ImageWorld) (t : ℕ) (r after : Runner)
+turned_at : {C : Type 0} (stands : C → History → Type 0) (old new : World C) (w : ImageWorld) (t : ℕ) (r after : Runner) (answer : Reply)
     → new.code ≡ old.code → new.runners.list.items ≡ slice_set old.runners.list.items t after → r ≡ slice_index_or old.runners.list.items t r
     → t < length old.runners.list.items → IsTrue (has_call (calls_left r))
-    → ((s : State) (x : ImageThread) → StandsForState stands old.code.program old.shared s → StandsFor old.code t r x → HasTurned stands old.code t new.shared after s x)
+    → ((s : State) (x : ImageThread) → StandsForState stands old.code.program old.shared s → StandsFor old.code t r x → HasTurned stands old.code t new.shared after answer s x)
     → StandsForState stands old.code.program old.shared w.state → AllStand old.code 0 old.runners.list.items w.threads
     → StandsForWorld stands old.code new (image_event old.code t w)
-turned_at stands old new w t r after code runners is there work turns shared threads =
+turned_at stands old new w t r after answer code runners is there work turns shared threads =
     let at = standing old.code 0 t t old.runners.list.items w.threads r threads (omega arith) there is in
     let x = at.0 in
     let turned = turns w.state x shared at.2 in
@@ -104,14 +105,14 @@ stayed_at stands old new w t r after code runners is there stays shared threads 
     }
 
 -- an event of the world
-pub event_stands : {C : Type 0} (stands : C → History → Type 0) (old new : World C) (c : Code) (w : ImageWorld) (t : ℕ) (r after : Runner)
+pub event_stands : {C : Type 0} (stands : C → History → Type 0) (old new : World C) (c : Code) (w : ImageWorld) (t : ℕ) (r after : Runner) (answer : Reply)
     → new.code ≡ old.code → new.runners.list.items ≡ slice_set old.runners.list.items t after → r ≡ slice_index_or old.runners.list.items t r
     → t < length old.runners.list.items → IsTrue (has_call (calls_left r))
-    → ((s : State) (x : ImageThread) → StandsForState stands old.code.program old.shared s → StandsFor old.code t r x → HasTurned stands old.code t new.shared after s x)
+    → ((s : State) (x : ImageThread) → StandsForState stands old.code.program old.shared s → StandsFor old.code t r x → HasTurned stands old.code t new.shared after answer s x)
     → StandsForWorld stands c old w → StandsForWorld stands c new (image_event c t w)
-event_stands stands old new c w t r after code runners is there work turns st =
+event_stands stands old new c w t r after answer code runners is there work turns st =
     subst (λ (q : Code). StandsForWorld stands q new (image_event q t w)) st.code
-    (turned_at stands old new w t r after code runners is there work turns
+    (turned_at stands old new w t r after answer code runners is there work turns
     (subst (λ (q : Code). StandsForState stands q.program old.shared w.state) (sym st.code) st.shared)
     (subst (λ (q : Code). AllStand q 0 old.runners.list.items w.threads) (sym st.code) st.threads))
 
