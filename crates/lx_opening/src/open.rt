@@ -4,6 +4,7 @@ ghost use Rattle.std.specs.Arc.{arc_value};
 ghost use Rattle.lx_simulation.specs.Accepted.{AreAccepted, AreOfTexts};
 ghost use Rattle.lx_annotation_tables.specs.Entries.{all_annotated};
 ghost use Rattle.lx_image_code.specs.Code.{code_of};
+ghost use Rattle.lx_world.specs.Exact.{IsExact};
 ghost use Rattle.lx_world.specs.Worlds.{HasEndsRoom, HasRoom, StandsForWorld, script_events, code_of as code_in};
 ghost use Rattle.lx_images.specs.ImageWorld.{image_opening};
 ghost use Rattle.lx_link_texts.specs.WellFormed.{IsWellFormed};
@@ -73,6 +74,7 @@ fn open_annotated<C: CapStore + Drop>(
     requires threads { length script.now ≤ 16 }
     requires new { C.stands caps [] }
     ensures opens { IfOk result (λ world. StandsForWorld C.stands code world (image_opening code script.now)) }
+    ensures exact { IfOk result (λ world. IsExact code world (image_opening code script.now)) }
     ensures code { IfOk result (λ world. code_in world ≡ code) }
     ensures room { IfOk result (λ world. HasRoom world) }
     ensures ends { IfOk result (λ world. HasEndsRoom C.spare world) }
@@ -108,6 +110,7 @@ pub fn open_code<C: CapStore + Drop>(
     requires threads { length script.now ≤ 16 }
     requires new { C.stands caps [] }
     ensures opens { IfOk result (λ world. StandsForWorld C.stands code world (image_opening code script.now)) }
+    ensures exact { IfOk result (λ world. IsExact code world (image_opening code script.now)) }
     ensures code { IfOk result (λ world. code_in world ≡ code) }
     ensures room { IfOk result (λ world. HasRoom world) }
     ensures ends { IfOk result (λ world. HasEndsRoom C.spare world) }
@@ -146,6 +149,7 @@ pub fn open_world<C: CapStore + Drop>(
     requires count { length images.items ≡ length program.modules }
     requires accepted { AreAccepted program images.items }
     ensures opens { IfOk result (λ world. StandsForWorld C.stands (code_of program images.items) world (image_opening (code_of program images.items) script.now)) }
+    ensures exact { IfOk result (λ world. IsExact (code_of program images.items) world (image_opening (code_of program images.items) script.now)) }
     ensures images { IfOk result (λ world. AreImages program images.items) }
     ensures code { IfOk result (λ world. code_in world ≡ code_of program images.items) }
     ensures room { IfOk result (λ world. HasRoom world) }
