@@ -78,12 +78,12 @@ behind arrived is k i left below at e = behind_by (counted arrived i) (count_by 
 
 -- where none is left there is no line
 
-no_line_by : (b : Bool) (o : Option Instr) → o ≡ None → cond b o None ≡ None
-no_line_by true o e = e
-no_line_by false o e = refl
+pub none_if : (b : Bool) (o : Option Instr) → o ≡ None → cond b o None ≡ None
+none_if true o e = e
+none_if false o e = refl
 
 pub no_line : (text : List Instr) → line_left text 0 ≡ None
-no_line text = ap (λ (o : Option Instr). option_map (λ i. i.line) o) (no_line_by (nat_le 0 (length text)) (slice_get text (length text - 0)) (slice_get_past text (length text - 0) (omega arith)))
+no_line text = ap (λ (o : Option Instr). option_map (λ i. i.line) o) (none_if (nat_le 0 (length text)) (slice_get text (length text - 0)) (slice_get_past text (length text - 0) (omega arith)))
 
 -- the list that a loop has filled
 

@@ -1,5 +1,5 @@
 -- The line where a function stands, by the blocks of its image and of its text.
-use Rattle.std.proofs.Common.{◌≡◌, ◌∙◌, refl, sym, ap, ℕ, zero, suc, ◌≤◌, ◌-◌, Bool, true, false, cond, Option, Some, None, List, [], length, map, arith}
+use Rattle.std.proofs.Common.{◌≡◌, ◌∙◌, refl, sym, ap, ℕ, zero, suc, ◌≤◌, ◌-◌, Bool, true, false, Option, Some, None, List, [], length, map, arith}
 use Rattle.std.specs.Prelude.{nat_le, slice_get, option_and_then, option_map}
 use Rattle.std.proofs.lemmas.Option.{slice_get-map, slice_get_past}
 use Rattle.lx_ir.specs.declared.instr.Instr.{Instr}
@@ -21,17 +21,13 @@ use Rattle.lx_model.proofs.Items.{none_past}
 use Rattle.lx_code_lines.specs.declared.block_lines.BlockLines.{BlockLines}
 use Rattle.lx_code_lines.specs.declared.lines.Lines.{Lines}
 use Rattle.lx_code_lines.specs.Lines.{instrs_or_none, line_among, line_in, line_left, standing_line, AreFunctionLines, AreLinesOf, HasBlockLines}
-use Rattle.lx_code_lines.proofs.Counting.{no_line}
+use Rattle.lx_code_lines.proofs.Counting.{no_line, none_if}
 
 -- the line of a place in a text
 
-nothing : (b : Bool) (o : Option Instr) → o ≡ None → cond b o None ≡ None
-nothing true o e = e
-nothing false o e = refl
-
 none_without : (left : ℕ) → line_left [] left ≡ None
 none_without left =
-    ap (λ (o : Option Instr). option_map (λ i. i.line) o) (nothing (nat_le left 0) (slice_get [] (0 - left)) (slice_get_past [] (0 - left) (omega arith)))
+    ap (λ (o : Option Instr). option_map (λ i. i.line) o) (none_if (nat_le left 0) (slice_get [] (0 - left)) (slice_get_past [] (0 - left) (omega arith)))
 
 in_block : (left : ℕ) (b : Option Block) → option_map (λ i. i.line) (option_and_then (λ b. with_left left b.instrs) b) ≡ line_left (instrs_or_none b) left
 in_block left None = sym (none_without left)

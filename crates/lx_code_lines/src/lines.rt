@@ -70,7 +70,7 @@ fn line_among(blocks: &[BlockLines], at: Standing) -> Option<u32>
 }
 
 impl Lines {
-    /// The lines of accepted images, in one pass over their code and the program's.
+    /// The lines of accepted images, in time that is linear in their code and the program's.
     ///
     /// # Errors
     /// Want of memory; more functions than a number of 32 bits counts are that too.
