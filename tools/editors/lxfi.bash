@@ -21,14 +21,14 @@ _lxfi() {
   [ "${COMP_WORDS[1]:-}" != --quick ] || at=2
   place=$((COMP_CWORD - at))
   if [ "$COMP_CWORD" = 1 ]; then
-    COMPREPLY=($(compgen -W "run replay instrument check generate why surface --quick --help" -- "$word"))
+    COMPREPLY=($(compgen -W "run replay instrument check generate why surface trace --quick --help" -- "$word"))
   elif [ "$place" = 0 ]; then
-    COMPREPLY=($(compgen -W "run replay instrument check generate why surface" -- "$word"))
+    COMPREPLY=($(compgen -W "run replay instrument check generate why surface trace" -- "$word"))
   else
     case "${COMP_WORDS[at]} $place" in
-      "run 1" | "replay 1" | "instrument 1" | "check 1" | "why 1" | "surface 1") _lxfi_files .case ;;
+      "run 1" | "replay 1" | "instrument 1" | "check 1" | "why 1" | "surface 1" | "trace 1") _lxfi_files .case ;;
       "instrument 2" | "check 2") COMPREPLY=($(compgen -W "$(_lxfi_modules "${COMP_WORDS[at + 1]}")" -- "$word")) ;;
-      "replay 2" | "why 2" | "check 3") _lxfi_files ;;
+      "replay 2" | "why 2" | "trace 2" | "check 3") _lxfi_files ;;
       *) COMPREPLY=() ;;
     esac
   fi
@@ -39,6 +39,15 @@ _lxfi_explain() {
   case $word in
     -*) COMPREPLY=($(compgen -W "--lint --help" -- "$word")) ;;
     *) if [ "$COMP_CWORD" = 1 ] || [ "${COMP_WORDS[1]}" = --lint ]; then _lxfi_files .case; else _lxfi_files; fi ;;
+  esac
+}
+
+# Of tools/where and tools/picture: a case, and a schedule.
+_lxfi_run_of_case() {
+  local word=${COMP_WORDS[COMP_CWORD]}
+  case $word in
+    -*) COMPREPLY=($(compgen -W "--help" -- "$word")) ;;
+    *) if [ "$COMP_CWORD" = 1 ]; then _lxfi_files .case; else _lxfi_files; fi ;;
   esac
 }
 
@@ -55,4 +64,5 @@ _lxfi_module() {
 
 complete -F _lxfi lxfi ./lxfi
 complete -F _lxfi_explain explain tools/explain
+complete -F _lxfi_run_of_case where tools/where picture tools/picture
 complete -F _lxfi_module module tools/module
