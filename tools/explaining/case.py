@@ -30,6 +30,8 @@ class Case:
 
     def __init__(self, file, top):
         self.file, self.modules, self.calls = file, {}, []
+        # the file of each text but of what is brought along, by `kernel` or the module's name
+        self.files = {}
         self.kernel_file = self.interface_file = None
         self.kernel, self.interface = Text(""), Interface("")
         brought = {"kernel": f"{top}/examples/manual/builtin_kernel.ll", "interface": f"{top}/examples/manual/builtin.txt"}
@@ -43,8 +45,10 @@ class Case:
             read = Text if words[0] == "kernel" else Interface
             setattr(self, words[0], read(text_of(file)))
             setattr(self, f"{words[0]}_file", words[-1])
+            if words[1] == "file":
+                self.files[words[0]] = file
         elif words[:1] == ["module"] and len(words) == 3:
-            self.modules[words[1]] = Text(text_of(words[2]))
+            self.modules[words[1]], self.files[words[1]] = Text(text_of(words[2])), words[2]
         elif words[:1] == ["thread"]:
             self.calls.append([])
         elif words[:1] == ["call"] and self.calls and len(words) > 3:
