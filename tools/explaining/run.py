@@ -52,6 +52,9 @@ class Run:
     def take(self, case, report, trace, why):
         self.case, self.report = case, [it for it in report.split("\n") if it]
         self.events, self.why = events_of(trace), why_of(why)
+        entries = sum(int(it.split("*")[1]) for it in self.report[0].split()[1:])
+        if len(self.events) != entries:
+            raise Failed(70, f"the trace has {len(self.events)} events, and the schedule {entries} entries")
         self.frames = frames_of(self.events)
         self.places = Places(case, self.events, self.frames)
         self.slots, self.maps, self.texts = {}, {}, {}

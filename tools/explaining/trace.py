@@ -51,6 +51,23 @@ class Event:
         """The text that asks: a module, `kernel`, or nothing."""
         return self.function.split(":")[0] if self.function else None
 
+    def touches(self):
+        """The (first, end, whether it writes) of what a load, a store or a block write is of."""
+        access = re.match(r"(load|store) (i\d+)(?: \S+)? at (0x[0-9a-f]+)", self.what)
+        block = re.match(r"copy (\d+) from (0x[0-9a-f]+)(?: \(\S+\))? to (0x[0-9a-f]+)", self.what)
+        filled = re.match(r"fill (\d+) with \d+ at (0x[0-9a-f]+)", self.what)
+        zeroed = re.match(r"calls k\.zero\((0x[0-9a-f]+), (0x[0-9a-f]+)\)", self.what)
+        found = []
+        if access:
+            found.append((int(access[3], 16), BYTES[access[2]], access[1] == "store"))
+        elif block:
+            found += [(int(block[2], 16), int(block[1]), False), (int(block[3], 16), int(block[1]), True)]
+        elif filled:
+            found.append((int(filled[2], 16), int(filled[1]), True))
+        elif zeroed:
+            found.append((int(zeroed[1], 16), int(zeroed[2], 16), True))
+        return [(at, at + size, writes) for at, size, writes in found]
+
     def crosses(self):
         """Whether a call goes from the kernel into a module, or out of it."""
         return bool(self.enters) and (self.enters_as == "kernel") != (self.who == "kernel")
