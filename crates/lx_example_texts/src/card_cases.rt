@@ -327,5 +327,295 @@ owns nic.shared call 0x10130
 owns nic.shared call 0x10140
 owns nic.shared call 0x10150
 owns nic.shared call 0x10160
+---- file examples/other.case
+lxfi case 1
+kernel builtin
+interface builtin
+module nic examples/other.ll
+thread
+call nic:card_init fuel 100
+call kernel:do_probe 0 fuel 200
+call kernel:do_probe 1 fuel 200
+call kernel:skb_new 4 fuel 100
+call kernel:do_xmit 0 0x2000050 fuel 400
+---- file examples/other.ll
+; ModuleID = 'other.c'
+source_filename = "other.c"
+target datalayout = "e-m:e-p270:32:32-p271:32:32-p272:64:64-i64:64-f80:128-n8:16:32:64-S128"
+target triple = "x86_64-pc-linux-gnu"
+
+%struct.dev_ops = type { ptr, ptr }
+%struct.card = type { i64, i64 }
+%struct.packet = type { ptr, i64, i64 }
+
+@card_ops = internal global %struct.dev_ops { ptr @card_probe, ptr @card_xmit }, align 8
+@card = internal global ptr null, align 8
+
+; Function Attrs: noinline nounwind optnone uwtable
+define dso_local i32 @card_init() #0 {
+  %1 = alloca i32, align 4
+  %2 = call ptr @dev_register(ptr noundef @card_ops)
+  %3 = icmp ne ptr %2, null
+  br i1 %3, label %4, label %7
+
+4:                                                ; preds = %0
+  %5 = call ptr @dev_register(ptr noundef @card_ops)
+  %6 = icmp ne ptr %5, null
+  br i1 %6, label %8, label %7
+
+7:                                                ; preds = %4, %0
+  store i32 -12, ptr %1, align 4
+  br label %9
+
+8:                                                ; preds = %4
+  store i32 0, ptr %1, align 4
+  br label %9
+
+9:                                                ; preds = %8, %7
+  %10 = load i32, ptr %1, align 4
+  ret i32 %10
+}
+
+declare ptr @dev_register(ptr noundef) #1
+
+; Function Attrs: noinline nounwind optnone uwtable
+define internal i32 @card_probe(ptr noundef %0) #0 {
+  %2 = alloca i32, align 4
+  %3 = alloca ptr, align 8
+  store ptr %0, ptr %3, align 8
+  %4 = call ptr @kzalloc(i64 noundef 16)
+  store ptr %4, ptr @card, align 8
+  %5 = load ptr, ptr @card, align 8
+  %6 = icmp ne ptr %5, null
+  br i1 %6, label %8, label %7
+
+7:                                                ; preds = %1
+  store i32 -12, ptr %2, align 4
+  br label %11
+
+8:                                                ; preds = %1
+  %9 = load ptr, ptr %3, align 8
+  %10 = load ptr, ptr @card, align 8
+  call void @dev_set_priv(ptr noundef %9, ptr noundef %10)
+  store i32 0, ptr %2, align 4
+  br label %11
+
+11:                                               ; preds = %8, %7
+  %12 = load i32, ptr %2, align 4
+  ret i32 %12
+}
+
+; Function Attrs: noinline nounwind optnone uwtable
+define internal i32 @card_xmit(ptr noundef %0, ptr noundef %1) #0 {
+  %3 = alloca ptr, align 8
+  %4 = alloca ptr, align 8
+  store ptr %0, ptr %3, align 8
+  store ptr %1, ptr %4, align 8
+  %5 = load ptr, ptr @card, align 8
+  %6 = getelementptr inbounds %struct.card, ptr %5, i32 0, i32 0
+  %7 = load i64, ptr %6, align 8
+  %8 = add i64 %7, 1
+  store i64 %8, ptr %6, align 8
+  %9 = load ptr, ptr %3, align 8
+  %10 = getelementptr inbounds %struct.packet, ptr %9, i32 0, i32 1
+  %11 = load i64, ptr %10, align 8
+  %12 = load ptr, ptr @card, align 8
+  %13 = getelementptr inbounds %struct.card, ptr %12, i32 0, i32 1
+  %14 = load i64, ptr %13, align 8
+  %15 = add i64 %14, %11
+  store i64 %15, ptr %13, align 8
+  %16 = load ptr, ptr %3, align 8
+  %17 = call i32 @netif_rx(ptr noundef %16)
+  ret i32 %17
+}
+
+declare ptr @kzalloc(i64 noundef) #1
+
+declare void @dev_set_priv(ptr noundef, ptr noundef) #1
+
+declare i32 @netif_rx(ptr noundef) #1
+
+attributes #0 = { noinline nounwind optnone uwtable "frame-pointer"="all" "min-legal-vector-width"="0" "no-trapping-math"="true" "stack-protector-buffer-size"="8" "target-cpu"="x86-64" "target-features"="+cx8,+fxsr,+mmx,+sse,+sse2,+x87" "tune-cpu"="generic" }
+attributes #1 = { "frame-pointer"="all" "no-trapping-math"="true" "stack-protector-buffer-size"="8" "target-cpu"="x86-64" "target-features"="+cx8,+fxsr,+mmx,+sse,+sse2,+x87" "tune-cpu"="generic" }
+
+!llvm.module.flags = !{!0, !1, !2, !3, !4}
+!llvm.ident = !{!5}
+
+!0 = !{i32 1, !"wchar_size", i32 4}
+!1 = !{i32 7, !"PIC Level", i32 2}
+!2 = !{i32 7, !"PIE Level", i32 2}
+!3 = !{i32 7, !"uwtable", i32 1}
+!4 = !{i32 7, !"frame-pointer", i32 2}
+!5 = !{!"Debian clang version 14.0.6"}
+---- words run examples/other.case
+---- run examples/other.case
+---- whole
+status 1
+schedule 0*100
+call 0.0 nic:card_init returned 0
+call 0.1 kernel:do_probe returned 0
+call 0.2 kernel:do_probe returned 0
+call 0.3 kernel:skb_new returned 0x2000050
+call 0.4 kernel:do_xmit refused 1 nic[0x1000020] write 0x2000030+8
+image nic guards 10 checks 0 wrappers 6
+owns nic.shared write 0x10000e0+24
+owns nic.shared call 0x10070
+owns nic.shared call 0x10090
+owns nic.shared call 0x100a0
+owns nic.shared call 0x100e0
+owns nic.shared call 0x10130
+owns nic.shared call 0x10140
+owns nic.shared call 0x10150
+owns nic[0x1000020] write 0x2000010+16
+owns nic[0x1000020] write 0x2000050+24
+owns nic[0x1000020] write 0x2000080+4
+owns nic[0x1000020] ref device 0x1000020
+owns nic[0x1000038] write 0x2000030+16
+owns nic[0x1000038] ref device 0x1000038
+---- file examples/left.case
+lxfi case 1
+kernel file examples/left_kernel.ll
+interface file examples/left.txt
+module m examples/left.ll
+thread
+call m:send 64 fuel 100
+call m:send 9000 fuel 100
+call m:send 64 fuel 100
+call kernel:users 0 fuel 10
+---- file examples/left_kernel.ll
+%struct.device = type { i64, i64 }
+@lock = global i32 0
+@devices = global [2 x %struct.device] zeroinitializer
+declare i32 @k.try_lock(ptr)
+declare void @k.note(i64)
+define i32 @queue_lock() {
+  %got = call i32 @k.try_lock(ptr @lock)
+  ret i32 %got
+}
+define void @queue_unlock() {
+  store i32 0, ptr @lock
+  ret void
+}
+define ptr @device_get(i64 %number) {
+  %known = icmp ult i64 %number, 2
+  br i1 %known, label %get, label %none
+get:
+  %device = getelementptr [2 x %struct.device], ptr @devices, i64 0, i64 %number
+  %users = load i64, ptr %device
+  %more = add i64 %users, 1
+  store i64 %more, ptr %device
+  ret ptr %device
+none:
+  ret ptr null
+}
+define void @device_put(ptr %device) {
+  %users = load i64, ptr %device
+  %less = sub i64 %users, 1
+  store i64 %less, ptr %device
+  ret void
+}
+define void @device_send(ptr %device, i64 %length) {
+  call void @k.note(i64 %length)
+  ret void
+}
+define i64 @users(i64 %number) {
+  %device = getelementptr [2 x %struct.device], ptr @devices, i64 0, i64 %number
+  %users = load i64, ptr %device
+  ret i64 %users
+}
+---- file examples/left.txt
+interface 1
+reftype device
+export queue_lock : i32 ()
+export queue_unlock : void ()
+export device_get : ptr (i64 number) post(if (return != 0) copy(ref(device), return))
+export device_put : void (ptr device) pre(transfer(ref(device), device))
+export device_send : void (ptr device, i64 length) pre(check(ref(device), device))
+---- file examples/left.ll
+; ModuleID = 'left.c'
+source_filename = "left.c"
+target datalayout = "e-m:e-p270:32:32-p271:32:32-p272:64:64-i64:64-f80:128-n8:16:32:64-S128"
+target triple = "x86_64-pc-linux-gnu"
+
+; Function Attrs: noinline nounwind optnone uwtable
+define dso_local i32 @send(i64 noundef %0) #0 {
+  %2 = alloca i32, align 4
+  %3 = alloca i64, align 8
+  %4 = alloca ptr, align 8
+  store i64 %0, ptr %3, align 8
+  %5 = call i32 @queue_lock()
+  %6 = icmp ne i32 %5, 0
+  br i1 %6, label %8, label %7
+
+7:                                                ; preds = %1
+  store i32 -16, ptr %2, align 4
+  br label %17
+
+8:                                                ; preds = %1
+  %9 = call ptr @device_get(i64 noundef 0)
+  store ptr %9, ptr %4, align 8
+  %10 = load i64, ptr %3, align 8
+  %11 = icmp ugt i64 %10, 1500
+  br i1 %11, label %12, label %13
+
+12:                                               ; preds = %8
+  store i32 -90, ptr %2, align 4
+  br label %17
+
+13:                                               ; preds = %8
+  %14 = load ptr, ptr %4, align 8
+  %15 = load i64, ptr %3, align 8
+  call void @device_send(ptr noundef %14, i64 noundef %15)
+  %16 = load ptr, ptr %4, align 8
+  call void @device_put(ptr noundef %16)
+  call void @queue_unlock()
+  store i32 0, ptr %2, align 4
+  br label %17
+
+17:                                               ; preds = %13, %12, %7
+  %18 = load i32, ptr %2, align 4
+  ret i32 %18
+}
+
+declare i32 @queue_lock() #1
+
+declare ptr @device_get(i64 noundef) #1
+
+declare void @device_send(ptr noundef, i64 noundef) #1
+
+declare void @device_put(ptr noundef) #1
+
+declare void @queue_unlock() #1
+
+attributes #0 = { noinline nounwind optnone uwtable "frame-pointer"="all" "min-legal-vector-width"="0" "no-trapping-math"="true" "stack-protector-buffer-size"="8" "target-cpu"="x86-64" "target-features"="+cx8,+fxsr,+mmx,+sse,+sse2,+x87" "tune-cpu"="generic" }
+attributes #1 = { "frame-pointer"="all" "no-trapping-math"="true" "stack-protector-buffer-size"="8" "target-cpu"="x86-64" "target-features"="+cx8,+fxsr,+mmx,+sse,+sse2,+x87" "tune-cpu"="generic" }
+
+!llvm.module.flags = !{!0, !1, !2, !3, !4}
+!llvm.ident = !{!5}
+
+!0 = !{i32 1, !"wchar_size", i32 4}
+!1 = !{i32 7, !"PIC Level", i32 2}
+!2 = !{i32 7, !"PIE Level", i32 2}
+!3 = !{i32 7, !"uwtable", i32 1}
+!4 = !{i32 7, !"frame-pointer", i32 2}
+!5 = !{!"Debian clang version 14.0.6"}
+---- words run examples/left.case
+---- run examples/left.case
+---- whole
+status 0
+schedule 0*69
+call 0.0 m:send returned 0
+call 0.1 m:send returned -90
+call 0.2 m:send returned -16
+call 0.3 kernel:users returned 1
+note 0 64
+image m guards 5 checks 0 wrappers 5
+owns m.shared call 0x10060
+owns m.shared call 0x10070
+owns m.shared call 0x10080
+owns m.shared call 0x10090
+owns m.shared call 0x100a0
+owns m.shared call 0x100c0
+owns m.shared ref device 0x1000010
 "#
 }
