@@ -32,6 +32,8 @@ mod lock;
 #[cfg(test)]
 mod opened;
 #[cfg(test)]
+mod places;
+#[cfg(test)]
 mod report;
 #[cfg(test)]
 mod requests;
