@@ -121,7 +121,10 @@ class Placing:
 
     def action(self, event):
         verb, of, is_list = self.verbs(event)
-        gives = lambda it: it.word == "grant" and it.who == event.dest
+
+        def gives(it):
+            return it.word == "grant" and it.who == event.dest
+
         if verb in ("lend", None) and self.take(event, lambda it: it.word == "loan" and it.thread == event.thread, 1):
             self.take(event, lambda it: it.word == "lend" and it.who == event.dest)
         elif verb in ("end", None) and self.take(event, lambda it: it.word == "shut" and it.thread == event.thread, 1):
