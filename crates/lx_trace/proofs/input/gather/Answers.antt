@@ -1,0 +1,50 @@
+use Rattle.std.proofs.Common.{◌≡◌, ◌∙◌, sym, ap, false, length, take, get_or, Err, Some, arith}
+use Rattle.std.proofs.lemmas.Bool.{true_from_ne_false}
+use Rattle.lx_model.specs.World.{can_act}
+use Rattle.lx_world.specs.declared.fault.EventFault.{EventFault}
+use Rattle.lx_trace.specs.Trace.{behind}
+use Rattle.lx_trace.proofs.Gathering.{all_gathered, broken_here, none_gathered, none_left, one_gathered, work_left}
+use Rattle.lx_trace.proofs.input.gather.Goals as goal
+
+pub loop-entry-init : goal.loop-entry-init
+loop-entry-init g c = λ p script st. none_gathered _ p script c.args.schedule.now c.args.run.now c.args.out.now.items c.requires st
+
+pub returns-in-Err-NoWork-clause-broken : goal.returns-in-Err-NoWork-clause-broken
+returns-in-Err-NoWork-clause-broken g c = λ p script st.
+    let s = c.args.schedule.now in
+    let n = c.loop-entry.entry in
+    let has = c.loop-entry.invariant p script st in
+    let fault = c.in-Err-NoWork.field-0-is in
+    let number = c.in-Err-NoWork.ensures.number c.in-Err-NoWork.field-0-0 (ap Err fault) in
+    let idle : can_act (behind p script (take n s)) (get_or s n 0) ≡ false = (c.in-Err-NoWork.ensures.no_work p script (take n s) has.stands_for).0 (ap Err (fault ∙ ap EventFault.NoWork number)) in
+    sym (broken_here _ p script s n c.loop-entry.run c.loop-entry.out.items c.loop-entry-test.true has idle)
+
+pub loop-entry-preserved : goal.loop-entry-preserved
+loop-entry-preserved g c = λ p script st.
+    let s = c.args.schedule.now in
+    let n = c.loop-entry.entry in
+    let has = c.loop-entry.invariant p script st in
+    let works = true_from_ne_false (can_act (behind p script (take n s)) (get_or s n 0)) (λ idle. let e = (c.in-Ok.ensures.no_work p script (take n s) has.stands_for).1 idle in cc) in
+    one_gathered _ p script s n c.loop-entry.run c.step.new.self c.loop-entry.out.items c.push.new.self.items c.in-Ok.event c.loop-entry-test.true has works
+    (c.in-Ok.ensures.event p script (take n s) has.stands_for) (c.in-Ok.ensures.traced p script (take n s) has.stands_for) c.in_ok-push-in-Ok.ensures.items
+
+pub returns-then-done-clause-broken : goal.returns-then-done-clause-broken
+returns-then-done-clause-broken g c = λ p script st.
+    let s = c.args.schedule.now in
+    let n = c.loop-entry.entry in
+    let has = c.loop-entry.invariant p script st in
+    sym (none_left _ p script s n c.loop-entry.run c.loop-entry.out.items c.loop-entry-test.false has (sym (c.done.ensures p script (take n s) has.stands_for.of_run) ∙ c.if-done.true))
+
+pub returns-then-done-clause-whole : goal.returns-then-done-clause-whole
+returns-then-done-clause-whole g c = λ p script st none.
+    let s = c.args.schedule.now in
+    let n = c.loop-entry.entry in
+    all_gathered _ p script s n c.loop-entry.run c.loop-entry.out.items c.loop-entry-test.false (c.loop-entry.invariant p script st)
+
+pub returns-else-done-clause-broken : goal.returns-else-done-clause-broken
+returns-else-done-clause-broken g c = λ p script st.
+    let s = c.args.schedule.now in
+    let n = c.loop-entry.entry in
+    let has = c.loop-entry.invariant p script st in
+    let ended : length s ≡ n = omega (arith, c.loop-entry-test.false, c.loop-entry.auto.entry-end) in
+    ap Some ended ∙ sym (work_left _ p script s n c.loop-entry.run c.loop-entry.out.items c.loop-entry-test.false has (sym (c.done.ensures p script (take n s) has.stands_for.of_run) ∙ c.if-done.false))

@@ -1,0 +1,33 @@
+-- What a trace says, in the words of the journal.
+use Rattle.std.specs.Prelude.{◌≡◌, ◌≢◌, ℕ, true, Some, List, ◌++◌, map, length, slice_get}
+use Rattle.lx_annot.specs.Canonical.{Text}
+use Rattle.lx_link_texts.specs.WellFormed.{FitsCalls, IsWellFormed}
+use Rattle.lx_model.specs.declared.program.Program.{Program}
+use Rattle.lx_model.specs.declared.program.ScriptCall.{ScriptCall}
+use Rattle.lx_model.specs.declared.request.Entry.{Entry}
+use Rattle.lx_model.specs.declared.request.Outcome.{Outcome}
+use Rattle.lx_model.specs.Next.{finish}
+use Rattle.lx_model.specs.Thread.{Thread}
+use Rattle.lx_model.specs.World.{World, is_whole, run}
+use Rattle.lx_places.specs.Place.{Place, asks_at}
+use Rattle.lx_trace_text.specs.declared.Traced.{Traced}
+use Rattle.lx_trace.specs.Trace.{IsTrace, behind, site, trace, traced}
+
+-- the entry of the journal that an event makes
+abbrev pub entry_of : Traced → Entry
+entry_of e = record { thread = e.thread; request = e.request; reply = e.reply }
+
+-- the event does not end a call that has come to its end
+abbrev pub IsNoEnd : Traced → Type 0
+IsNoEnd e = (o : Outcome) → e.request ≢ finish o
+
+pub record TraceLaws : Type 0 where
+  -- the trace of a whole schedule is what the journal gains, entry by entry
+  pub journal : (p : Program) (schedule : List ℕ) (w : World) → is_whole p schedule w ≡ true → (run p schedule w).state.journal ≡ w.state.journal ++ map entry_of (trace p schedule w)
+  -- so there is one event for each entry of the schedule
+  pub count : (p : Program) (schedule : List ℕ) (w : World) → is_whole p schedule w ≡ true → length (trace p schedule w) ≡ length schedule
+  -- a run has one trace, and one status
+  pub one : (p : Program) (script : List (List ScriptCall)) (schedule : List ℕ) (a b : Text) (r s : _) → IsTrace p script schedule r a → IsTrace p script schedule s b → (a ≡ b) × (r ≡ s)
+  -- at each point of a run of a well-formed program, what a function asks has its line, unless its call has come to its end
+  pub sited : (p : Program) → IsWellFormed p → (script : List (List ScriptCall)) (schedule : List ℕ) → FitsCalls p script → (t : ℕ) (thread : Thread) → slice_get (behind p script schedule).threads t ≡ Some thread
+      → IsNoEnd (traced p t (behind p script schedule) thread) → (x : Place) → asks_at p t thread ≡ Some x → (line : ℕ) × ((traced p t (behind p script schedule) thread).site ≡ Some (site x.function line))
