@@ -8,7 +8,7 @@ LINE = re.compile(r"(done|refused|trap|ends) (\d+) (\d+)\.(\d+) (\S+) (script|[^
 OUTCOME = re.compile(r": ((?:refused|trap) .*|returned.*|budget)$")
 ENTERS = re.compile(r"(.*) enters (\S+) as (\S+)$")
 ACTION = re.compile(r"(pre|post) (\d+) of (\S+) from (\S+) to (\S+)$")
-ROOM = re.compile(r"(alloca|leaves) (\d+) at (0x[0-9a-f]+)$")
+ROOM = re.compile(r"(alloca|leaves) (\d+) at (0x[0-9a-f]+)\b")
 BYTES = {"i1": 1, "i8": 1, "i16": 2, "i32": 4, "i64": 8}
 
 
@@ -54,7 +54,7 @@ class Event:
     def touches(self):
         """The (first, end, whether it writes) of what a load, a store or a block write is of."""
         access = re.match(r"(load|store) (i\d+)(?: \S+)? at (0x[0-9a-f]+)", self.what)
-        block = re.match(r"copy (\d+) from (0x[0-9a-f]+)(?: \(\S+\))? to (0x[0-9a-f]+)", self.what)
+        block = re.match(r"copy (\d+) from (0x[0-9a-f]+)(?: \([^)]*\))? to (0x[0-9a-f]+)", self.what)
         filled = re.match(r"fill (\d+) with \d+ at (0x[0-9a-f]+)", self.what)
         zeroed = re.match(r"calls k\.zero\((0x[0-9a-f]+), (0x[0-9a-f]+)\)", self.what)
         found = []
@@ -161,8 +161,8 @@ class Places:
         """The blocks of the heap: of each the event that gave it, its size, and the event that took it back."""
         found = {}
         for event in self.events[:number]:
-            gave = re.match(r"calls k\.alloc\((0x[0-9a-f]+)\) = (0x[0-9a-f]+)$", event.what)
-            took = re.match(r"calls k\.free\((0x[0-9a-f]+)\)$", event.what)
+            gave = re.match(r"calls k\.alloc\((0x[0-9a-f]+)\) = (0x[0-9a-f]+)\b", event.what)
+            took = re.match(r"calls k\.free\((0x[0-9a-f]+)\)", event.what)
             if gave and int(gave[2], 16):
                 found[int(gave[2], 16)] = (event, int(gave[1], 16), None)
             elif took and int(took[1], 16) in found:
