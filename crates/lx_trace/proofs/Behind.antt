@@ -1,6 +1,7 @@
 -- What images ask in a run is what the program asks, in the same call and at the same line.
-use Rattle.std.proofs.Common.{◌≡◌, ◌∙◌, refl, sym, ap, ℕ, zero, suc, true, Option, Some, None, List, [], ◌∷◌, length}
+use Rattle.std.proofs.Common.{◌≡◌, ◌∙◌, refl, sym, ap, ℕ, zero, suc, true, false, Option, Some, None, List, [], ◌∷◌, length}
 use Rattle.std.specs.Prelude.{option_and_then, option_map, slice_get}
+use Rattle.std.proofs.lemmas.Bool.{true_from_ne_false}
 use Rattle.lx_words.proofs.Options.{none_some, some_same}
 use Rattle.lx_model.specs.declared.program.ScriptCall.{ScriptCall}
 use Rattle.lx_model.specs.declared.request.Reply.{Reply}
@@ -13,6 +14,7 @@ use Rattle.lx_images.specs.Asker.{image_asks_at}
 use Rattle.lx_images.specs.Guarded.{Accepted}
 use Rattle.lx_images.specs.Image.{Code, ImageThread, image_next}
 use Rattle.lx_images.specs.ImageWorld.{ImageWorld, image_opening, image_run}
+use Rattle.lx_images.specs.Shown.{shown}
 use Rattle.lx_images.specs.Stands.{StandsFor, ThreadStands, ThreadsStand}
 use Rattle.lx_simulation.specs.Simulation.{AllGuarded, SimulationLaws}
 use Rattle.lx_simulation.proofs.Journals.{served-same}
@@ -91,9 +93,9 @@ module _ (sim : SimulationLaws) (c : Code) (acc : Accepted c) (all : AllGuarded 
   asked_by_both t x (Both thread v got is_there stands) acts is =
       left_call x (length v.ended) v.calls (image_next c v).request (ap has_call stands.calls ∙ (sym (ap works got) ∙ acts)) (sym (ap (asked_of_images t x) is_there) ∙ is)
 
-  -- a thread that has work asks
-  pub asks_something : (t : ℕ) (x : Option Site) → can_act monitor t ≡ true → asked_if x (call_at imaged t) (image_asks c t imaged) ≡ None → ⊥
-  asks_something t x acts is = asked_by_both t x (there t) acts is
+  -- a thread that the images let act asks
+  pub asks_something : (t : ℕ) (x : Option Site) → (can_act (shown imaged) t ≡ false → ⊥) → asked_if x (call_at imaged t) (image_asks c t imaged) ≡ None → ⊥
+  asks_something t x busy is = asked_by_both t x (there t) (true_from_ne_false (can_act monitor t) (λ idle. busy (sim.showing.acts c monitor imaged standing t ∙ idle))) is
 
   answered_both : (t : ℕ) (a : Asked) (reply : Reply) → Beside c t monitor.threads imaged.threads → option_map (asked_by c.program t) (slice_get monitor.threads t) ≡ Some a
       → ((v : ImageThread) → slice_get imaged.threads t ≡ Some v → reply ≡ (serve c.program imaged.state t (image_next c v).request).reply) → traced_at c.program t monitor ≡ Some (answered t a reply)

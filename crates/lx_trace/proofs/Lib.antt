@@ -1,5 +1,6 @@
 pub mod Behind
 pub mod Gained
 pub mod Gathering
+pub mod Placed
 pub mod Sited
 pub mod Standing

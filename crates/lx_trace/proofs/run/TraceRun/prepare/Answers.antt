@@ -1,10 +1,8 @@
-use Rattle.std.proofs.Common.{◌≡◌, ◌∙◌, ap, sym, ℕ, true, None, Option, Some}
+use Rattle.std.proofs.Common.{◌≡◌, ◌∙◌, ap, sym, ℕ, None, Option, Some}
 use Rattle.std.specs.Prelude.{option_map}
-use Rattle.std.proofs.lemmas.Bool.{true_from_ne_false}
 use Rattle.lx_images.specs.Asker.{CodePlace}
 use Rattle.lx_interp.specs.Places.{stand_in}
 use Rattle.lx_model.specs.declared.request.Request.{Request}
-use Rattle.lx_model.specs.World.{can_act}
 use Rattle.lx_places.specs.Place.{image_place}
 use Rattle.lx_simulation.specs.Images.{code_of}
 use Rattle.lx_trace_text.specs.declared.Site.{Site}
@@ -12,7 +10,7 @@ use Rattle.lx_world.specs.InCall.{call_at}
 use Rattle.lx_world.specs.Wants.{image_asks}
 use Rattle.lx_trace.specs.Asked.{asked_if}
 use Rattle.lx_trace.specs.Run.{image_behind}
-use Rattle.lx_trace.specs.Trace.{behind, site_of}
+use Rattle.lx_trace.specs.Trace.{site_of}
 use Rattle.lx_trace.specs.declared.run.Asked.{Asked}
 use Rattle.lx_trace.proofs.Behind.{asked_is, asks_something}
 use Rattle.lx_trace.proofs.Standing.{prepared}
@@ -53,30 +51,22 @@ returns-in-Some-clause-asked g c = λ p script s st.
 
 pub returns-in-None-clause-no_work : goal.returns-in-None-clause-no_work
 returns-in-None-clause-no_work g c = λ p script s st.
-    let laws = c.simulation_laws.ensures in
     let run = st.of_run in
     let t = c.args.thread in
     let code = code_of p run.images in
     let v = image_behind p run.images script s in
     let x = site_of p (option_map image_place (option_map (stand_in code) c.in_ok-at.at)) in
-    let acts = laws.showing.acts code (behind p script s) v (laws.guarded_runs code run.accepted run.guarded script s) t in
-    let works : can_act (behind p script s) t ≡ true
-    = true_from_ne_false (can_act (behind p script s) t) (λ idle. let e = (c.in_ok-at.ensures.no_work code v run.world).1 (acts ∙ idle) in cc) in
     let found : asked_if x (call_at v t) (image_asks code t v) ≡ None
     = found_is x (call_at v t) _ _ c.in_ok-asked.field-0 _ (c.in_ok-at.ensures.asks code v run.world) (c.in_ok-asked.ensures code v (c.in_ok-at.ensures.stands code v run.world) run.lines) c.in-None.is in
-    absurd (asks_something laws code run.accepted run.guarded script s t x works found)
+    absurd (asks_something c.simulation_laws.ensures code run.accepted run.guarded script s t x (λ idle. let e = (c.in_ok-at.ensures.no_work code v run.world).1 idle in cc) found)
 
 pub returns-in-None-clause-unchanged : goal.returns-in-None-clause-unchanged
 returns-in-None-clause-unchanged g c = λ p script s st is.
-    let laws = c.simulation_laws.ensures in
     let run = st.of_run in
     let t = c.args.thread in
     let code = code_of p run.images in
     let v = image_behind p run.images script s in
     let x = site_of p (option_map image_place (option_map (stand_in code) c.in_ok-at.at)) in
-    let acts = laws.showing.acts code (behind p script s) v (laws.guarded_runs code run.accepted run.guarded script s) t in
-    let works : can_act (behind p script s) t ≡ true
-    = true_from_ne_false (can_act (behind p script s) t) (λ idle. let e = (c.in_ok-at.ensures.no_work code v run.world).1 (acts ∙ idle) in cc) in
     let found : asked_if x (call_at v t) (image_asks code t v) ≡ None
     = found_is x (call_at v t) _ _ c.in_ok-asked.field-0 _ (c.in_ok-at.ensures.asks code v run.world) (c.in_ok-asked.ensures code v (c.in_ok-at.ensures.stands code v run.world) run.lines) c.in-None.is in
-    absurd (asks_something laws code run.accepted run.guarded script s t x works found)
+    absurd (asks_something c.simulation_laws.ensures code run.accepted run.guarded script s t x (λ idle. let e = (c.in_ok-at.ensures.no_work code v run.world).1 idle in cc) found)
