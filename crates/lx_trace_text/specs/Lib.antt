@@ -1,2 +1,5 @@
+pub mod Blocks
+pub mod Laws
+pub mod Telling
 pub mod Text
 pub mod Rows

@@ -4,6 +4,9 @@ use Rattle.lx_words.specs.declared.word.Width.TheVariants.{W1, W8, W16, W32, W64
 use Rattle.lx_words.specs.Word.{word}
 use Rattle.lx_caps.specs.declared.Principal.{Principal}
 use Rattle.lx_caps.specs.declared.Principal.TheVariants.{Kernel, Shared, Global, Inst}
+use Rattle.lx_ir.specs.declared.module.GlobalVar.{GlobalVar}
+use Rattle.lx_ir.specs.Init.{Bytes}
+use Rattle.lx_ir.specs.IrType.{Array, One}
 use Rattle.lx_ir.specs.declared.types.Scalar.{Scalar}
 use Rattle.lx_ir.specs.declared.types.Scalar.TheVariants.{Int}
 use Rattle.lx_ir.specs.declared.module.Function.{Function}
@@ -35,18 +38,22 @@ define name ret = record { name = name; params = []; locals = []; ret = ret; blo
 abbrev with_functions : List Function → Module
 with_functions functions = record { types = []; globals = []; functions = functions }
 
+-- a global of 16 bytes
+abbrev ops : GlobalVar
+ops = record { name = codes "ops"; constant = false; ty = Array 2 (One (Int W64)); init = Bytes []; line = 0 }
+
 -- a slot type
 abbrev slot : SlotType
 slot = record { name = codes "xmit"; params = []; ret = ty.I32; annotation = annotations.xmit; line = 0 }
 
--- a native, a function of the kernel with a result, and one of a module, `m`
+-- a native, a function of the kernel with a result, and one of a module, `m`, which has a global
 abbrev program : Program
 program =
     record {
       kernel = with_functions (define (codes "probe") (Some (Int W32)) ∷ []);
-      modules = record { name = codes "m"; «module» = with_functions (define (codes "poke") None ∷ []) } ∷ [];
+      modules = record { name = codes "m"; «module» = record (with_functions (define (codes "poke") None ∷ [])) { globals = ops ∷ [] } } ∷ [];
       functions = Native 0 ∷ Of None 0 ∷ Of (Some 0) 0 ∷ [];
-      globals = [];
+      globals = record { «module» = Some 0; global = 0; at = 0x1000000 } ∷ [];
       interface = record annotations.interface { slots = slot ∷ [] };
     }
 
@@ -67,9 +74,38 @@ abbrev event : Principal → Option Site → What → Reply → Traced
 event who site w r =
     record { thread = 0; call = 1; function = 1; site = site; request = record { who = who; what = w }; reply = r }
 
--- its line, as the event with number 12
+-- its line, as the event with number 12, where no block is known
 abbrev line_of : Principal → Option Site → What → Reply → Text
-line_of who site w r = event_line program names (12, event who site w r)
+line_of who site w r = event_line program names [] 12 (event who site w r)
+
+-- a load by the kernel's function, which reads 0, and a store of 0
+abbrev loads : ℕ → Traced
+loads at = event Kernel in_probe (what.Load at W64) (Value (word W64 0))
+
+abbrev stores : ℕ → Traced
+stores at = event Kernel in_probe (what.Store at (word W8 0)) Done
+
+-- it allocates 64 bytes, which it gets at this address, and frees what it got there
+abbrev allocates : ℕ → Traced
+allocates at = event Kernel in_probe (what.Native 0 (word W64 64 ∷ [])) (Value (word W64 at))
+
+abbrev frees : ℕ → Traced
+frees at = event Kernel in_probe (what.Native 1 (word W64 at ∷ [])) Done
+
+-- it takes bytes of its stack, and leaves them
+abbrev takes : ℕ → ℕ → Traced
+takes at size = event Kernel in_probe (what.Alloca at size) Done
+
+abbrev leaves : ℕ → ℕ → Traced
+leaves low high = event Kernel in_probe (what.Return low high) Done
+
+-- its call ends
+abbrev ends_call : Traced
+ends_call = event Kernel None (what.Finish Budget) (Ended Budget)
+
+-- the text of events
+abbrev told : List Traced → Text
+told events = trace_text program names events
 
 -- an action of the kernel's function, before its body or behind it
 abbrev perform : Bool → ℕ → Principal → Principal → What
@@ -115,6 +151,43 @@ pub record WorkedTraceTexts : Type 0 where
       codes "done 12 0.1 kernel kernel:probe:12: calls k.alloc(0x40) = 0x2000040\n"
   pub alias : line_of Kernel in_probe (what.Native 5 []) Done ≡ codes "done 12 0.1 kernel kernel:probe:12: calls lxfi_princ_alias()\n"
   pub no_native : line_of Kernel in_probe (what.Native 6 []) Done ≡ codes "done 12 0.1 kernel kernel:probe:12: calls ()\n"
+  -- the bytes of a global, and the one behind them
+  pub in_global : told (loads 0x1000000 ∷ loads 0x1000008 ∷ loads 0x1000010 ∷ []) ≡
+      codes "done 0 0.1 kernel kernel:probe:12: load i64 at 0x1000000 (m:@ops+0) = 0x0\n"
+      ++ codes "done 1 0.1 kernel kernel:probe:12: load i64 at 0x1000008 (m:@ops+8) = 0x0\n"
+      ++ codes "done 2 0.1 kernel kernel:probe:12: load i64 at 0x1000010 = 0x0\n"
+  -- those of a block of the heap, and the one behind them; where the heap was full, 0 is no block
+  pub in_block : told (allocates 0x2000040 ∷ stores 0x2000044 ∷ stores 0x2000080 ∷ allocates 0 ∷ stores 0x10 ∷ []) ≡
+      codes "done 0 0.1 kernel kernel:probe:12: calls k.alloc(0x40) = 0x2000040\n"
+      ++ codes "done 1 0.1 kernel kernel:probe:12: store i8 0 at 0x2000044 (event 0+4)\n"
+      ++ codes "done 2 0.1 kernel kernel:probe:12: store i8 0 at 0x2000080\n"
+      ++ codes "done 3 0.1 kernel kernel:probe:12: calls k.alloc(0x40) = 0x0\n"
+      ++ codes "done 4 0.1 kernel kernel:probe:12: store i8 0 at 0x10\n"
+  -- a block is taken back, and given anew
+  pub given_anew : told (allocates 0x2000040 ∷ frees 0x2000040 ∷ stores 0x2000040 ∷ allocates 0x2000040 ∷ stores 0x2000041 ∷ []) ≡
+      codes "done 0 0.1 kernel kernel:probe:12: calls k.alloc(0x40) = 0x2000040\n"
+      ++ codes "done 1 0.1 kernel kernel:probe:12: calls k.free(0x2000040)\n"
+      ++ codes "done 2 0.1 kernel kernel:probe:12: store i8 0 at 0x2000040\n"
+      ++ codes "done 3 0.1 kernel kernel:probe:12: calls k.alloc(0x40) = 0x2000040\n"
+      ++ codes "done 4 0.1 kernel kernel:probe:12: store i8 0 at 0x2000041 (event 3+1)\n"
+  -- bytes of a stack, before and behind the return; of two blocks with one start the newer one
+  pub in_stack : told (takes 0x3000000 0 ∷ takes 0x3000000 16 ∷ stores 0x3000008 ∷ leaves 0x3000000 0x3000010 ∷ stores 0x3000008 ∷ []) ≡
+      codes "done 0 0.1 kernel kernel:probe:12: alloca 0 at 0x3000000\n"
+      ++ codes "done 1 0.1 kernel kernel:probe:12: alloca 16 at 0x3000000\n"
+      ++ codes "done 2 0.1 kernel kernel:probe:12: store i8 0 at 0x3000008 (event 1+8)\n"
+      ++ codes "done 3 0.1 kernel kernel:probe:12: leaves 16 at 0x3000000\n"
+      ++ codes "done 4 0.1 kernel kernel:probe:12: store i8 0 at 0x3000008\n"
+  -- and behind the end of their thread's call
+  pub at_end : told (takes 0x3000000 16 ∷ takes 0x3010000 16 ∷ ends_call ∷ stores 0x3000008 ∷ stores 0x3010008 ∷ []) ≡
+      codes "done 0 0.1 kernel kernel:probe:12: alloca 16 at 0x3000000\n"
+      ++ codes "done 1 0.1 kernel kernel:probe:12: alloca 16 at 0x3010000\n"
+      ++ codes "ends 2 0.1 kernel script: ends: budget\n"
+      ++ codes "done 3 0.1 kernel kernel:probe:12: store i8 0 at 0x3000008\n"
+      ++ codes "done 4 0.1 kernel kernel:probe:12: store i8 0 at 0x3010008 (event 1+8)\n"
+  -- both places of a copy
+  pub copied : told (allocates 0x2000040 ∷ event Kernel in_probe (what.Copy 0x2000050 0x1000004 8) Done ∷ []) ≡
+      codes "done 0 0.1 kernel kernel:probe:12: calls k.alloc(0x40) = 0x2000040\n"
+      ++ codes "done 1 0.1 kernel kernel:probe:12: copy 8 from 0x1000004 (m:@ops+4) to 0x2000050 (event 0+16)\n"
   -- actions before a body and behind it
   pub before : line_of (Shared 0) in_poke (perform false 0 (Shared 0) Kernel) Done ≡
       codes "done 12 0.1 m.shared m:poke:17: pre 0 of kernel:probe from m.shared to kernel\n"

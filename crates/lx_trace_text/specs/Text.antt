@@ -1,10 +1,10 @@
 -- The text of the events of a run: one line for each, in their order.
-use Rattle.std.specs.Prelude.{ℕ, ◌-◌, Bool, true, false, Option, Some, None, List, [], ◌∷◌, ◌++◌, codes, flat_map, slice_get, slice_index_or}
-use Rattle.std.specs.List.{enumerate_from}
+use Rattle.std.specs.Prelude.{ℕ, ◌+◌, ◌-◌, Bool, true, false, Option, Some, None, List, [], ◌∷◌, ◌++◌, codes, flat_map, slice_get, slice_index_or}
 use Rattle.lx_words.specs.declared.word.Width.{Width}
 use Rattle.lx_words.specs.declared.word.Width.TheVariants.{W1, W64}
 use Rattle.lx_words.specs.Word.{Word}
 use Rattle.lx_caps.specs.declared.Principal.{Principal}
+use Rattle.lx_ir.specs.declared.module.GlobalVar.{GlobalVar}
 use Rattle.lx_ir.specs.Text.{width_text}
 use Rattle.lx_annot.specs.declared.interface.Slot.{Slot as SlotType}
 use Rattle.lx_annot.specs.Canonical.{Text}
@@ -20,9 +20,15 @@ use Rattle.lx_model.specs.declared.request.Way.TheVariants.{Script, Direct, Indi
 use Rattle.lx_model.specs.declared.request.What.{What}
 use Rattle.lx_model.specs.declared.request.What.TheVariants as what
 use Rattle.lx_model.specs.Program.{function_at, native_names}
-use Rattle.lx_report.specs.Report.{number_text, address_text, signed_word_text, called_text, principal_text, outcome_text, line}
+use Rattle.lx_report.specs.Report.{number_text, address_text, signed_word_text, home_text, called_text, principal_text, outcome_text, line}
 use Rattle.lx_trace_text.specs.declared.Site.{Site}
 use Rattle.lx_trace_text.specs.declared.Traced.{Traced}
+use Rattle.lx_trace_text.specs.declared.blocks.Block.{Block}
+use Rattle.lx_trace_text.specs.declared.blocks.Giver.{Giver}
+use Rattle.lx_trace_text.specs.declared.blocks.Giver.TheVariants.{Global, Event}
+use Rattle.lx_trace_text.specs.declared.blocks.Near.{Near}
+use Rattle.lx_trace_text.specs.declared.pieces.Spot.{Spot}
+use Rattle.lx_trace_text.specs.Blocks.{known_after, known_first, near_of, variable_of}
 
 -- how an event came out
 
@@ -50,8 +56,30 @@ bracketed p None = []
 bracketed p (Some n) = codes " (" ++ called_text p n ++ codes ")"
 
 -- an address, and the function whose address it is
-abbrev pub spot_text : Program → ℕ → Text
-spot_text p a = address_text a ++ bracketed p (function_at p a)
+abbrev pub function_spot_text : Program → ℕ → Text
+function_spot_text p a = address_text a ++ bracketed p (function_at p a)
+
+-- the name of a global, if there is one
+abbrev pub variable_name : Option GlobalVar → Text
+variable_name None = []
+variable_name (Some g) = g.name
+
+-- what gave a block: a global by the text that defines it and its name there, or an event by its number
+abbrev pub giver_text : Program → Giver → Text
+giver_text p (Global home number) = home_text p home ++ codes ":@" ++ variable_name (variable_of p home number)
+giver_text p (Event n) = codes "event " ++ number_text n
+
+-- a block in brackets, and how far behind its start an address lies in it
+abbrev pub block_text : Program → ℕ → Option Block → Text
+block_text p a None = []
+block_text p a (Some b) = codes " (" ++ giver_text p b.giver ++ codes "+" ++ number_text (a - b.start) ++ codes ")"
+
+-- an address, and the function whose address it is or the block in which it lies
+abbrev pub spot_text : Program → Spot → Text
+spot_text p s = function_spot_text p s.at ++ block_text p s.at s.block
+
+abbrev pub spot : ℕ → Option Block → Spot
+spot at block = record { at = at; block = block }
 
 -- words
 
@@ -81,7 +109,7 @@ args_text ws = codes "(" ++ list_text ws ++ codes ")"
 -- what is asked
 
 -- of which width a word is read, and where
-abbrev pub load_text : Program → ℕ → Width → Text
+abbrev pub load_text : Program → Spot → Width → Text
 load_text p at width = codes "load " ++ width_text width ++ codes " at " ++ spot_text p at
 
 -- the width and the value of a word
@@ -89,16 +117,16 @@ abbrev pub typed_text : Word → Text
 typed_text w = width_text w.width ++ codes " " ++ word_text w
 
 -- which word is written, and where
-abbrev pub store_text : Program → ℕ → Word → Text
+abbrev pub store_text : Program → Spot → Word → Text
 store_text p at w = codes "store " ++ typed_text w ++ codes " at " ++ spot_text p at
 
 -- how many bytes are copied, and their two places
-abbrev pub copy_text : Program → ℕ → ℕ → ℕ → Text
+abbrev pub copy_text : Program → Spot → Spot → ℕ → Text
 copy_text p to from len =
     codes "copy " ++ number_text len ++ codes " from " ++ spot_text p from ++ codes " to " ++ spot_text p to
 
 -- how many bytes are set to which one, and where
-abbrev pub fill_text : Program → ℕ → ℕ → ℕ → Text
+abbrev pub fill_text : Program → Spot → ℕ → ℕ → Text
 fill_text p to byte len =
     codes "fill " ++ number_text len ++ codes " with " ++ number_text byte ++ codes " at " ++ spot_text p to
 
@@ -119,7 +147,7 @@ slot_name p ty = slot_name_of (slice_get p.interface.slots ty)
 abbrev pub way_text : Program → Way → Text
 way_text p (Script n) = called_text p n
 way_text p (Direct n) = called_text p n
-way_text p (Indirect a) = spot_text p a
+way_text p (Indirect a) = function_spot_text p a
 way_text p (Slot slot ty) = codes "slot " ++ slot_name p ty ++ codes " at " ++ address_text slot
 
 -- a function is called with arguments
@@ -148,19 +176,19 @@ abbrev pub between_text : Program → List InstanceName → Principal → Princi
 between_text p names source dest =
     codes " from " ++ principal_text p names source ++ codes " to " ++ principal_text p names dest
 
--- what is asked
-abbrev pub what_text : Program → List InstanceName → What → Text
-what_text p names (what.Load at width) = load_text p at width
-what_text p names (what.Store at w) = store_text p at w
-what_text p names (what.Copy to from len) = copy_text p to from len
-what_text p names (what.Fill to byte len) = fill_text p to byte len
-what_text p names (what.Alloca at size) = room_text (codes "alloca ") size at
-what_text p names (what.Enter way args) = enter_text p way args
-what_text p names (what.Perform function post index env source dest) =
+-- what is asked, by the blocks in which it reads and writes memory
+abbrev pub what_text : Program → List InstanceName → Near → What → Text
+what_text p names near (what.Load at width) = load_text p (spot at near.to) width
+what_text p names near (what.Store at w) = store_text p (spot at near.to) w
+what_text p names near (what.Copy to from len) = copy_text p (spot to near.to) (spot from near.from) len
+what_text p names near (what.Fill to byte len) = fill_text p (spot to near.to) byte len
+what_text p names near (what.Alloca at size) = room_text (codes "alloca ") size at
+what_text p names near (what.Enter way args) = enter_text p way args
+what_text p names near (what.Perform function post index env source dest) =
     action_text p function post index ++ between_text p names source dest
-what_text p names (what.Return low high) = room_text (codes "leaves ") (high - low) low
-what_text p names (what.Native k args) = native_text k args
-what_text p names (what.Finish o) = codes "ends"
+what_text p names near (what.Return low high) = room_text (codes "leaves ") (high - low) low
+what_text p names near (what.Native k args) = native_text k args
+what_text p names near (what.Finish o) = codes "ends"
 
 -- what is answered
 
@@ -191,20 +219,25 @@ abbrev pub asker_text : Program → List InstanceName → Traced → Text
 asker_text p names e = principal_text p names e.request.who ++ codes " " ++ site_text p e.site ++ codes ": "
 
 -- what is asked, and what is answered
-abbrev pub exchange_text : Program → List InstanceName → Traced → Text
-exchange_text p names e = what_text p names e.request.what ++ reply_text p names e.function e.reply
+abbrev pub exchange_text : Program → List InstanceName → Near → Traced → Text
+exchange_text p names near e = what_text p names near e.request.what ++ reply_text p names e.function e.reply
 
 -- the event with this number
-abbrev pub event_line_of : Program → List InstanceName → ℕ → Traced → Text
-event_line_of p names n e = line (event_opening n e ++ asker_text p names e ++ exchange_text p names e)
+abbrev pub event_line_of : Program → List InstanceName → Near → ℕ → Traced → Text
+event_line_of p names near n e = line (event_opening n e ++ asker_text p names e ++ exchange_text p names near e)
 
--- an event and its number
-abbrev pub event_line : Program → List InstanceName → ℕ × Traced → Text
-event_line p names x = event_line_of p names x.0 x.1
+-- the event with this number, by the blocks that are known before it
+abbrev pub event_line : Program → List InstanceName → List Block → ℕ → Traced → Text
+event_line p names bs n e = event_line_of p names (near_of bs e.request.what) n e
+
+-- events, with their numbers from `n` on, by the blocks that are known before them
+abbrev pub event_lines : Program → List InstanceName → List Block → ℕ → List Traced → Text
+event_lines p names bs n [] = []
+event_lines p names bs n (e ∷ es) = event_line p names bs n e ++ event_lines p names (known_after bs n e) (n + 1) es
 
 -- the events, with their numbers from 0
 abbrev pub trace_text : Program → List InstanceName → List Traced → Text
-trace_text p names events = flat_map (event_line p names) (enumerate_from 0 events)
+trace_text p names events = event_lines p names (known_first p) 0 events
 
 -- how a thread's call of a function ends, where this reply ends it
 abbrev pub end_by : ℕ → ℕ → Reply → List CallOutcome

@@ -3,14 +3,18 @@
 ghost use Rattle.std.specs.Prelude.{◌≡◌, ◌++◌, OnOk};
 ghost use Rattle.lx_trace_text.specs.Text.{action_text, between_text, copy_text, enter_text, fill_text, load_text, native_text, room_text, side_word, store_text, typed_text, way_text, what_text};
 
-use crate::pieces::{native_name, put_args, put_spot, put_width, put_word, slot_name};
+use crate::blocks::Near;
+use crate::pieces::{
+    Spot, native_name, put_args, put_function_spot, put_spot, put_width, put_word, slot_name,
+    spot_of,
+};
 use lx_caps::Principal;
 use lx_model::program::Program;
 use lx_model::request::{Way, What};
 use lx_report::{Teller, put, put_address, put_bytes, put_called, put_number, put_principal};
 use lx_words::{Memory, Width, Word, Words};
 
-fn put_load(out: &mut Vec<u8>, program: &Program, at: u64, width: Width) -> Result<(), Memory>
+fn put_load(out: &mut Vec<u8>, program: &Program, at: Spot, width: Width) -> Result<(), Memory>
     ensures { OnOk result (out.new.items ≡ out.old.items ++ load_text program.now at width) }
 {
     put(out, "load ")?;
@@ -28,7 +32,7 @@ fn put_typed(out: &mut Vec<u8>, word: Word) -> Result<(), Memory>
     put_word(out, word)
 }
 
-fn put_store(out: &mut Vec<u8>, program: &Program, at: u64, value: Word) -> Result<(), Memory>
+fn put_store(out: &mut Vec<u8>, program: &Program, at: Spot, value: Word) -> Result<(), Memory>
     ensures { OnOk result (out.new.items ≡ out.old.items ++ store_text program.now at value) }
 {
     put(out, "store ")?;
@@ -40,8 +44,8 @@ fn put_store(out: &mut Vec<u8>, program: &Program, at: u64, value: Word) -> Resu
 fn put_copy(
     out: &mut Vec<u8>,
     program: &Program,
-    to: u64,
-    from: u64,
+    to: Spot,
+    from: Spot,
     len: u64,
 ) -> Result<(), Memory>
     ensures { OnOk result (out.new.items ≡ out.old.items ++ copy_text program.now to from len) }
@@ -54,7 +58,13 @@ fn put_copy(
     put_spot(out, program, to)
 }
 
-fn put_fill(out: &mut Vec<u8>, program: &Program, to: u64, byte: u8, len: u64) -> Result<(), Memory>
+fn put_fill(
+    out: &mut Vec<u8>,
+    program: &Program,
+    to: Spot,
+    byte: u8,
+    len: u64,
+) -> Result<(), Memory>
     ensures { OnOk result (out.new.items ≡ out.old.items ++ fill_text program.now to byte len) }
 {
     put(out, "fill ")?;
@@ -81,7 +91,7 @@ fn put_way(out: &mut Vec<u8>, program: &Program, way: Way) -> Result<(), Memory>
     match way {
         Way::Script(function) => put_called(out, program, function),
         Way::Direct(function) => put_called(out, program, function),
-        Way::Indirect(at) => put_spot(out, program, at),
+        Way::Indirect(at) => put_function_spot(out, program, at),
         Way::Slot { slot, ty } => {
             put(out, "slot ")?;
             put_bytes(out, slot_name(program, ty))?;
@@ -149,16 +159,29 @@ fn put_between(
     put_principal(out, teller, dest)
 }
 
-/// What is asked.
-pub(crate) fn put_what(out: &mut Vec<u8>, teller: &Teller, what: &What) -> Result<(), Memory>
-    ensures { OnOk result (out.new.items ≡ out.old.items ++ what_text teller.now.program.now teller.now.names what.now) }
+/// What is asked, by the blocks in which it reads and writes memory.
+pub(crate) fn put_what(
+    out: &mut Vec<u8>,
+    teller: &Teller,
+    near: Near,
+    what: &What,
+) -> Result<(), Memory>
+    ensures { OnOk result (out.new.items ≡ out.old.items ++ what_text teller.now.program.now teller.now.names near what.now) }
 {
     let program = teller.program;
     match what {
-        What::Load { at, width } => put_load(out, program, *at, *width),
-        What::Store { at, value } => put_store(out, program, *at, *value),
-        What::Copy { to, from, len } => put_copy(out, program, *to, *from, *len),
-        What::Fill { to, byte, len } => put_fill(out, program, *to, *byte, *len),
+        What::Load { at, width } => put_load(out, program, spot_of(*at, near.to), *width),
+        What::Store { at, value } => put_store(out, program, spot_of(*at, near.to), *value),
+        What::Copy { to, from, len } => {
+            put_copy(
+                out,
+                program,
+                spot_of(*to, near.to),
+                spot_of(*from, near.from),
+                *len,
+            )
+        }
+        What::Fill { to, byte, len } => put_fill(out, program, spot_of(*to, near.to), *byte, *len),
         What::Alloca { at, size } => put_room(out, "alloca ", *size, *at),
         What::Enter { way, args } => put_enter(out, program, *way, args),
         What::Perform {

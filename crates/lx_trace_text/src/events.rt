@@ -1,11 +1,15 @@
 //! Events and what is answered.
 
-ghost use Rattle.std.specs.Prelude.{◌≡◌, ◌++◌, IfOk, OnOk, flat_map};
-ghost use Rattle.std.specs.List.{enumerate_from};
-ghost use Rattle.lx_trace_text.specs.Text.{asker_text, call_text, end_of, end_word, entered_text, event_line, event_line_of, event_opening, exchange_text, kind_text, reply_text};
+ghost use Rattle.std.specs.Prelude.{◌≡◌, ◌++◌, IfOk, List, OnOk, flat_map};
+ghost use Rattle.lx_trace_text.specs.Text.{asker_text, call_text, end_of, end_word, entered_text, event_line_of, event_lines, event_opening, exchange_text, kind_text, reply_text};
+ghost use Rattle.lx_trace_text.specs.declared.blocks.Block.{Block as Known};
+ghost use Rattle.lx_trace_text.specs.Blocks.{Holds};
+ghost use Rattle.lx_trace_text.specs.Telling.{Tells};
 
 use crate::Traced;
 use crate::asked::put_what;
+use crate::blocks::{Blocks, Near, apply, near_of};
+use crate::changes::change_of;
 use crate::pieces::{put_site, put_word};
 use lx_caps::Principal;
 use lx_model::account::CallOutcome;
@@ -107,29 +111,55 @@ fn put_reply(out: &mut Vec<u8>, told: &Told, called: u32, reply: Reply) -> Resul
 }
 
 /// What is asked, and what is answered.
-fn put_exchange(out: &mut Vec<u8>, told: &Told, event: &Traced) -> Result<(), Memory>
-    ensures { OnOk result (out.new.items ≡ out.old.items ++ exchange_text told.now.teller.program.now told.now.teller.names event.now) }
+fn put_exchange(out: &mut Vec<u8>, told: &Told, near: Near, event: &Traced) -> Result<(), Memory>
+    ensures { OnOk result (out.new.items ≡ out.old.items ++ exchange_text told.now.teller.program.now told.now.teller.names near event.now) }
 {
-    put_what(out, &told.teller, &event.request.what)?;
+    put_what(out, &told.teller, near, &event.request.what)?;
     put_reply(out, told, event.function, event.reply)
 }
 
 /// The line of the event with this number.
-fn put_event(out: &mut Vec<u8>, told: &Told, n: u64, event: &Traced) -> Result<(), Memory>
-    ensures { OnOk result (out.new.items ≡ out.old.items ++ event_line_of told.now.teller.program.now told.now.teller.names n event.now) }
+fn put_event(
+    out: &mut Vec<u8>,
+    told: &Told,
+    near: Near,
+    n: u64,
+    event: &Traced,
+) -> Result<(), Memory>
+    ensures { OnOk result (out.new.items ≡ out.old.items ++ event_line_of told.now.teller.program.now told.now.teller.names near n event.now) }
 {
     put_opening(out, n, event)?;
     put_asker(out, &told.teller, event)?;
-    put_exchange(out, told, event)?;
+    put_exchange(out, told, near, event)?;
     put(out, "\n")
 }
 
+/// The line of an event by the known blocks, and what the event does to them.
+fn put_next(
+    out: &mut Vec<u8>,
+    told: &Told,
+    blocks: &mut Blocks,
+    n: u64,
+    event: &Traced,
+) -> Result<(), Memory>
+    ensures { (bs : List Known) → Holds bs blocks.old → OnOk result (Tells told.now.teller.program.now told.now.teller.names bs n event.now out.old.items out.new.items blocks.new) }
+{
+    let near = near_of(blocks, &event.request.what);
+    put_event(out, told, near, n, event)?;
+    apply(blocks, change_of(n, event))
+}
+
 /// The lines of events, with their numbers from 0.
-pub(crate) fn put_events(out: &mut Vec<u8>, told: &Told, events: &[Traced]) -> Result<(), Memory>
-    ensures { OnOk result (out.new.items ≡ out.old.items ++ flat_map (event_line told.now.teller.program.now told.now.teller.names) (enumerate_from 0 events.now)) }
+pub(crate) fn put_events(
+    out: &mut Vec<u8>,
+    told: &Told,
+    blocks: &mut Blocks,
+    events: &[Traced],
+) -> Result<(), Memory>
+    ensures { (bs : List Known) → Holds bs blocks.old → OnOk result (out.new.items ≡ out.old.items ++ event_lines told.now.teller.program.now told.now.teller.names bs 0 events.now) }
 {
     for (n, event) in events.iter().enumerate() {
-        put_event(out, told, n as u64, event)?;
+        put_next(out, told, blocks, n as u64, event)?;
     }
     Ok(())
 }

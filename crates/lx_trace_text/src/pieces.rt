@@ -3,11 +3,16 @@
 ghost use Rattle.std.specs.Prelude.{◌≡◌, ◌++◌, IfOk, OnOk, flat_map};
 ghost use Rattle.lx_ir.specs.Text.{width_text};
 ghost use Rattle.lx_model.specs.Program.{function_at, numbered};
-ghost use Rattle.lx_trace_text.specs.Text.{args_text, bracketed, further_text, list_text, native_name, site_text, slot_name, spot_text, word_text};
+ghost use Rattle.lx_trace_text.specs.Text.{args_text, block_text, bracketed, function_spot_text, further_text, giver_text, list_text, native_name, site_text, slot_name, spot, spot_text, variable_name, word_text};
+ghost use Rattle.lx_report.specs.Report.{home_text};
+ghost use Rattle.lx_trace_text.specs.Blocks.{variable_of};
+ghost use Rattle.lx_trace_text.specs.declared.blocks.Giver.TheVariants.{Global};
 
 use crate::Site;
+use crate::blocks::{Block, Giver};
+use crate::globals::variable_of;
 use lx_model::program::{Program, ProgramFunction};
-use lx_report::{put, put_address, put_called, put_number, put_signed};
+use lx_report::{put, put_address, put_bytes, put_called, put_number, put_signed};
 use lx_words::{Memory, Width, Word, number_of};
 
 /// The number, if it is that of a function of a text.
@@ -50,12 +55,104 @@ fn put_bracketed(out: &mut Vec<u8>, program: &Program, function: Option<u32>) ->
 }
 
 /// An address, and the function whose address it is.
-pub(crate) fn put_spot(out: &mut Vec<u8>, program: &Program, at: u64) -> Result<(), Memory>
-    ensures { OnOk result (out.new.items ≡ out.old.items ++ spot_text program.now at) }
+pub(crate) fn put_function_spot(out: &mut Vec<u8>, program: &Program, at: u64) -> Result<(), Memory>
+    ensures { OnOk result (out.new.items ≡ out.old.items ++ function_spot_text program.now at) }
 {
     let function = function_at(program, at)?;
     put_address(out, at)?;
     put_bracketed(out, program, function)
+}
+
+/// An address, and the block in which it lies.
+#[derive(Clone, Copy)]
+pub(crate) struct Spot {
+    at: u64,
+    block: Option<Block>,
+}
+
+pub(crate) fn spot_of(at: u64, block: Option<Block>) -> Spot
+    ensures { result ≡ spot at block }
+{
+    Spot { at, block }
+}
+
+/// The kernel, or the name of a module.
+fn put_home(out: &mut Vec<u8>, program: &Program, home: Option<u32>) -> Result<(), Memory>
+    ensures { OnOk result (out.new.items ≡ out.old.items ++ home_text program.now home) }
+{
+    match home {
+        None => put(out, "kernel"),
+        Some(number) => match program.modules.as_slice().get(number as usize) {
+            Some(module) => put_bytes(out, module.name.as_slice()),
+            None => Ok(()),
+        },
+    }
+}
+
+/// The name of a global.
+fn variable_name(program: &Program, home: Option<u32>, number: u32) -> &[u8]
+    ensures { result.now ≡ variable_name (variable_of program.now home number) }
+{
+    match variable_of(program, home, number) {
+        Some(variable) => variable.name.as_slice(),
+        None => &[],
+    }
+}
+
+/// A global, by the text that defines it and its name there.
+fn put_variable(
+    out: &mut Vec<u8>,
+    program: &Program,
+    home: Option<u32>,
+    number: u32,
+) -> Result<(), Memory>
+    ensures { OnOk result (out.new.items ≡ out.old.items ++ giver_text program.now (Global home number)) }
+{
+    put_home(out, program, home)?;
+    put(out, ":@")?;
+    put_bytes(out, variable_name(program, home, number))
+}
+
+/// What gave a block.
+fn put_giver(out: &mut Vec<u8>, program: &Program, giver: Giver) -> Result<(), Memory>
+    ensures { OnOk result (out.new.items ≡ out.old.items ++ giver_text program.now giver) }
+{
+    match giver {
+        Giver::Global { home, number } => put_variable(out, program, home, number),
+        Giver::Event(n) => {
+            put(out, "event ")?;
+            put_number(out, n)
+        }
+    }
+}
+
+/// A block in brackets, and how far behind its start an address lies in it.
+fn put_block(
+    out: &mut Vec<u8>,
+    program: &Program,
+    at: u64,
+    block: Option<Block>,
+) -> Result<(), Memory>
+    ensures { OnOk result (out.new.items ≡ out.old.items ++ block_text program.now at block) }
+{
+    match block {
+        None => Ok(()),
+        Some(block) => {
+            put(out, " (")?;
+            put_giver(out, program, block.giver)?;
+            put(out, "+")?;
+            put_number(out, at.saturating_sub(block.start))?;
+            put(out, ")")
+        }
+    }
+}
+
+/// An address, and the function whose address it is or the block in which it lies.
+pub(crate) fn put_spot(out: &mut Vec<u8>, program: &Program, spot: Spot) -> Result<(), Memory>
+    ensures { OnOk result (out.new.items ≡ out.old.items ++ spot_text program.now spot) }
+{
+    put_function_spot(out, program, spot.at)?;
+    put_block(out, program, spot.at, spot.block)
 }
 
 /// The place that asks.

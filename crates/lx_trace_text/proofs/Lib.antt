@@ -1,0 +1,3 @@
+mod Nearest
+mod Keeping
+mod Lines
