@@ -1,0 +1,349 @@
+//! The smallest cases, event by event.
+//! Written by `tools/example-texts` from `examples/` and `docs/MANUAL.md`.
+
+/// The smallest cases, event by event: what is run, over which files, and what it writes.
+pub fn first_traces_table() -> &'static str {
+    r#"---- file examples/one.case
+lxfi case 1
+kernel none
+interface none
+module m examples/one.ll
+thread
+call m:main fuel 4
+---- file examples/one.ll
+@g = global i32 0
+define i32 @main() {
+store i32 7, ptr @g
+%v = load i32, ptr @g
+ret i32 %v
+}
+---- file examples/one.schedule
+schedule 0*5
+---- words examples/one.case examples/one.schedule
+---- trace examples/one.case
+---- whole
+status 0
+done 0 0.0 kernel script: calls m:main() enters m:main as m.shared
+done 1 0.0 m.shared m:main:3: store i32 7 at 0x1000000
+done 2 0.0 m.shared m:main:4: load i32 at 0x1000000 = 7
+done 3 0.0 m.shared m:main:5: leaves 0 at 0x3000000
+ends 4 0.0 kernel script: ends: returned 7
+---- file examples/budget.case
+lxfi case 1
+kernel none
+interface none
+module m examples/one.ll
+thread
+call m:main fuel 3
+---- file examples/budget.schedule
+schedule 0*4
+---- words examples/budget.case examples/budget.schedule
+---- trace examples/budget.case
+---- whole
+status 1
+done 0 0.0 kernel script: calls m:main() enters m:main as m.shared
+done 1 0.0 m.shared m:main:3: store i32 7 at 0x1000000
+done 2 0.0 m.shared m:main:4: load i32 at 0x1000000 = 7
+ends 3 0.0 kernel m:main:5: ends: budget
+---- file examples/past.case
+lxfi case 1
+kernel none
+interface none
+module m examples/past.ll
+thread
+call m:main fuel 4
+---- file examples/past.ll
+@g = global i32 0
+define i32 @main() {
+  store i64 7, ptr @g
+  %v = load i32, ptr @g
+  ret i32 %v
+}
+---- file examples/past.schedule
+schedule 0*2
+---- words examples/past.case examples/past.schedule
+---- trace examples/past.case
+---- whole
+status 1
+done 0 0.0 kernel script: calls m:main() enters m:main as m.shared
+refused 1 0.0 m.shared m:main:3: store i64 0x7 at 0x1000000: refused 1 m.shared write 0x1000000+8
+---- file examples/shared.case
+lxfi case 1
+kernel file examples/shared_kernel.ll
+interface file examples/shared.txt
+module m examples/shared.ll
+thread
+call m:make fuel 100
+call m:drop fuel 100
+thread
+call m:poke fuel 100
+---- file examples/shared_kernel.ll
+declare ptr @k.alloc(i64)
+declare void @k.free(ptr)
+define ptr @get(i64 %n) {
+  %p = call ptr @k.alloc(i64 %n)
+  ret ptr %p
+}
+define void @put(ptr %p) {
+  call void @k.free(ptr %p)
+  ret void
+}
+---- file examples/shared.txt
+interface 1
+export get : ptr (i64 n) post(transfer(write, return, n))
+export put : void (ptr p) pre(transfer(write, p, 8))
+---- file examples/shared.ll
+@box = global ptr null
+declare ptr @get(i64)
+declare void @put(ptr)
+define void @make() {
+  %p = call ptr @get(i64 8)
+  store ptr %p, ptr @box
+  ret void
+}
+define void @drop() {
+  %p = load ptr, ptr @box
+  call void @put(ptr %p)
+  ret void
+}
+define void @poke() {
+  %p = load ptr, ptr @box
+  store i64 5, ptr %p
+  store i64 6, ptr %p
+  ret void
+}
+---- file examples/shared.schedule
+schedule 0*8 1*3 0*4 1*1 0*4
+---- words examples/shared.case examples/shared.schedule
+---- trace examples/shared.case
+---- whole
+status 1
+done 0 0.0 kernel script: calls m:make() enters m:make as m.shared
+done 1 0.0 m.shared m:make:5: calls kernel:get(0x8) enters kernel:get as kernel
+done 2 0.0 kernel kernel:get:4: calls k.alloc(0x8) = 0x2000000
+done 3 0.0 kernel kernel:get:5: leaves 0 at 0x3000000
+done 4 0.0 kernel m:make:5: post 0 of kernel:get from kernel to m.shared
+done 5 0.0 m.shared m:make:6: store i64 0x2000000 at 0x1000000
+done 6 0.0 m.shared m:make:7: leaves 0 at 0x3000000
+ends 7 0.0 kernel script: ends: returned
+done 8 1.0 kernel script: calls m:poke() enters m:poke as m.shared
+done 9 1.0 m.shared m:poke:15: load i64 at 0x1000000 = 0x2000000
+done 10 1.0 m.shared m:poke:16: store i64 0x5 at 0x2000000
+done 11 0.1 kernel script: calls m:drop() enters m:drop as m.shared
+done 12 0.1 m.shared m:drop:10: load i64 at 0x1000000 = 0x2000000
+done 13 0.1 m.shared m:drop:11: calls kernel:put(0x2000000) enters kernel:put as kernel
+done 14 0.1 m.shared m:drop:11: pre 0 of kernel:put from m.shared to kernel
+refused 15 1.0 m.shared m:poke:17: store i64 0x6 at 0x2000000: refused 1 m.shared write 0x2000000+8
+done 16 0.1 kernel kernel:put:8: calls k.free(0x2000000)
+done 17 0.1 kernel kernel:put:9: leaves 0 at 0x3000000
+done 18 0.1 m.shared m:drop:12: leaves 0 at 0x3000000
+ends 19 0.1 kernel script: ends: returned
+---- file examples/letters.case
+lxfi case 1
+kernel file examples/letters_kernel.ll
+interface file examples/letters.txt
+module m examples/letters.ll
+thread
+call m:send 3 fuel 100
+call m:send 7 fuel 100
+call m:send_and_write 2 fuel 100
+---- file examples/letters_kernel.ll
+declare ptr @k.alloc(i64)
+declare void @k.note(i64)
+define ptr @box_open(i64 %k) {
+  %b = inttoptr i64 %k to ptr
+  ret ptr %b
+}
+define ptr @letter_new(i64 %n) {
+  %l = call ptr @k.alloc(i64 16)
+  %t = call ptr @k.alloc(i64 %n)
+  store ptr %t, ptr %l
+  %s = getelementptr i8, ptr %l, i64 8
+  store i64 %n, ptr %s
+  ret ptr %l
+}
+define void @letter_send(ptr %b, ptr %l) {
+  %s = getelementptr i8, ptr %l, i64 8
+  %n = load i64, ptr %s
+  call void @k.note(i64 %n)
+  ret void
+}
+---- file examples/letters.txt
+interface 1
+reftype box
+# a letter is its head of 16 bytes, and the text that the head points to
+iterator letter(p) { write p, 16; write load64(p), load64(p + 8) }
+export box_open : ptr (i64 k) post(if (k < 4) copy(ref(box), return))
+export letter_new : ptr (i64 n) post(if (return != 0) transfer(letter(return)))
+export letter_send : void (ptr b, ptr l) pre(check(ref(box), b)) pre(transfer(letter(l)))
+---- file examples/letters.ll
+declare ptr @box_open(i64)
+declare ptr @letter_new(i64)
+declare void @letter_send(ptr, ptr)
+define void @send(i64 %k) {
+  %b = call ptr @box_open(i64 %k)
+  %l = call ptr @letter_new(i64 8)
+  %t = load ptr, ptr %l
+  store i64 7, ptr %t
+  call void @letter_send(ptr %b, ptr %l)
+  ret void
+}
+define void @send_and_write(i64 %k) {
+  %b = call ptr @box_open(i64 %k)
+  %l = call ptr @letter_new(i64 8)
+  %t = load ptr, ptr %l
+  call void @letter_send(ptr %b, ptr %l)
+  store i64 7, ptr %t
+  ret void
+}
+---- file examples/letters.schedule
+schedule 0*55
+---- words examples/letters.case examples/letters.schedule
+---- trace examples/letters.case
+---- whole
+status 1
+done 0 0.0 kernel script: calls m:send(0x3) enters m:send as m.shared
+done 1 0.0 m.shared m:send:5: calls kernel:box_open(0x3) enters kernel:box_open as kernel
+done 2 0.0 kernel kernel:box_open:5: leaves 0 at 0x3000000
+done 3 0.0 kernel m:send:5: post 0 of kernel:box_open from kernel to m.shared
+done 4 0.0 m.shared m:send:6: calls kernel:letter_new(0x8) enters kernel:letter_new as kernel
+done 5 0.0 kernel kernel:letter_new:8: calls k.alloc(0x10) = 0x2000000
+done 6 0.0 kernel kernel:letter_new:9: calls k.alloc(0x8) = 0x2000010
+done 7 0.0 kernel kernel:letter_new:10: store i64 0x2000010 at 0x2000000
+done 8 0.0 kernel kernel:letter_new:12: store i64 0x8 at 0x2000008
+done 9 0.0 kernel kernel:letter_new:13: leaves 0 at 0x3000000
+done 10 0.0 kernel m:send:6: post 0 of kernel:letter_new from kernel to m.shared
+done 11 0.0 m.shared m:send:7: load i64 at 0x2000000 = 0x2000010
+done 12 0.0 m.shared m:send:8: store i64 0x7 at 0x2000010
+done 13 0.0 m.shared m:send:9: calls kernel:letter_send(0x3, 0x2000000) enters kernel:letter_send as kernel
+done 14 0.0 m.shared m:send:9: pre 0 of kernel:letter_send from m.shared to kernel
+done 15 0.0 m.shared m:send:9: pre 1 of kernel:letter_send from m.shared to kernel
+done 16 0.0 kernel kernel:letter_send:17: load i64 at 0x2000008 = 0x8
+done 17 0.0 kernel kernel:letter_send:18: calls k.note(0x8)
+done 18 0.0 kernel kernel:letter_send:19: leaves 0 at 0x3000000
+done 19 0.0 m.shared m:send:10: leaves 0 at 0x3000000
+ends 20 0.0 kernel script: ends: returned
+done 21 0.1 kernel script: calls m:send(0x7) enters m:send as m.shared
+done 22 0.1 m.shared m:send:5: calls kernel:box_open(0x7) enters kernel:box_open as kernel
+done 23 0.1 kernel kernel:box_open:5: leaves 0 at 0x3000000
+done 24 0.1 kernel m:send:5: post 0 of kernel:box_open from kernel to m.shared
+done 25 0.1 m.shared m:send:6: calls kernel:letter_new(0x8) enters kernel:letter_new as kernel
+done 26 0.1 kernel kernel:letter_new:8: calls k.alloc(0x10) = 0x2000020
+done 27 0.1 kernel kernel:letter_new:9: calls k.alloc(0x8) = 0x2000030
+done 28 0.1 kernel kernel:letter_new:10: store i64 0x2000030 at 0x2000020
+done 29 0.1 kernel kernel:letter_new:12: store i64 0x8 at 0x2000028
+done 30 0.1 kernel kernel:letter_new:13: leaves 0 at 0x3000000
+done 31 0.1 kernel m:send:6: post 0 of kernel:letter_new from kernel to m.shared
+done 32 0.1 m.shared m:send:7: load i64 at 0x2000020 = 0x2000030
+done 33 0.1 m.shared m:send:8: store i64 0x7 at 0x2000030
+done 34 0.1 m.shared m:send:9: calls kernel:letter_send(0x7, 0x2000020) enters kernel:letter_send as kernel
+refused 35 0.1 m.shared m:send:9: pre 0 of kernel:letter_send from m.shared to kernel: refused 3 m.shared ref box 0x7
+done 36 0.2 kernel script: calls m:send_and_write(0x2) enters m:send_and_write as m.shared
+done 37 0.2 m.shared m:send_and_write:13: calls kernel:box_open(0x2) enters kernel:box_open as kernel
+done 38 0.2 kernel kernel:box_open:5: leaves 0 at 0x3000000
+done 39 0.2 kernel m:send_and_write:13: post 0 of kernel:box_open from kernel to m.shared
+done 40 0.2 m.shared m:send_and_write:14: calls kernel:letter_new(0x8) enters kernel:letter_new as kernel
+done 41 0.2 kernel kernel:letter_new:8: calls k.alloc(0x10) = 0x2000040
+done 42 0.2 kernel kernel:letter_new:9: calls k.alloc(0x8) = 0x2000050
+done 43 0.2 kernel kernel:letter_new:10: store i64 0x2000050 at 0x2000040
+done 44 0.2 kernel kernel:letter_new:12: store i64 0x8 at 0x2000048
+done 45 0.2 kernel kernel:letter_new:13: leaves 0 at 0x3000000
+done 46 0.2 kernel m:send_and_write:14: post 0 of kernel:letter_new from kernel to m.shared
+done 47 0.2 m.shared m:send_and_write:15: load i64 at 0x2000040 = 0x2000050
+done 48 0.2 m.shared m:send_and_write:16: calls kernel:letter_send(0x2, 0x2000040) enters kernel:letter_send as kernel
+done 49 0.2 m.shared m:send_and_write:16: pre 0 of kernel:letter_send from m.shared to kernel
+done 50 0.2 m.shared m:send_and_write:16: pre 1 of kernel:letter_send from m.shared to kernel
+done 51 0.2 kernel kernel:letter_send:17: load i64 at 0x2000048 = 0x8
+done 52 0.2 kernel kernel:letter_send:18: calls k.note(0x8)
+done 53 0.2 kernel kernel:letter_send:19: leaves 0 at 0x3000000
+refused 54 0.2 m.shared m:send_and_write:17: store i64 0x7 at 0x2000050: refused 1 m.shared write 0x2000050+8
+---- file examples/manual/arguments.case
+lxfi case 1
+kernel builtin
+interface builtin
+module m examples/manual/arguments.ll
+thread
+call m:same -5 fuel 9
+call m:same 18446744073709551615 fuel 9
+call m:same 0xff fuel 9
+call m:byte 255 fuel 9
+call m:byte -128 fuel 9
+call m:truth 1 fuel 9
+call m:place &m:word fuel 9
+call m:place &m:same fuel 9
+call m:place &kernel:kmalloc fuel 9
+---- file examples/manual/arguments.ll
+@word = global i64 0
+define i64 @same(i64 %n) {
+  ret i64 %n
+}
+define i8 @byte(i8 %n) {
+  ret i8 %n
+}
+define i1 @truth(i1 %t) {
+  ret i1 %t
+}
+define ptr @place(ptr %p) {
+  ret ptr %p
+}
+---- file examples/manual/arguments.schedule
+schedule 0*27
+---- words examples/manual/arguments.case examples/manual/arguments.schedule
+---- trace examples/manual/arguments.case
+---- whole
+status 0
+done 0 0.0 kernel script: calls m:same(0xfffffffffffffffb) enters m:same as m.shared
+done 1 0.0 m.shared m:same:3: leaves 0 at 0x3000000
+ends 2 0.0 kernel script: ends: returned -5
+done 3 0.1 kernel script: calls m:same(0xffffffffffffffff) enters m:same as m.shared
+done 4 0.1 m.shared m:same:3: leaves 0 at 0x3000000
+ends 5 0.1 kernel script: ends: returned -1
+done 6 0.2 kernel script: calls m:same(0xff) enters m:same as m.shared
+done 7 0.2 m.shared m:same:3: leaves 0 at 0x3000000
+ends 8 0.2 kernel script: ends: returned 255
+done 9 0.3 kernel script: calls m:byte(-1) enters m:byte as m.shared
+done 10 0.3 m.shared m:byte:6: leaves 0 at 0x3000000
+ends 11 0.3 kernel script: ends: returned -1
+done 12 0.4 kernel script: calls m:byte(-128) enters m:byte as m.shared
+done 13 0.4 m.shared m:byte:6: leaves 0 at 0x3000000
+ends 14 0.4 kernel script: ends: returned -128
+done 15 0.5 kernel script: calls m:truth(1) enters m:truth as m.shared
+done 16 0.5 m.shared m:truth:9: leaves 0 at 0x3000000
+ends 17 0.5 kernel script: ends: returned 1
+done 18 0.6 kernel script: calls m:place(0x10000e0) enters m:place as m.shared
+done 19 0.6 m.shared m:place:12: leaves 0 at 0x3000000
+ends 20 0.6 kernel script: ends: returned 0x10000e0
+done 21 0.7 kernel script: calls m:place(0x10130) enters m:place as m.shared
+done 22 0.7 m.shared m:place:12: leaves 0 at 0x3000000
+ends 23 0.7 kernel script: ends: returned 0x10130
+done 24 0.8 kernel script: calls m:place(0x10060) enters m:place as m.shared
+done 25 0.8 m.shared m:place:12: leaves 0 at 0x3000000
+ends 26 0.8 kernel script: ends: returned 0x10060
+---- file examples/manual/quiet.case
+lxfi case 1
+kernel none
+interface none
+module m examples/manual/quiet.ll
+thread
+call m:f 5 fuel 100
+---- file examples/manual/quiet.ll
+define i32 @f(i32 %a) {
+  %s = alloca i32
+  store i32 %a, ptr %s
+  %v = load i32, ptr %s
+  ret i32 %v
+}
+---- file examples/manual/quiet.schedule
+schedule 0*6
+---- words examples/manual/quiet.case examples/manual/quiet.schedule
+---- trace examples/manual/quiet.case
+---- whole
+status 0
+done 0 0.0 kernel script: calls m:f(5) enters m:f as m.shared
+done 1 0.0 m.shared m:f:2: alloca 4 at 0x3000000
+done 2 0.0 m.shared m:f:3: store i32 5 at 0x3000000
+done 3 0.0 m.shared m:f:4: load i32 at 0x3000000 = 5
+done 4 0.0 m.shared m:f:5: leaves 4 at 0x3000000
+ends 5 0.0 kernel script: ends: returned 5
+"#
+}

@@ -1,0 +1,555 @@
+//! What the manual teaches of loans, starts and what is let through, event by event.
+//! Written by `tools/example-texts` from `examples/` and `docs/MANUAL.md`.
+
+/// What the manual teaches of loans, starts and what is let through, event by event: what is run, over which files, and what it writes.
+pub fn lesson_traces_table() -> &'static str {
+    r#"---- file examples/manual/lend.case
+lxfi case 1
+kernel builtin
+interface file examples/manual/lend.txt
+module m examples/manual/lend.ll
+thread
+call m:init fuel 100
+call kernel:skb_new 8 fuel 100
+call kernel:do_xmit 0 0x2000010 fuel 100
+call kernel:do_probe 0 fuel 100
+---- file examples/manual/lend.txt
+interface 2
+reftype device
+iterator skb_caps(p) { write p, 24; write load64(p), load64(p + 8) }
+slot probe : i32 (ptr dev) principal(dev) pre(copy(ref(device), dev)) post(if (return < 0) transfer(ref(device), dev))
+slot xmit : i32 (ptr skb, ptr dev) principal(dev) pre(lend(skb_caps(skb)))
+field %struct.dev_ops 0 : probe
+field %struct.dev_ops 1 : xmit
+export kmalloc : ptr (i64 n) post(if (return != 0) transfer(write, return, n))
+export kzalloc : ptr (i64 n) post(if (return != 0) transfer(write, return, n))
+export kfree : void (ptr p) pre(if (p != 0) transfer(write, p, load64(p - 16)))
+export dev_register : ptr (ptr ops)
+export dev_set_priv : void (ptr dev, ptr v) pre(check(ref(device), dev))
+export dev_zero : void (ptr p, i64 n) pre(check(write, p, n))
+export dev_wipe : void (ptr p, i64 n) pre(transfer(write, p, n)) post(transfer(write, p, n))
+export skb_new : ptr (i64 n) post(if (return != 0) transfer(write, return, 24)) post(if (return != 0) transfer(write, load64(return), n))
+export netif_rx : i32 (ptr skb) pre(transfer(skb_caps(skb)))
+export hook_get : ptr () post(copy(call, return))
+export hook_fn : i64 (i64 x)
+---- file examples/manual/lend.ll
+%struct.dev_ops = type { ptr, ptr }
+@ops = global %struct.dev_ops { ptr @probe, ptr @xmit }
+@keep = global ptr null
+declare ptr @dev_register(ptr)
+define void @init() {
+  %d = call ptr @dev_register(ptr @ops)
+  ret void
+}
+define i32 @probe(ptr %d) {
+  %b = load ptr, ptr @keep
+  store i64 6, ptr %b
+  ret i32 0
+}
+define i32 @xmit(ptr %s, ptr %d) {
+  %b = load ptr, ptr %s
+  store i64 5, ptr %b
+  store ptr %b, ptr @keep
+  ret i32 0
+}
+---- file examples/manual/lend.schedule
+schedule 0*39
+---- words examples/manual/lend.case examples/manual/lend.schedule
+---- trace examples/manual/lend.case
+---- whole
+status 1
+done 0 0.0 kernel script: calls m:init() enters m:init as m.shared
+done 1 0.0 m.shared m:init:6: calls kernel:dev_register(0x10000e0) enters kernel:dev_register as kernel
+done 2 0.0 kernel kernel:dev_register:56: calls k.try_lock(0x1000000) = 1
+done 3 0.0 kernel kernel:dev_register:60: load i64 at 0x1000010 = 0x0
+done 4 0.0 kernel kernel:dev_register:65: store i64 0x10000e0 at 0x1000020
+done 5 0.0 kernel kernel:dev_register:67: store i64 0x0 at 0x1000028
+done 6 0.0 kernel kernel:dev_register:69: store i64 0x1 at 0x1000010
+done 7 0.0 kernel kernel:dev_register:73: store i32 0 at 0x1000000
+done 8 0.0 kernel kernel:dev_register:74: leaves 0 at 0x3000000
+done 9 0.0 m.shared m:init:7: leaves 0 at 0x3000000
+ends 10 0.0 kernel script: ends: returned
+done 11 0.1 kernel script: calls kernel:skb_new(0x8) enters kernel:skb_new as kernel
+done 12 0.1 kernel kernel:kmalloc:20: calls k.alloc(0x28) = 0x2000000
+done 13 0.1 kernel kernel:kmalloc:24: store i64 0x18 at 0x2000000
+done 14 0.1 kernel kernel:kmalloc:26: leaves 0 at 0x3000000
+done 15 0.1 kernel kernel:kmalloc:20: calls k.alloc(0x18) = 0x2000030
+done 16 0.1 kernel kernel:kmalloc:24: store i64 0x8 at 0x2000030
+done 17 0.1 kernel kernel:kmalloc:26: leaves 0 at 0x3000000
+done 18 0.1 kernel kernel:skb_new:102: store i64 0x2000040 at 0x2000010
+done 19 0.1 kernel kernel:skb_new:104: store i64 0x8 at 0x2000018
+done 20 0.1 kernel kernel:skb_new:105: leaves 0 at 0x3000000
+ends 21 0.1 kernel script: ends: returned 0x2000010
+done 22 0.2 kernel script: calls kernel:do_xmit(0x0, 0x2000010) enters kernel:do_xmit as kernel
+done 23 0.2 kernel kernel:do_xmit:138: load i64 at 0x1000020 = 0x10000e0
+done 24 0.2 kernel kernel:do_xmit:140: calls slot xmit at 0x10000e8(0x2000010, 0x1000020) enters m:xmit as m[0x1000020]
+done 25 0.2 kernel kernel:do_xmit:140: pre 0 of m:xmit from kernel to m[0x1000020]
+done 26 0.2 m[0x1000020] m:xmit:15: load i64 at 0x2000010 = 0x2000040
+done 27 0.2 m[0x1000020] m:xmit:16: store i64 0x5 at 0x2000040
+done 28 0.2 m[0x1000020] m:xmit:17: store i64 0x2000040 at 0x10000f0
+done 29 0.2 m[0x1000020] m:xmit:18: leaves 0 at 0x3000000
+done 30 0.2 m[0x1000020] kernel:do_xmit:140: post 0 of m:xmit from m[0x1000020] to kernel
+done 31 0.2 kernel kernel:do_xmit:141: leaves 0 at 0x3000000
+ends 32 0.2 kernel script: ends: returned 0
+done 33 0.3 kernel script: calls kernel:do_probe(0x0) enters kernel:do_probe as kernel
+done 34 0.3 kernel kernel:do_probe:131: load i64 at 0x1000020 = 0x10000e0
+done 35 0.3 kernel kernel:do_probe:132: calls slot probe at 0x10000e0(0x1000020) enters m:probe as m[0x1000020]
+done 36 0.3 kernel kernel:do_probe:132: pre 0 of m:probe from kernel to m[0x1000020]
+done 37 0.3 m[0x1000020] m:probe:10: load i64 at 0x10000f0 = 0x2000040
+refused 38 0.3 m[0x1000020] m:probe:11: store i64 0x6 at 0x2000040: refused 1 m[0x1000020] write 0x2000040+8
+---- file examples/manual/lend_on.case
+lxfi case 1
+kernel builtin
+interface file examples/manual/lend.txt
+module m examples/manual/lend_on.ll
+thread
+call m:init fuel 100
+call kernel:skb_new 8 fuel 100
+call kernel:do_xmit 0 0x2000010 fuel 100
+---- file examples/manual/lend_on.ll
+%struct.dev_ops = type { ptr, ptr }
+@ops = global %struct.dev_ops { ptr @probe, ptr @xmit }
+declare ptr @dev_register(ptr)
+declare i32 @netif_rx(ptr)
+define void @init() {
+  %d = call ptr @dev_register(ptr @ops)
+  ret void
+}
+define i32 @probe(ptr %d) {
+  ret i32 0
+}
+define i32 @xmit(ptr %s, ptr %d) {
+  %r = call i32 @netif_rx(ptr %s)
+  ret i32 %r
+}
+---- file examples/manual/lend_on.schedule
+schedule 0*28
+---- words examples/manual/lend_on.case examples/manual/lend_on.schedule
+---- trace examples/manual/lend_on.case
+---- whole
+status 1
+done 0 0.0 kernel script: calls m:init() enters m:init as m.shared
+done 1 0.0 m.shared m:init:6: calls kernel:dev_register(0x10000e0) enters kernel:dev_register as kernel
+done 2 0.0 kernel kernel:dev_register:56: calls k.try_lock(0x1000000) = 1
+done 3 0.0 kernel kernel:dev_register:60: load i64 at 0x1000010 = 0x0
+done 4 0.0 kernel kernel:dev_register:65: store i64 0x10000e0 at 0x1000020
+done 5 0.0 kernel kernel:dev_register:67: store i64 0x0 at 0x1000028
+done 6 0.0 kernel kernel:dev_register:69: store i64 0x1 at 0x1000010
+done 7 0.0 kernel kernel:dev_register:73: store i32 0 at 0x1000000
+done 8 0.0 kernel kernel:dev_register:74: leaves 0 at 0x3000000
+done 9 0.0 m.shared m:init:7: leaves 0 at 0x3000000
+ends 10 0.0 kernel script: ends: returned
+done 11 0.1 kernel script: calls kernel:skb_new(0x8) enters kernel:skb_new as kernel
+done 12 0.1 kernel kernel:kmalloc:20: calls k.alloc(0x28) = 0x2000000
+done 13 0.1 kernel kernel:kmalloc:24: store i64 0x18 at 0x2000000
+done 14 0.1 kernel kernel:kmalloc:26: leaves 0 at 0x3000000
+done 15 0.1 kernel kernel:kmalloc:20: calls k.alloc(0x18) = 0x2000030
+done 16 0.1 kernel kernel:kmalloc:24: store i64 0x8 at 0x2000030
+done 17 0.1 kernel kernel:kmalloc:26: leaves 0 at 0x3000000
+done 18 0.1 kernel kernel:skb_new:102: store i64 0x2000040 at 0x2000010
+done 19 0.1 kernel kernel:skb_new:104: store i64 0x8 at 0x2000018
+done 20 0.1 kernel kernel:skb_new:105: leaves 0 at 0x3000000
+ends 21 0.1 kernel script: ends: returned 0x2000010
+done 22 0.2 kernel script: calls kernel:do_xmit(0x0, 0x2000010) enters kernel:do_xmit as kernel
+done 23 0.2 kernel kernel:do_xmit:138: load i64 at 0x1000020 = 0x10000e0
+done 24 0.2 kernel kernel:do_xmit:140: calls slot xmit at 0x10000e8(0x2000010, 0x1000020) enters m:xmit as m[0x1000020]
+done 25 0.2 kernel kernel:do_xmit:140: pre 0 of m:xmit from kernel to m[0x1000020]
+done 26 0.2 m[0x1000020] m:xmit:13: calls kernel:netif_rx(0x2000010) enters kernel:netif_rx as kernel
+refused 27 0.2 m[0x1000020] m:xmit:13: pre 0 of kernel:netif_rx from m[0x1000020] to kernel: refused 10 m[0x1000020] write 0x2000010+24
+---- file examples/manual/start.case
+lxfi case 1
+kernel file examples/manual/start_kernel.ll
+interface file examples/manual/timer.txt
+module t examples/manual/timer.ll
+thread
+call t:start fuel 100
+call kernel:open fuel 10
+thread
+call kernel:wait fuel 100000
+call kernel:do_tick 7 fuel 100
+call t:read_last fuel 100
+---- file examples/manual/start_kernel.ll
+@timer = global ptr null
+@shut = global i32 1
+declare void @k.slot.tick(ptr, i64)
+define void @timer_set(ptr %fn) {
+  store ptr %fn, ptr @timer
+  ret void
+}
+define void @do_tick(i64 %now) {
+  call void @k.slot.tick(ptr @timer, i64 %now)
+  ret void
+}
+define void @open() {
+  store i32 0, ptr @shut
+  ret void
+}
+define void @wait() {
+  br label %look
+look:
+  %shut = load i32, ptr @shut
+  %again = icmp ne i32 %shut, 0
+  br i1 %again, label %look, label %on
+on:
+  ret void
+}
+---- file examples/manual/start.schedule
+schedule 1*4 0*12 1*16
+---- words examples/manual/start.case examples/manual/start.schedule
+---- trace examples/manual/start.case
+---- whole
+status 0
+done 0 1.0 kernel script: calls kernel:wait() enters kernel:wait as kernel
+done 1 1.0 kernel kernel:wait:19: load i32 at 0x1000010 = 1
+done 2 1.0 kernel kernel:wait:19: load i32 at 0x1000010 = 1
+done 3 1.0 kernel kernel:wait:19: load i32 at 0x1000010 = 1
+done 4 0.0 kernel script: calls t:start() enters t:start as t.shared
+done 5 0.0 t.shared t:start:13: load i64 at 0x1000020 = 0x100d0
+done 6 0.0 t.shared t:start:14: calls kernel:timer_set(0x100d0) enters kernel:timer_set as kernel
+done 7 0.0 t.shared t:start:14: pre 0 of kernel:timer_set from t.shared to kernel
+done 8 0.0 kernel kernel:timer_set:5: store i64 0x100d0 at 0x1000000
+done 9 0.0 kernel kernel:timer_set:6: leaves 0 at 0x3000000
+done 10 0.0 t.shared t:start:15: leaves 0 at 0x3000000
+ends 11 0.0 kernel script: ends: returned
+done 12 0.1 kernel script: calls kernel:open() enters kernel:open as kernel
+done 13 0.1 kernel kernel:open:13: store i32 0 at 0x1000010
+done 14 0.1 kernel kernel:open:14: leaves 0 at 0x3000000
+ends 15 0.1 kernel script: ends: returned
+done 16 1.0 kernel kernel:wait:19: load i32 at 0x1000010 = 0
+done 17 1.0 kernel kernel:wait:23: leaves 0 at 0x3010000
+ends 18 1.0 kernel script: ends: returned
+done 19 1.1 kernel script: calls kernel:do_tick(0x7) enters kernel:do_tick as kernel
+done 20 1.1 kernel kernel:do_tick:9: calls slot tick at 0x1000000(0x7) enters t:on_tick as t.shared
+done 21 1.1 t.shared t:on_tick:34: alloca 8 at 0x3010000
+done 22 1.1 t.shared t:on_tick:35: store i64 0x7 at 0x3010000
+done 23 1.1 t.shared t:on_tick:36: load i64 at 0x3010000 = 0x7
+done 24 1.1 t.shared t:on_tick:37: store i64 0x7 at 0x1000030
+done 25 1.1 t.shared t:on_tick:38: leaves 8 at 0x3010000
+done 26 1.1 kernel kernel:do_tick:10: leaves 0 at 0x3010000
+ends 27 1.1 kernel script: ends: returned
+done 28 1.2 kernel script: calls t:read_last() enters t:read_last as t.shared
+done 29 1.2 t.shared t:read_last:28: load i64 at 0x1000030 = 0x7
+done 30 1.2 t.shared t:read_last:29: leaves 0 at 0x3010000
+ends 31 1.2 kernel script: ends: returned 7
+---- file examples/manual/start_early.case
+lxfi case 1
+kernel file examples/manual/start_kernel.ll
+interface file examples/manual/timer.txt
+module t examples/manual/timer.ll
+thread
+call t:start fuel 100
+thread
+call kernel:do_tick 7 fuel 100
+call t:read_last fuel 100
+---- file examples/manual/start_early.schedule
+schedule 1*6 0*8
+---- words examples/manual/start_early.case examples/manual/start_early.schedule
+---- trace examples/manual/start_early.case
+---- whole
+status 1
+done 0 1.0 kernel script: calls kernel:do_tick(0x7) enters kernel:do_tick as kernel
+refused 1 1.0 kernel kernel:do_tick:9: calls slot tick at 0x1000000(0x7): refused 4 kernel call 0x0
+done 2 1.1 kernel script: calls t:read_last() enters t:read_last as t.shared
+done 3 1.1 t.shared t:read_last:28: load i64 at 0x1000030 = 0x0
+done 4 1.1 t.shared t:read_last:29: leaves 0 at 0x3010000
+ends 5 1.1 kernel script: ends: returned 0
+done 6 0.0 kernel script: calls t:start() enters t:start as t.shared
+done 7 0.0 t.shared t:start:13: load i64 at 0x1000020 = 0x100d0
+done 8 0.0 t.shared t:start:14: calls kernel:timer_set(0x100d0) enters kernel:timer_set as kernel
+done 9 0.0 t.shared t:start:14: pre 0 of kernel:timer_set from t.shared to kernel
+done 10 0.0 kernel kernel:timer_set:5: store i64 0x100d0 at 0x1000000
+done 11 0.0 kernel kernel:timer_set:6: leaves 0 at 0x3000000
+done 12 0.0 t.shared t:start:15: leaves 0 at 0x3000000
+ends 13 0.0 kernel script: ends: returned
+---- file examples/manual/held.case
+lxfi case 1
+kernel file examples/manual/held_kernel.ll
+interface file examples/manual/timer.txt
+module m examples/manual/held.ll
+thread
+call m:start fuel 100
+call kernel:locked_tick 7 fuel 100
+call kernel:locked_tick 8 fuel 100
+call kernel:counted_tick 9 fuel 100
+call kernel:count fuel 10
+call kernel:mend fuel 10
+call kernel:careful_tick 10 fuel 100
+call kernel:careful_tick 11 fuel 100
+---- file examples/manual/held_kernel.ll
+@timer = global ptr null
+@lock = global i32 0
+@inside = global i64 0
+@asked = global i64 0
+declare i32 @k.try_lock(ptr)
+declare void @k.slot.tick(ptr, i64)
+define void @timer_set(ptr %fn) {
+  store ptr %fn, ptr @timer
+  ret void
+}
+define i32 @locked_tick(i64 %now) {
+  %got = call i32 @k.try_lock(ptr @lock)
+  %free = icmp ne i32 %got, 0
+  br i1 %free, label %go, label %busy
+go:
+  call void @k.slot.tick(ptr @timer, i64 %now)
+  store i32 0, ptr @lock
+  ret i32 0
+busy:
+  ret i32 -16
+}
+define void @counted_tick(i64 %now) {
+  %before = load i64, ptr @inside
+  %more = add i64 %before, 1
+  store i64 %more, ptr @inside
+  call void @k.slot.tick(ptr @timer, i64 %now)
+  store i64 %before, ptr @inside
+  ret void
+}
+define i32 @careful_tick(i64 %now) {
+  %got = call i32 @k.try_lock(ptr @lock)
+  %free = icmp ne i32 %got, 0
+  br i1 %free, label %go, label %busy
+go:
+  store i64 %now, ptr @asked
+  store i32 0, ptr @lock
+  call void @k.slot.tick(ptr @timer, i64 %now)
+  ret i32 0
+busy:
+  ret i32 -16
+}
+define i64 @count() {
+  %v = load i64, ptr @inside
+  ret i64 %v
+}
+define void @mend() {
+  store i32 0, ptr @lock
+  store i64 0, ptr @inside
+  ret void
+}
+---- file examples/manual/held.ll
+%struct.timer = type { ptr }
+@table = global %struct.timer { ptr @on_tick }
+@last = global i32 0
+declare void @timer_set(ptr)
+define void @start() {
+  %fn = load ptr, ptr @table
+  call void @timer_set(ptr %fn)
+  ret void
+}
+define void @on_tick(i64 %now) {
+  store i64 %now, ptr @last
+  ret void
+}
+---- file examples/manual/held.schedule
+schedule 0*42
+---- words examples/manual/held.case examples/manual/held.schedule
+---- trace examples/manual/held.case
+---- whole
+status 1
+done 0 0.0 kernel script: calls m:start() enters m:start as m.shared
+done 1 0.0 m.shared m:start:6: load i64 at 0x1000040 = 0x100d0
+done 2 0.0 m.shared m:start:7: calls kernel:timer_set(0x100d0) enters kernel:timer_set as kernel
+done 3 0.0 m.shared m:start:7: pre 0 of kernel:timer_set from m.shared to kernel
+done 4 0.0 kernel kernel:timer_set:8: store i64 0x100d0 at 0x1000000
+done 5 0.0 kernel kernel:timer_set:9: leaves 0 at 0x3000000
+done 6 0.0 m.shared m:start:8: leaves 0 at 0x3000000
+ends 7 0.0 kernel script: ends: returned
+done 8 0.1 kernel script: calls kernel:locked_tick(0x7) enters kernel:locked_tick as kernel
+done 9 0.1 kernel kernel:locked_tick:12: calls k.try_lock(0x1000010) = 1
+done 10 0.1 kernel kernel:locked_tick:16: calls slot tick at 0x1000000(0x7) enters m:on_tick as m.shared
+refused 11 0.1 m.shared m:on_tick:11: store i64 0x7 at 0x1000050: refused 1 m.shared write 0x1000050+8
+done 12 0.2 kernel script: calls kernel:locked_tick(0x8) enters kernel:locked_tick as kernel
+done 13 0.2 kernel kernel:locked_tick:12: calls k.try_lock(0x1000010) = 0
+done 14 0.2 kernel kernel:locked_tick:20: leaves 0 at 0x3000000
+ends 15 0.2 kernel script: ends: returned -16
+done 16 0.3 kernel script: calls kernel:counted_tick(0x9) enters kernel:counted_tick as kernel
+done 17 0.3 kernel kernel:counted_tick:23: load i64 at 0x1000020 = 0x0
+done 18 0.3 kernel kernel:counted_tick:25: store i64 0x1 at 0x1000020
+done 19 0.3 kernel kernel:counted_tick:26: calls slot tick at 0x1000000(0x9) enters m:on_tick as m.shared
+refused 20 0.3 m.shared m:on_tick:11: store i64 0x9 at 0x1000050: refused 1 m.shared write 0x1000050+8
+done 21 0.4 kernel script: calls kernel:count() enters kernel:count as kernel
+done 22 0.4 kernel kernel:count:43: load i64 at 0x1000020 = 0x1
+done 23 0.4 kernel kernel:count:44: leaves 0 at 0x3000000
+ends 24 0.4 kernel script: ends: returned 1
+done 25 0.5 kernel script: calls kernel:mend() enters kernel:mend as kernel
+done 26 0.5 kernel kernel:mend:47: store i32 0 at 0x1000010
+done 27 0.5 kernel kernel:mend:48: store i64 0x0 at 0x1000020
+done 28 0.5 kernel kernel:mend:49: leaves 0 at 0x3000000
+ends 29 0.5 kernel script: ends: returned
+done 30 0.6 kernel script: calls kernel:careful_tick(0xa) enters kernel:careful_tick as kernel
+done 31 0.6 kernel kernel:careful_tick:31: calls k.try_lock(0x1000010) = 1
+done 32 0.6 kernel kernel:careful_tick:35: store i64 0xa at 0x1000030
+done 33 0.6 kernel kernel:careful_tick:36: store i32 0 at 0x1000010
+done 34 0.6 kernel kernel:careful_tick:37: calls slot tick at 0x1000000(0xa) enters m:on_tick as m.shared
+refused 35 0.6 m.shared m:on_tick:11: store i64 0xa at 0x1000050: refused 1 m.shared write 0x1000050+8
+done 36 0.7 kernel script: calls kernel:careful_tick(0xb) enters kernel:careful_tick as kernel
+done 37 0.7 kernel kernel:careful_tick:31: calls k.try_lock(0x1000010) = 1
+done 38 0.7 kernel kernel:careful_tick:35: store i64 0xb at 0x1000030
+done 39 0.7 kernel kernel:careful_tick:36: store i32 0 at 0x1000010
+done 40 0.7 kernel kernel:careful_tick:37: calls slot tick at 0x1000000(0xb) enters m:on_tick as m.shared
+refused 41 0.7 m.shared m:on_tick:11: store i64 0xb at 0x1000050: refused 1 m.shared write 0x1000050+8
+---- file examples/manual/uncaught.case
+lxfi case 1
+kernel file examples/manual/uncaught_kernel.ll
+interface file examples/manual/uncaught.txt
+module m examples/manual/uncaught.ll
+thread
+call m:inside fuel 100
+call m:neighbour fuel 100
+call m:look fuel 100
+call m:through fuel 100
+---- file examples/manual/uncaught_kernel.ll
+@secret = global i64 42
+declare ptr @k.alloc(i64)
+define ptr @get(i64 %n) {
+  %p = call ptr @k.alloc(i64 %n)
+  ret ptr %p
+}
+define void @fill(ptr %p, i64 %v) {
+  store i64 %v, ptr %p
+  ret void
+}
+---- file examples/manual/uncaught.txt
+interface 1
+export get : ptr (i64 n) post(if (return != 0) transfer(write, return, n))
+export fill : void (ptr p, i64 v)
+---- file examples/manual/uncaught.ll
+%struct.record = type { [8 x i8], i64 }
+@record = global %struct.record zeroinitializer
+declare ptr @get(i64)
+declare void @fill(ptr, i64)
+define i64 @inside() {
+  %ninth = getelementptr %struct.record, ptr @record, i64 0, i32 0, i64 8
+  store i8 9, ptr %ninth
+  %size = getelementptr %struct.record, ptr @record, i64 0, i32 1
+  %v = load i64, ptr %size
+  ret i64 %v
+}
+define i64 @neighbour() {
+  %a = call ptr @get(i64 16)
+  %b = call ptr @get(i64 16)
+  %behind = getelementptr i8, ptr %a, i64 16
+  store i64 5, ptr %behind
+  %v = load i64, ptr %b
+  ret i64 %v
+}
+define i64 @look() {
+  %v = load i64, ptr inttoptr (i64 16777216 to ptr)
+  ret i64 %v
+}
+define i64 @through() {
+  call void @fill(ptr inttoptr (i64 16777216 to ptr), i64 7)
+  %v = load i64, ptr inttoptr (i64 16777216 to ptr)
+  ret i64 %v
+}
+---- file examples/manual/uncaught.schedule
+schedule 0*29
+---- words examples/manual/uncaught.case examples/manual/uncaught.schedule
+---- trace examples/manual/uncaught.case
+---- whole
+status 0
+done 0 0.0 kernel script: calls m:inside() enters m:inside as m.shared
+done 1 0.0 m.shared m:inside:7: store i8 9 at 0x1000018
+done 2 0.0 m.shared m:inside:9: load i64 at 0x1000018 = 0x9
+done 3 0.0 m.shared m:inside:10: leaves 0 at 0x3000000
+ends 4 0.0 kernel script: ends: returned 9
+done 5 0.1 kernel script: calls m:neighbour() enters m:neighbour as m.shared
+done 6 0.1 m.shared m:neighbour:13: calls kernel:get(0x10) enters kernel:get as kernel
+done 7 0.1 kernel kernel:get:4: calls k.alloc(0x10) = 0x2000000
+done 8 0.1 kernel kernel:get:5: leaves 0 at 0x3000000
+done 9 0.1 kernel m:neighbour:13: post 0 of kernel:get from kernel to m.shared
+done 10 0.1 m.shared m:neighbour:14: calls kernel:get(0x10) enters kernel:get as kernel
+done 11 0.1 kernel kernel:get:4: calls k.alloc(0x10) = 0x2000010
+done 12 0.1 kernel kernel:get:5: leaves 0 at 0x3000000
+done 13 0.1 kernel m:neighbour:14: post 0 of kernel:get from kernel to m.shared
+done 14 0.1 m.shared m:neighbour:16: store i64 0x5 at 0x2000010
+done 15 0.1 m.shared m:neighbour:17: load i64 at 0x2000010 = 0x5
+done 16 0.1 m.shared m:neighbour:18: leaves 0 at 0x3000000
+ends 17 0.1 kernel script: ends: returned 5
+done 18 0.2 kernel script: calls m:look() enters m:look as m.shared
+done 19 0.2 m.shared m:look:21: load i64 at 0x1000000 = 0x2a
+done 20 0.2 m.shared m:look:22: leaves 0 at 0x3000000
+ends 21 0.2 kernel script: ends: returned 42
+done 22 0.3 kernel script: calls m:through() enters m:through as m.shared
+done 23 0.3 m.shared m:through:25: calls kernel:fill(0x1000000, 0x7) enters kernel:fill as kernel
+done 24 0.3 kernel kernel:fill:8: store i64 0x7 at 0x1000000
+done 25 0.3 kernel kernel:fill:9: leaves 0 at 0x3000000
+done 26 0.3 m.shared m:through:26: load i64 at 0x1000000 = 0x7
+done 27 0.3 m.shared m:through:27: leaves 0 at 0x3000000
+ends 28 0.3 kernel script: ends: returned 7
+---- file examples/manual/caught.case
+lxfi case 1
+kernel file examples/manual/uncaught_kernel.ll
+interface file examples/manual/caught.txt
+module m examples/manual/uncaught.ll
+thread
+call m:inside fuel 100
+call m:neighbour fuel 100
+call m:look fuel 100
+call m:through fuel 100
+---- file examples/manual/caught.txt
+interface 1
+export get : ptr (i64 n) post(if (return != 0) transfer(write, return, n))
+export fill : void (ptr p, i64 v) pre(check(write, p, 8))
+---- file examples/manual/caught.schedule
+schedule 0*25
+---- words examples/manual/caught.case examples/manual/caught.schedule
+---- trace examples/manual/caught.case
+---- whole
+status 1
+done 0 0.0 kernel script: calls m:inside() enters m:inside as m.shared
+done 1 0.0 m.shared m:inside:7: store i8 9 at 0x1000018
+done 2 0.0 m.shared m:inside:9: load i64 at 0x1000018 = 0x9
+done 3 0.0 m.shared m:inside:10: leaves 0 at 0x3000000
+ends 4 0.0 kernel script: ends: returned 9
+done 5 0.1 kernel script: calls m:neighbour() enters m:neighbour as m.shared
+done 6 0.1 m.shared m:neighbour:13: calls kernel:get(0x10) enters kernel:get as kernel
+done 7 0.1 kernel kernel:get:4: calls k.alloc(0x10) = 0x2000000
+done 8 0.1 kernel kernel:get:5: leaves 0 at 0x3000000
+done 9 0.1 kernel m:neighbour:13: post 0 of kernel:get from kernel to m.shared
+done 10 0.1 m.shared m:neighbour:14: calls kernel:get(0x10) enters kernel:get as kernel
+done 11 0.1 kernel kernel:get:4: calls k.alloc(0x10) = 0x2000010
+done 12 0.1 kernel kernel:get:5: leaves 0 at 0x3000000
+done 13 0.1 kernel m:neighbour:14: post 0 of kernel:get from kernel to m.shared
+done 14 0.1 m.shared m:neighbour:16: store i64 0x5 at 0x2000010
+done 15 0.1 m.shared m:neighbour:17: load i64 at 0x2000010 = 0x5
+done 16 0.1 m.shared m:neighbour:18: leaves 0 at 0x3000000
+ends 17 0.1 kernel script: ends: returned 5
+done 18 0.2 kernel script: calls m:look() enters m:look as m.shared
+done 19 0.2 m.shared m:look:21: load i64 at 0x1000000 = 0x2a
+done 20 0.2 m.shared m:look:22: leaves 0 at 0x3000000
+ends 21 0.2 kernel script: ends: returned 42
+done 22 0.3 kernel script: calls m:through() enters m:through as m.shared
+done 23 0.3 m.shared m:through:25: calls kernel:fill(0x1000000, 0x7) enters kernel:fill as kernel
+refused 24 0.3 m.shared m:through:25: pre 0 of kernel:fill from m.shared to kernel: refused 1 m.shared write 0x1000000+8
+---- file examples/manual/misspelt.case
+lxfi case 1
+kernel file examples/manual/timer_kernel.ll
+interface file examples/manual/misspelt.txt
+module t examples/manual/timer.ll
+thread
+call t:start fuel 100
+call kernel:do_tick 7 fuel 100
+---- file examples/manual/misspelt.txt
+interface 1
+slot tick : void (i64 now)
+field %struct.timers 0 : tick
+export timer_set : void (ptr fn) pre(check(call, fn))
+---- file examples/manual/misspelt.schedule
+schedule 0*10
+---- words examples/manual/misspelt.case examples/manual/misspelt.schedule
+---- trace examples/manual/misspelt.case
+---- whole
+status 1
+done 0 0.0 kernel script: calls t:start() enters t:start as t.shared
+done 1 0.0 t.shared t:start:13: load i64 at 0x1000010 = 0x100b0
+done 2 0.0 t.shared t:start:14: calls kernel:timer_set(0x100b0) enters kernel:timer_set as kernel
+done 3 0.0 t.shared t:start:14: pre 0 of kernel:timer_set from t.shared to kernel
+done 4 0.0 kernel kernel:timer_set:4: store i64 0x100b0 at 0x1000000
+done 5 0.0 kernel kernel:timer_set:5: leaves 0 at 0x3000000
+done 6 0.0 t.shared t:start:15: leaves 0 at 0x3000000
+ends 7 0.0 kernel script: ends: returned
+done 8 0.1 kernel script: calls kernel:do_tick(0x7) enters kernel:do_tick as kernel
+refused 9 0.1 kernel kernel:do_tick:8: calls slot tick at 0x1000000(0x7): refused 4 kernel call 0x100b0
+"#
+}

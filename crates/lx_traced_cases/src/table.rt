@@ -1,0 +1,88 @@
+//! Texts of cases, cut into parts by the marks `----`.
+
+use crate::bench::{Bench, run};
+use std::alloc::Global;
+use std::test::Fail;
+
+/// What begins a part.
+const MARK: &str = "---- ";
+
+fn set(text: &mut String, to: &str) -> Result<(), Fail> {
+    text.clear();
+    text.push_str(to)?;
+    Ok(())
+}
+
+/// Notes the words of the next run.
+fn set_words(alloc: Global, words: &mut Vec<String>, text: &str) -> Result<(), Fail> {
+    words.clear();
+    for word in text.split(' ') {
+        words.push(String::from_str(alloc, word)?)?;
+    }
+    Ok(())
+}
+
+/// Puts a file by its name, or notes words; all else is why the next case is there.
+fn put_named(alloc: Global, bench: &mut Bench, head: &str, body: &str) -> Result<(), Fail> {
+    if let Some(name) = head.strip_prefix("file ") {
+        bench.shelf.put_file(alloc, name, body.as_bytes())?;
+        return Ok(());
+    }
+    match head.strip_prefix("words ") {
+        Some(words) => set_words(alloc, &mut bench.words, words),
+        None => set(&mut bench.why, head),
+    }
+}
+
+fn put_wrong(wrong: &mut String, why: &str, wanted: &str, written: &str) -> Result<(), Fail> {
+    for piece in [why, "\nwanted\n", wanted, "written\n", written] {
+        wrong.push_str(piece)?;
+    }
+    Ok(())
+}
+
+/// Runs the case that was put last; where it does not write this text, that goes to what went wrong.
+fn compare(alloc: Global, bench: &mut Bench, wanted: &str) -> Result<(), Fail> {
+    run(alloc, bench)?;
+    bench.tried = bench.tried.saturating_add(1);
+    bench.is_short = false;
+    let (why, written) = (bench.why.as_str(), bench.written.as_str());
+    if written != wanted {
+        put_wrong(&mut bench.wrong, why, wanted, written)?;
+    }
+    Ok(())
+}
+
+/// Notes that the next run has no words.
+fn set_no_words(bench: &mut Bench) -> Result<(), Fail> {
+    bench.words.clear();
+    set(&mut bench.why, "no words")
+}
+
+/// Does what a part says: `file NAME` puts its body, `words WORD ..` or `no words` is the command, `short output` is what it writes to, `whole`
+/// runs the case, which has to write the body, and all else is why the next case is there.
+fn take_part(alloc: Global, bench: &mut Bench, part: &str) -> Result<(), Fail> {
+    let Some((head, body)) = part.split_once('\n') else {
+        return Ok(());
+    };
+    match head {
+        "whole" => return compare(alloc, bench, body),
+        "short output" => bench.is_short = true,
+        "no words" => set_no_words(bench)?,
+        _ => put_named(alloc, bench, head, body)?,
+    }
+    Ok(())
+}
+
+/// Does what each part of a text says.
+pub fn take_parts(alloc: Global, bench: &mut Bench, text: &str) -> Result<(), Fail> {
+    let mut rest = text;
+    for _ in 0..text.len() {
+        let Some((part, behind)) = rest.split_once(MARK) else {
+            break;
+        };
+        take_part(alloc, bench, part)?;
+        rest = behind;
+    }
+    take_part(alloc, bench, rest)
+}
