@@ -89,24 +89,24 @@ schedule 0*24
 ---- whole
 status 1
 done 0 0.0 kernel script: calls t:start() enters t:start as t.shared
-done 1 0.0 t.shared t:start:13: load i64 at 0x1000010 = 0x100b0
+done 1 0.0 t.shared t:start:13: load i64 at 0x1000010 (t:@timer+0) = 0x100b0
 done 2 0.0 t.shared t:start:14: calls kernel:timer_set(0x100b0) enters kernel:timer_set as kernel
 done 3 0.0 t.shared t:start:14: pre 0 of kernel:timer_set from t.shared to kernel
-done 4 0.0 kernel kernel:timer_set:4: store i64 0x100b0 at 0x1000000
+done 4 0.0 kernel kernel:timer_set:4: store i64 0x100b0 at 0x1000000 (kernel:@timer+0)
 done 5 0.0 kernel kernel:timer_set:5: leaves 0 at 0x3000000
 done 6 0.0 t.shared t:start:15: leaves 0 at 0x3000000
 ends 7 0.0 kernel script: ends: returned
 done 8 0.1 kernel script: calls kernel:do_tick(0x7) enters kernel:do_tick as kernel
 done 9 0.1 kernel kernel:do_tick:8: calls slot tick at 0x1000000(0x7) enters t:on_tick as t.shared
 done 10 0.1 t.shared t:on_tick:34: alloca 8 at 0x3000000
-done 11 0.1 t.shared t:on_tick:35: store i64 0x7 at 0x3000000
-done 12 0.1 t.shared t:on_tick:36: load i64 at 0x3000000 = 0x7
-done 13 0.1 t.shared t:on_tick:37: store i64 0x7 at 0x1000020
+done 11 0.1 t.shared t:on_tick:35: store i64 0x7 at 0x3000000 (event 10+0)
+done 12 0.1 t.shared t:on_tick:36: load i64 at 0x3000000 (event 10+0) = 0x7
+done 13 0.1 t.shared t:on_tick:37: store i64 0x7 at 0x1000020 (t:@last+0)
 done 14 0.1 t.shared t:on_tick:38: leaves 8 at 0x3000000
 done 15 0.1 kernel kernel:do_tick:9: leaves 0 at 0x3000000
 ends 16 0.1 kernel script: ends: returned
 done 17 0.2 kernel script: calls t:read_last() enters t:read_last as t.shared
-done 18 0.2 t.shared t:read_last:28: load i64 at 0x1000020 = 0x7
+done 18 0.2 t.shared t:read_last:28: load i64 at 0x1000020 (t:@last+0) = 0x7
 done 19 0.2 t.shared t:read_last:29: leaves 0 at 0x3000000
 ends 20 0.2 kernel script: ends: returned 7
 done 21 0.3 kernel script: calls t:wild() enters t:wild as t.shared

@@ -201,16 +201,16 @@ done 57 0.19 m.shared m:undefined:63: leaves 0 at 0x3000000
 ends 58 0.19 kernel script: ends: returned 0
 done 59 0.20 kernel script: calls m:fresh() enters m:fresh as m.shared
 done 60 0.20 m.shared m:fresh:66: alloca 8 at 0x3000000
-done 61 0.20 m.shared m:fresh:67: load i64 at 0x3000000 = 0x0
+done 61 0.20 m.shared m:fresh:67: load i64 at 0x3000000 (event 60+0) = 0x0
 done 62 0.20 m.shared m:fresh:68: leaves 8 at 0x3000000
 ends 63 0.20 kernel script: ends: returned 0
 done 64 0.21 kernel script: calls m:lowest() enters m:lowest as m.shared
-done 65 0.21 m.shared m:lowest:71: load i1 at 0x1000020 = 0
+done 65 0.21 m.shared m:lowest:71: load i1 at 0x1000020 (m:@two+0) = 0
 done 66 0.21 m.shared m:lowest:72: leaves 0 at 0x3000000
 ends 67 0.21 kernel script: ends: returned 0
 done 68 0.22 kernel script: calls m:overlap() enters m:overlap as m.shared
-done 69 0.22 m.shared m:overlap:76: copy 6 from 0x1000000 to 0x1000002
-done 70 0.22 m.shared m:overlap:77: load i64 at 0x1000000 = 0x6665646362616261
+done 69 0.22 m.shared m:overlap:76: copy 6 from 0x1000000 (m:@bytes+0) to 0x1000002 (m:@bytes+2)
+done 70 0.22 m.shared m:overlap:77: load i64 at 0x1000000 (m:@bytes+0) = 0x6665646362616261
 done 71 0.22 m.shared m:overlap:78: leaves 0 at 0x3000000
 ends 72 0.22 kernel script: ends: returned 7378413942531514977
 done 73 0.23 kernel script: calls m:member(0x1) enters m:member as m.shared
@@ -713,7 +713,7 @@ done 14 0.7 kernel script: calls m:narrow(0x10180) enters m:narrow as m.shared
 trap 15 0.7 m.shared m:narrow:25: calls 0x10180 (m:id)(1): trap 6 0x10180
 done 16 0.8 kernel script: calls kernel:kmalloc(0x8) enters kernel:kmalloc as kernel
 done 17 0.8 kernel kernel:kmalloc:20: calls k.alloc(0x18) = 0x2000000
-done 18 0.8 kernel kernel:kmalloc:24: store i64 0x8 at 0x2000000
+done 18 0.8 kernel kernel:kmalloc:24: store i64 0x8 at 0x2000000 (event 17+0)
 done 19 0.8 kernel kernel:kmalloc:26: leaves 0 at 0x3000000
 ends 20 0.8 kernel script: ends: returned 0x2000010
 done 21 0.9 kernel script: calls kernel:kfree(0x2000010) enters kernel:kfree as kernel

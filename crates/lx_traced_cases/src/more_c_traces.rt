@@ -323,64 +323,64 @@ schedule 0*202
 ---- whole
 status 0
 done 0 0.0 kernel script: calls m:backslash() enters m:backslash as m.shared
-done 1 0.0 m.shared m:backslash:18: load i8 at 0x1000001 = 92
+done 1 0.0 m.shared m:backslash:18: load i8 at 0x1000001 (m:@path+1) = 92
 done 2 0.0 m.shared m:backslash:20: leaves 0 at 0x3000000
 ends 3 0.0 kernel script: ends: returned 92
 done 4 0.1 kernel script: calls m:square(0x1, 0x2) enters m:square as m.shared
 done 5 0.1 m.shared m:square:25: alloca 8 at 0x3000000
 done 6 0.1 m.shared m:square:26: alloca 8 at 0x3000008
-done 7 0.1 m.shared m:square:27: store i64 0x1 at 0x3000000
-done 8 0.1 m.shared m:square:28: store i64 0x2 at 0x3000008
-done 9 0.1 m.shared m:square:29: load i64 at 0x3000000 = 0x1
-done 10 0.1 m.shared m:square:31: load i64 at 0x3000008 = 0x2
-done 11 0.1 m.shared m:square:33: load i64 at 0x1000038 = 0x19
+done 7 0.1 m.shared m:square:27: store i64 0x1 at 0x3000000 (event 5+0)
+done 8 0.1 m.shared m:square:28: store i64 0x2 at 0x3000008 (event 6+0)
+done 9 0.1 m.shared m:square:29: load i64 at 0x3000000 (event 5+0) = 0x1
+done 10 0.1 m.shared m:square:31: load i64 at 0x3000008 (event 6+0) = 0x2
+done 11 0.1 m.shared m:square:33: load i64 at 0x1000038 (m:@squares+40) = 0x19
 done 12 0.1 m.shared m:square:34: leaves 16 at 0x3000000
 ends 13 0.1 kernel script: ends: returned 25
 done 14 0.2 kernel script: calls m:apply(1, 5, 9) enters m:apply as m.shared
 done 15 0.2 m.shared m:apply:39: alloca 4 at 0x3000000
 done 16 0.2 m.shared m:apply:40: alloca 4 at 0x3000004
 done 17 0.2 m.shared m:apply:41: alloca 4 at 0x3000008
-done 18 0.2 m.shared m:apply:42: store i32 1 at 0x3000000
-done 19 0.2 m.shared m:apply:43: store i32 5 at 0x3000004
-done 20 0.2 m.shared m:apply:44: store i32 9 at 0x3000008
-done 21 0.2 m.shared m:apply:45: load i32 at 0x3000000 = 1
-done 22 0.2 m.shared m:apply:49: load i64 at 0x1000048 = 0x10130
-done 23 0.2 m.shared m:apply:50: load i32 at 0x3000004 = 5
-done 24 0.2 m.shared m:apply:51: load i32 at 0x3000008 = 9
+done 18 0.2 m.shared m:apply:42: store i32 1 at 0x3000000 (event 15+0)
+done 19 0.2 m.shared m:apply:43: store i32 5 at 0x3000004 (event 16+0)
+done 20 0.2 m.shared m:apply:44: store i32 9 at 0x3000008 (event 17+0)
+done 21 0.2 m.shared m:apply:45: load i32 at 0x3000000 (event 15+0) = 1
+done 22 0.2 m.shared m:apply:49: load i64 at 0x1000048 (m:@operators+8) = 0x10130
+done 23 0.2 m.shared m:apply:50: load i32 at 0x3000004 (event 16+0) = 5
+done 24 0.2 m.shared m:apply:51: load i32 at 0x3000008 (event 17+0) = 9
 done 25 0.2 m.shared m:apply:52: calls 0x10130 (m:sub)(5, 9) enters m:sub as m.shared
 done 26 0.2 m.shared m:sub:287: alloca 4 at 0x300000c
 done 27 0.2 m.shared m:sub:288: alloca 4 at 0x3000010
-done 28 0.2 m.shared m:sub:289: store i32 5 at 0x300000c
-done 29 0.2 m.shared m:sub:290: store i32 9 at 0x3000010
-done 30 0.2 m.shared m:sub:291: load i32 at 0x300000c = 5
-done 31 0.2 m.shared m:sub:292: load i32 at 0x3000010 = 9
+done 28 0.2 m.shared m:sub:289: store i32 5 at 0x300000c (event 26+0)
+done 29 0.2 m.shared m:sub:290: store i32 9 at 0x3000010 (event 27+0)
+done 30 0.2 m.shared m:sub:291: load i32 at 0x300000c (event 26+0) = 5
+done 31 0.2 m.shared m:sub:292: load i32 at 0x3000010 (event 27+0) = 9
 done 32 0.2 m.shared m:sub:294: leaves 8 at 0x300000c
 done 33 0.2 m.shared m:apply:53: leaves 12 at 0x3000000
 ends 34 0.2 kernel script: ends: returned -4
 done 35 0.3 kernel script: calls m:distance(0x100000001) enters m:distance as m.shared
 done 36 0.3 m.shared m:distance:58: alloca 8 at 0x3000000
 done 37 0.3 m.shared m:distance:59: alloca 8 at 0x3000008
-done 38 0.3 m.shared m:distance:60: store i64 0x100000001 at 0x3000000
-done 39 0.3 m.shared m:distance:61: copy 8 from 0x1000050 to 0x3000008
-done 40 0.3 m.shared m:distance:63: load i32 at 0x3000000 = 1
-done 41 0.3 m.shared m:distance:65: load i32 at 0x3000008 = 3
-done 42 0.3 m.shared m:distance:67: store i32 2 at 0x3000008
-done 43 0.3 m.shared m:distance:69: load i32 at 0x3000004 = 1
-done 44 0.3 m.shared m:distance:71: load i32 at 0x300000c = 4
-done 45 0.3 m.shared m:distance:73: store i32 3 at 0x300000c
-done 46 0.3 m.shared m:distance:75: load i32 at 0x3000008 = 2
-done 47 0.3 m.shared m:distance:77: load i32 at 0x3000008 = 2
-done 48 0.3 m.shared m:distance:80: load i32 at 0x300000c = 3
-done 49 0.3 m.shared m:distance:82: load i32 at 0x300000c = 3
+done 38 0.3 m.shared m:distance:60: store i64 0x100000001 at 0x3000000 (event 36+0)
+done 39 0.3 m.shared m:distance:61: copy 8 from 0x1000050 (m:@corner+0) to 0x3000008 (event 37+0)
+done 40 0.3 m.shared m:distance:63: load i32 at 0x3000000 (event 36+0) = 1
+done 41 0.3 m.shared m:distance:65: load i32 at 0x3000008 (event 37+0) = 3
+done 42 0.3 m.shared m:distance:67: store i32 2 at 0x3000008 (event 37+0)
+done 43 0.3 m.shared m:distance:69: load i32 at 0x3000004 (event 36+4) = 1
+done 44 0.3 m.shared m:distance:71: load i32 at 0x300000c (event 37+4) = 4
+done 45 0.3 m.shared m:distance:73: store i32 3 at 0x300000c (event 37+4)
+done 46 0.3 m.shared m:distance:75: load i32 at 0x3000008 (event 37+0) = 2
+done 47 0.3 m.shared m:distance:77: load i32 at 0x3000008 (event 37+0) = 2
+done 48 0.3 m.shared m:distance:80: load i32 at 0x300000c (event 37+4) = 3
+done 49 0.3 m.shared m:distance:82: load i32 at 0x300000c (event 37+4) = 3
 done 50 0.3 m.shared m:distance:85: leaves 16 at 0x3000000
 ends 51 0.3 kernel script: ends: returned 13
 done 52 0.4 kernel script: calls m:third_byte(287454020) enters m:third_byte as m.shared
 done 53 0.4 m.shared m:third_byte:93: alloca 4 at 0x3000000
 done 54 0.4 m.shared m:third_byte:94: alloca 4 at 0x3000004
-done 55 0.4 m.shared m:third_byte:95: store i32 287454020 at 0x3000000
-done 56 0.4 m.shared m:third_byte:96: load i32 at 0x3000000 = 287454020
-done 57 0.4 m.shared m:third_byte:97: store i32 287454020 at 0x3000004
-done 58 0.4 m.shared m:third_byte:99: load i8 at 0x3000006 = 34
+done 55 0.4 m.shared m:third_byte:95: store i32 287454020 at 0x3000000 (event 53+0)
+done 56 0.4 m.shared m:third_byte:96: load i32 at 0x3000000 (event 53+0) = 287454020
+done 57 0.4 m.shared m:third_byte:97: store i32 287454020 at 0x3000004 (event 54+0)
+done 58 0.4 m.shared m:third_byte:99: load i8 at 0x3000006 (event 54+2) = 34
 done 59 0.4 m.shared m:third_byte:101: leaves 8 at 0x3000000
 ends 60 0.4 kernel script: ends: returned 34
 done 61 0.5 kernel script: calls m:header_size() enters m:header_size as m.shared
@@ -389,62 +389,62 @@ done 63 0.5 m.shared m:header_size:113: leaves 10 at 0x3000000
 ends 64 0.5 kernel script: ends: returned 6
 done 65 0.6 kernel script: calls m:is_large(1) enters m:is_large as m.shared
 done 66 0.6 m.shared m:is_large:118: alloca 4 at 0x3000000
-done 67 0.6 m.shared m:is_large:119: store i32 1 at 0x3000000
-done 68 0.6 m.shared m:is_large:120: load i32 at 0x3000000 = 1
+done 67 0.6 m.shared m:is_large:119: store i32 1 at 0x3000000 (event 66+0)
+done 68 0.6 m.shared m:is_large:120: load i32 at 0x3000000 (event 66+0) = 1
 done 69 0.6 m.shared m:is_large:122: leaves 4 at 0x3000000
 ends 70 0.6 kernel script: ends: returned 1
 done 71 0.7 kernel script: calls m:absolute(-7) enters m:absolute as m.shared
 done 72 0.7 m.shared m:absolute:127: alloca 4 at 0x3000000
-done 73 0.7 m.shared m:absolute:128: store i32 -7 at 0x3000000
-done 74 0.7 m.shared m:absolute:129: load i32 at 0x3000000 = -7
+done 73 0.7 m.shared m:absolute:128: store i32 -7 at 0x3000000 (event 72+0)
+done 74 0.7 m.shared m:absolute:129: load i32 at 0x3000000 (event 72+0) = -7
 done 75 0.7 m.shared m:absolute:133: leaves 4 at 0x3000000
 ends 76 0.7 kernel script: ends: returned 7
 done 77 0.8 kernel script: calls m:counted() enters m:counted as m.shared
-done 78 0.8 m.shared m:counted:138: load i32 at 0x1000060 = 0
-done 79 0.8 m.shared m:counted:140: store i32 1 at 0x1000060
+done 78 0.8 m.shared m:counted:138: load i32 at 0x1000060 (m:@counted.calls+0) = 0
+done 79 0.8 m.shared m:counted:140: store i32 1 at 0x1000060 (m:@counted.calls+0)
 done 80 0.8 m.shared m:counted:141: leaves 0 at 0x3000000
 ends 81 0.8 kernel script: ends: returned 1
 done 82 0.9 kernel script: calls m:counted() enters m:counted as m.shared
-done 83 0.9 m.shared m:counted:138: load i32 at 0x1000060 = 1
-done 84 0.9 m.shared m:counted:140: store i32 2 at 0x1000060
+done 83 0.9 m.shared m:counted:138: load i32 at 0x1000060 (m:@counted.calls+0) = 1
+done 84 0.9 m.shared m:counted:140: store i32 2 at 0x1000060 (m:@counted.calls+0)
 done 85 0.9 m.shared m:counted:141: leaves 0 at 0x3000000
 ends 86 0.9 kernel script: ends: returned 2
 done 87 0.10 kernel script: calls m:classify(1) enters m:classify as m.shared
 done 88 0.10 m.shared m:classify:146: alloca 4 at 0x3000000
 done 89 0.10 m.shared m:classify:147: alloca 4 at 0x3000004
-done 90 0.10 m.shared m:classify:148: store i32 1 at 0x3000004
-done 91 0.10 m.shared m:classify:149: load i32 at 0x3000004 = 1
-done 92 0.10 m.shared m:classify:158: store i32 10 at 0x3000000
-done 93 0.10 m.shared m:classify:174: load i32 at 0x3000000 = 10
+done 90 0.10 m.shared m:classify:148: store i32 1 at 0x3000004 (event 89+0)
+done 91 0.10 m.shared m:classify:149: load i32 at 0x3000004 (event 89+0) = 1
+done 92 0.10 m.shared m:classify:158: store i32 10 at 0x3000000 (event 88+0)
+done 93 0.10 m.shared m:classify:174: load i32 at 0x3000000 (event 88+0) = 10
 done 94 0.10 m.shared m:classify:175: leaves 8 at 0x3000000
 ends 95 0.10 kernel script: ends: returned 10
 done 96 0.11 kernel script: calls m:classify(3) enters m:classify as m.shared
 done 97 0.11 m.shared m:classify:146: alloca 4 at 0x3000000
 done 98 0.11 m.shared m:classify:147: alloca 4 at 0x3000004
-done 99 0.11 m.shared m:classify:148: store i32 3 at 0x3000004
-done 100 0.11 m.shared m:classify:149: load i32 at 0x3000004 = 3
-done 101 0.11 m.shared m:classify:162: store i32 20 at 0x3000000
-done 102 0.11 m.shared m:classify:174: load i32 at 0x3000000 = 20
+done 99 0.11 m.shared m:classify:148: store i32 3 at 0x3000004 (event 98+0)
+done 100 0.11 m.shared m:classify:149: load i32 at 0x3000004 (event 98+0) = 3
+done 101 0.11 m.shared m:classify:162: store i32 20 at 0x3000000 (event 97+0)
+done 102 0.11 m.shared m:classify:174: load i32 at 0x3000000 (event 97+0) = 20
 done 103 0.11 m.shared m:classify:175: leaves 8 at 0x3000000
 ends 104 0.11 kernel script: ends: returned 20
 done 105 0.12 kernel script: calls m:classify(-5) enters m:classify as m.shared
 done 106 0.12 m.shared m:classify:146: alloca 4 at 0x3000000
 done 107 0.12 m.shared m:classify:147: alloca 4 at 0x3000004
-done 108 0.12 m.shared m:classify:148: store i32 -5 at 0x3000004
-done 109 0.12 m.shared m:classify:149: load i32 at 0x3000004 = -5
-done 110 0.12 m.shared m:classify:166: load i32 at 0x3000004 = -5
-done 111 0.12 m.shared m:classify:170: store i32 -1 at 0x3000000
-done 112 0.12 m.shared m:classify:174: load i32 at 0x3000000 = -1
+done 108 0.12 m.shared m:classify:148: store i32 -5 at 0x3000004 (event 107+0)
+done 109 0.12 m.shared m:classify:149: load i32 at 0x3000004 (event 107+0) = -5
+done 110 0.12 m.shared m:classify:166: load i32 at 0x3000004 (event 107+0) = -5
+done 111 0.12 m.shared m:classify:170: store i32 -1 at 0x3000000 (event 106+0)
+done 112 0.12 m.shared m:classify:174: load i32 at 0x3000000 (event 106+0) = -1
 done 113 0.12 m.shared m:classify:175: leaves 8 at 0x3000000
 ends 114 0.12 kernel script: ends: returned -1
 done 115 0.13 kernel script: calls m:classify(9) enters m:classify as m.shared
 done 116 0.13 m.shared m:classify:146: alloca 4 at 0x3000000
 done 117 0.13 m.shared m:classify:147: alloca 4 at 0x3000004
-done 118 0.13 m.shared m:classify:148: store i32 9 at 0x3000004
-done 119 0.13 m.shared m:classify:149: load i32 at 0x3000004 = 9
-done 120 0.13 m.shared m:classify:166: load i32 at 0x3000004 = 9
-done 121 0.13 m.shared m:classify:170: store i32 0 at 0x3000000
-done 122 0.13 m.shared m:classify:174: load i32 at 0x3000000 = 0
+done 118 0.13 m.shared m:classify:148: store i32 9 at 0x3000004 (event 117+0)
+done 119 0.13 m.shared m:classify:149: load i32 at 0x3000004 (event 117+0) = 9
+done 120 0.13 m.shared m:classify:166: load i32 at 0x3000004 (event 117+0) = 9
+done 121 0.13 m.shared m:classify:170: store i32 0 at 0x3000000 (event 116+0)
+done 122 0.13 m.shared m:classify:174: load i32 at 0x3000000 (event 116+0) = 0
 done 123 0.13 m.shared m:classify:175: leaves 8 at 0x3000000
 ends 124 0.13 kernel script: ends: returned 0
 done 125 0.14 kernel script: calls m:filled(1) enters m:filled as m.shared
@@ -452,37 +452,37 @@ done 126 0.14 m.shared m:filled:180: alloca 4 at 0x3000000
 done 127 0.14 m.shared m:filled:181: alloca 16 at 0x3000004
 done 128 0.14 m.shared m:filled:182: alloca 4 at 0x3000014
 done 129 0.14 m.shared m:filled:183: alloca 4 at 0x3000018
-done 130 0.14 m.shared m:filled:184: store i32 1 at 0x3000000
-done 131 0.14 m.shared m:filled:185: store i32 0 at 0x3000014
-done 132 0.14 m.shared m:filled:186: store i32 0 at 0x3000018
-done 133 0.14 m.shared m:filled:188: load i32 at 0x3000000 = 1
-done 134 0.14 m.shared m:filled:190: fill 16 with 1 at 0x3000004
-done 135 0.14 m.shared m:filled:193: copy 8 from 0x3000004 to 0x300000c
-done 136 0.14 m.shared m:filled:197: load i32 at 0x3000018 = 0
-done 137 0.14 m.shared m:filled:200: load i32 at 0x3000004 = 16843009
-done 138 0.14 m.shared m:filled:201: load i32 at 0x3000014 = 0
-done 139 0.14 m.shared m:filled:203: store i32 16843009 at 0x3000014
-done 140 0.14 m.shared m:filled:207: load i32 at 0x3000018 = 0
-done 141 0.14 m.shared m:filled:209: store i32 1 at 0x3000018
-done 142 0.14 m.shared m:filled:197: load i32 at 0x3000018 = 1
-done 143 0.14 m.shared m:filled:200: load i32 at 0x3000008 = 16843009
-done 144 0.14 m.shared m:filled:201: load i32 at 0x3000014 = 16843009
-done 145 0.14 m.shared m:filled:203: store i32 33686018 at 0x3000014
-done 146 0.14 m.shared m:filled:207: load i32 at 0x3000018 = 1
-done 147 0.14 m.shared m:filled:209: store i32 2 at 0x3000018
-done 148 0.14 m.shared m:filled:197: load i32 at 0x3000018 = 2
-done 149 0.14 m.shared m:filled:200: load i32 at 0x300000c = 16843009
-done 150 0.14 m.shared m:filled:201: load i32 at 0x3000014 = 33686018
-done 151 0.14 m.shared m:filled:203: store i32 50529027 at 0x3000014
-done 152 0.14 m.shared m:filled:207: load i32 at 0x3000018 = 2
-done 153 0.14 m.shared m:filled:209: store i32 3 at 0x3000018
-done 154 0.14 m.shared m:filled:197: load i32 at 0x3000018 = 3
-done 155 0.14 m.shared m:filled:200: load i32 at 0x3000010 = 16843009
-done 156 0.14 m.shared m:filled:201: load i32 at 0x3000014 = 50529027
-done 157 0.14 m.shared m:filled:203: store i32 67372036 at 0x3000014
-done 158 0.14 m.shared m:filled:207: load i32 at 0x3000018 = 3
-done 159 0.14 m.shared m:filled:209: store i32 4 at 0x3000018
-done 160 0.14 m.shared m:filled:214: load i32 at 0x3000014 = 67372036
+done 130 0.14 m.shared m:filled:184: store i32 1 at 0x3000000 (event 126+0)
+done 131 0.14 m.shared m:filled:185: store i32 0 at 0x3000014 (event 128+0)
+done 132 0.14 m.shared m:filled:186: store i32 0 at 0x3000018 (event 129+0)
+done 133 0.14 m.shared m:filled:188: load i32 at 0x3000000 (event 126+0) = 1
+done 134 0.14 m.shared m:filled:190: fill 16 with 1 at 0x3000004 (event 127+0)
+done 135 0.14 m.shared m:filled:193: copy 8 from 0x3000004 (event 127+0) to 0x300000c (event 127+8)
+done 136 0.14 m.shared m:filled:197: load i32 at 0x3000018 (event 129+0) = 0
+done 137 0.14 m.shared m:filled:200: load i32 at 0x3000004 (event 127+0) = 16843009
+done 138 0.14 m.shared m:filled:201: load i32 at 0x3000014 (event 128+0) = 0
+done 139 0.14 m.shared m:filled:203: store i32 16843009 at 0x3000014 (event 128+0)
+done 140 0.14 m.shared m:filled:207: load i32 at 0x3000018 (event 129+0) = 0
+done 141 0.14 m.shared m:filled:209: store i32 1 at 0x3000018 (event 129+0)
+done 142 0.14 m.shared m:filled:197: load i32 at 0x3000018 (event 129+0) = 1
+done 143 0.14 m.shared m:filled:200: load i32 at 0x3000008 (event 127+4) = 16843009
+done 144 0.14 m.shared m:filled:201: load i32 at 0x3000014 (event 128+0) = 16843009
+done 145 0.14 m.shared m:filled:203: store i32 33686018 at 0x3000014 (event 128+0)
+done 146 0.14 m.shared m:filled:207: load i32 at 0x3000018 (event 129+0) = 1
+done 147 0.14 m.shared m:filled:209: store i32 2 at 0x3000018 (event 129+0)
+done 148 0.14 m.shared m:filled:197: load i32 at 0x3000018 (event 129+0) = 2
+done 149 0.14 m.shared m:filled:200: load i32 at 0x300000c (event 127+8) = 16843009
+done 150 0.14 m.shared m:filled:201: load i32 at 0x3000014 (event 128+0) = 33686018
+done 151 0.14 m.shared m:filled:203: store i32 50529027 at 0x3000014 (event 128+0)
+done 152 0.14 m.shared m:filled:207: load i32 at 0x3000018 (event 129+0) = 2
+done 153 0.14 m.shared m:filled:209: store i32 3 at 0x3000018 (event 129+0)
+done 154 0.14 m.shared m:filled:197: load i32 at 0x3000018 (event 129+0) = 3
+done 155 0.14 m.shared m:filled:200: load i32 at 0x3000010 (event 127+12) = 16843009
+done 156 0.14 m.shared m:filled:201: load i32 at 0x3000014 (event 128+0) = 50529027
+done 157 0.14 m.shared m:filled:203: store i32 67372036 at 0x3000014 (event 128+0)
+done 158 0.14 m.shared m:filled:207: load i32 at 0x3000018 (event 129+0) = 3
+done 159 0.14 m.shared m:filled:209: store i32 4 at 0x3000018 (event 129+0)
+done 160 0.14 m.shared m:filled:214: load i32 at 0x3000014 (event 128+0) = 67372036
 done 161 0.14 m.shared m:filled:215: leaves 28 at 0x3000000
 ends 162 0.14 kernel script: ends: returned 67372036
 done 163 0.15 kernel script: calls m:first_zero(0x1000000, 4) enters m:first_zero as m.shared
@@ -490,38 +490,38 @@ done 164 0.15 m.shared m:first_zero:223: alloca 4 at 0x3000000
 done 165 0.15 m.shared m:first_zero:224: alloca 8 at 0x3000008
 done 166 0.15 m.shared m:first_zero:225: alloca 4 at 0x3000010
 done 167 0.15 m.shared m:first_zero:226: alloca 4 at 0x3000014
-done 168 0.15 m.shared m:first_zero:227: store i64 0x1000000 at 0x3000008
-done 169 0.15 m.shared m:first_zero:228: store i32 4 at 0x3000010
-done 170 0.15 m.shared m:first_zero:229: store i32 0 at 0x3000014
-done 171 0.15 m.shared m:first_zero:233: load i32 at 0x3000014 = 0
-done 172 0.15 m.shared m:first_zero:234: load i32 at 0x3000010 = 4
-done 173 0.15 m.shared m:first_zero:239: load i64 at 0x3000008 = 0x1000000
-done 174 0.15 m.shared m:first_zero:240: load i32 at 0x3000014 = 0
-done 175 0.15 m.shared m:first_zero:243: load i8 at 0x1000000 = 97
-done 176 0.15 m.shared m:first_zero:259: load i32 at 0x3000014 = 0
-done 177 0.15 m.shared m:first_zero:261: store i32 1 at 0x3000014
-done 178 0.15 m.shared m:first_zero:233: load i32 at 0x3000014 = 1
-done 179 0.15 m.shared m:first_zero:234: load i32 at 0x3000010 = 4
-done 180 0.15 m.shared m:first_zero:239: load i64 at 0x3000008 = 0x1000000
-done 181 0.15 m.shared m:first_zero:240: load i32 at 0x3000014 = 1
-done 182 0.15 m.shared m:first_zero:243: load i8 at 0x1000001 = 92
-done 183 0.15 m.shared m:first_zero:259: load i32 at 0x3000014 = 1
-done 184 0.15 m.shared m:first_zero:261: store i32 2 at 0x3000014
-done 185 0.15 m.shared m:first_zero:233: load i32 at 0x3000014 = 2
-done 186 0.15 m.shared m:first_zero:234: load i32 at 0x3000010 = 4
-done 187 0.15 m.shared m:first_zero:239: load i64 at 0x3000008 = 0x1000000
-done 188 0.15 m.shared m:first_zero:240: load i32 at 0x3000014 = 2
-done 189 0.15 m.shared m:first_zero:243: load i8 at 0x1000002 = 98
-done 190 0.15 m.shared m:first_zero:259: load i32 at 0x3000014 = 2
-done 191 0.15 m.shared m:first_zero:261: store i32 3 at 0x3000014
-done 192 0.15 m.shared m:first_zero:233: load i32 at 0x3000014 = 3
-done 193 0.15 m.shared m:first_zero:234: load i32 at 0x3000010 = 4
-done 194 0.15 m.shared m:first_zero:239: load i64 at 0x3000008 = 0x1000000
-done 195 0.15 m.shared m:first_zero:240: load i32 at 0x3000014 = 3
-done 196 0.15 m.shared m:first_zero:243: load i8 at 0x1000003 = 0
-done 197 0.15 m.shared m:first_zero:254: load i32 at 0x3000014 = 3
-done 198 0.15 m.shared m:first_zero:255: store i32 3 at 0x3000000
-done 199 0.15 m.shared m:first_zero:269: load i32 at 0x3000000 = 3
+done 168 0.15 m.shared m:first_zero:227: store i64 0x1000000 at 0x3000008 (event 165+0)
+done 169 0.15 m.shared m:first_zero:228: store i32 4 at 0x3000010 (event 166+0)
+done 170 0.15 m.shared m:first_zero:229: store i32 0 at 0x3000014 (event 167+0)
+done 171 0.15 m.shared m:first_zero:233: load i32 at 0x3000014 (event 167+0) = 0
+done 172 0.15 m.shared m:first_zero:234: load i32 at 0x3000010 (event 166+0) = 4
+done 173 0.15 m.shared m:first_zero:239: load i64 at 0x3000008 (event 165+0) = 0x1000000
+done 174 0.15 m.shared m:first_zero:240: load i32 at 0x3000014 (event 167+0) = 0
+done 175 0.15 m.shared m:first_zero:243: load i8 at 0x1000000 (m:@path+0) = 97
+done 176 0.15 m.shared m:first_zero:259: load i32 at 0x3000014 (event 167+0) = 0
+done 177 0.15 m.shared m:first_zero:261: store i32 1 at 0x3000014 (event 167+0)
+done 178 0.15 m.shared m:first_zero:233: load i32 at 0x3000014 (event 167+0) = 1
+done 179 0.15 m.shared m:first_zero:234: load i32 at 0x3000010 (event 166+0) = 4
+done 180 0.15 m.shared m:first_zero:239: load i64 at 0x3000008 (event 165+0) = 0x1000000
+done 181 0.15 m.shared m:first_zero:240: load i32 at 0x3000014 (event 167+0) = 1
+done 182 0.15 m.shared m:first_zero:243: load i8 at 0x1000001 (m:@path+1) = 92
+done 183 0.15 m.shared m:first_zero:259: load i32 at 0x3000014 (event 167+0) = 1
+done 184 0.15 m.shared m:first_zero:261: store i32 2 at 0x3000014 (event 167+0)
+done 185 0.15 m.shared m:first_zero:233: load i32 at 0x3000014 (event 167+0) = 2
+done 186 0.15 m.shared m:first_zero:234: load i32 at 0x3000010 (event 166+0) = 4
+done 187 0.15 m.shared m:first_zero:239: load i64 at 0x3000008 (event 165+0) = 0x1000000
+done 188 0.15 m.shared m:first_zero:240: load i32 at 0x3000014 (event 167+0) = 2
+done 189 0.15 m.shared m:first_zero:243: load i8 at 0x1000002 (m:@path+2) = 98
+done 190 0.15 m.shared m:first_zero:259: load i32 at 0x3000014 (event 167+0) = 2
+done 191 0.15 m.shared m:first_zero:261: store i32 3 at 0x3000014 (event 167+0)
+done 192 0.15 m.shared m:first_zero:233: load i32 at 0x3000014 (event 167+0) = 3
+done 193 0.15 m.shared m:first_zero:234: load i32 at 0x3000010 (event 166+0) = 4
+done 194 0.15 m.shared m:first_zero:239: load i64 at 0x3000008 (event 165+0) = 0x1000000
+done 195 0.15 m.shared m:first_zero:240: load i32 at 0x3000014 (event 167+0) = 3
+done 196 0.15 m.shared m:first_zero:243: load i8 at 0x1000003 (m:@path+3) = 0
+done 197 0.15 m.shared m:first_zero:254: load i32 at 0x3000014 (event 167+0) = 3
+done 198 0.15 m.shared m:first_zero:255: store i32 3 at 0x3000000 (event 164+0)
+done 199 0.15 m.shared m:first_zero:269: load i32 at 0x3000000 (event 164+0) = 3
 done 200 0.15 m.shared m:first_zero:270: leaves 24 at 0x3000000
 ends 201 0.15 kernel script: ends: returned 3
 ---- file examples/manual/padded_field.case
@@ -575,11 +575,11 @@ schedule 0*8
 ---- whole
 status 0
 done 0 0.0 kernel script: calls m:is_ready() enters m:is_ready as m.shared
-done 1 0.0 m.shared m:is_ready:12: load i32 at 0x1000000 = 0
+done 1 0.0 m.shared m:is_ready:12: load i32 at 0x1000000 (m:@flags+0) = 0
 done 2 0.0 m.shared m:is_ready:14: leaves 0 at 0x3000000
 ends 3 0.0 kernel script: ends: returned 0
 done 4 0.1 kernel script: calls m:count() enters m:count as m.shared
-done 5 0.1 m.shared m:count:19: load i32 at 0x1000000 = 0
+done 5 0.1 m.shared m:count:19: load i32 at 0x1000000 (m:@flags+0) = 0
 done 6 0.1 m.shared m:count:22: leaves 0 at 0x3000000
 ends 7 0.1 kernel script: ends: returned 0
 "#

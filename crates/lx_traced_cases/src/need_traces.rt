@@ -181,7 +181,7 @@ done 11 0.2 m.shared m:turned:14: calls kernel:turn(0x1000000) enters kernel:tur
 done 12 0.2 m.shared m:turned:14: pre 0 of kernel:turn from m.shared to kernel
 done 13 0.2 kernel kernel:turn:8: leaves 0 at 0x3000000
 done 14 0.2 kernel m:turned:14: post 0 of kernel:turn from kernel to m.shared
-done 15 0.2 m.shared m:turned:15: store i64 0x1 at 0x1000000
+done 15 0.2 m.shared m:turned:15: store i64 0x1 at 0x1000000 (m:@g+0)
 done 16 0.2 m.shared m:turned:16: leaves 0 at 0x3000000
 ends 17 0.2 kernel script: ends: returned
 ---- file examples/manual/lent.case
