@@ -1,5 +1,5 @@
 -- Events are told one by one.
-use Rattle.std.proofs.Common.{◌≡◌, ◌∙◌, ℕ, ◌+◌, ◌<◌, ◌≤◌, List, [], ◌∷◌, ◌++◌, length, drop, get_or, refl, sym, ap}
+use Rattle.std.proofs.Common.{◌≡◌, ◌∙◌, ℕ, ◌+◌, ◌<◌, ◌≤◌, List, ◌∷◌, ◌++◌, length, drop, get_or, sym, ap}
 use Rattle.std.specs.BTreeMap.{BTreeMap}
 use Rattle.std.proofs.lemmas.List.{at_drop_more, at_drop_all, append_assoc, append-nil}
 use Rattle.lx_annot.specs.Canonical.{Text}
@@ -16,10 +16,6 @@ pub record Telling (p : Program) (names : List InstanceName) (n : ℕ) (rest : L
   pub known : List Block
   pub holds : Holds known m
   pub same : text ++ event_lines p names known n rest ≡ whole
-
-pub told_none : (p : Program) (names : List InstanceName) (bs : List Block) (es : List Traced) (m : BTreeMap ℕ Block) (text : Text) → Holds bs m
-    → Telling p names 0 (drop 0 es) m text (text ++ event_lines p names bs 0 es)
-told_none p names bs es m text h = record { known = bs; holds = h; same = refl }
 
 pub told_more : (p : Program) (names : List InstanceName) (es : List Traced) (n : ℕ) (e : Traced) (old new : BTreeMap ℕ Block) (text longer whole : Text) → n < length es → e ≡ get_or es n e
     → Telling p names n (drop n es) old text whole → ((bs : List Block) → Holds bs old → Tells p names bs n e text longer new) → Telling p names (n + 1) (drop (n + 1) es) new longer whole

@@ -1,5 +1,5 @@
 -- The block that starts last up to an address, by the newest block of each start.
-use Rattle.std.proofs.Common.{◌≡◌, ◌∙◌, ℕ, ◌<◌, ◌≤◌, Bool, true, false, ◌&&◌, Option, Some, None, List, [], ◌∷◌, cond, refl, sym, ap, subst, nat_eq, nat_le, nat_lt, arith, if◌then◌else◌}
+use Rattle.std.proofs.Common.{◌≡◌, ◌∙◌, ℕ, ◌≤◌, Bool, true, false, ◌&&◌, Option, Some, None, List, [], ◌∷◌, cond, refl, sym, ap, subst, nat_eq, nat_le, nat_lt, arith, if◌then◌else◌}
 use Rattle.std.specs.Option.{IsSome}
 use Rattle.std.specs.Ordering.{is_gt, nat_cmp}
 use Rattle.std.specs.declared.cmp.Ordering.TheVariants.{Less, Equal, Greater}

@@ -101,7 +101,8 @@ abbrev pub change_by_value : ℕ → What → Word → Change
 change_by_value n (what.Native k args) w = if nat_eq k 0 then allocates n w.bits (first_value args) else Nothing
 change_by_value n w v = Nothing
 
--- what one changes that answers none: a stack's bytes are given and taken back, and `k.free` takes the block back that starts at its argument
+-- what one changes that answers none: bytes of a stack are given, and taken back by the return; `k.free` takes back the block that
+-- starts at its argument
 abbrev pub change_by_done : ℕ → What → Change
 change_by_done n (what.Alloca at size) = gives n at size
 change_by_done n (what.Return low high) = takes_between low high

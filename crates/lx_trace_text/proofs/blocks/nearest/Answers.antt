@@ -1,5 +1,5 @@
 -- The last entry up to the address is the nearest block.
-use Rattle.std.proofs.Common.{ℕ, ◌≤◌, ◌∙◌, sym, subst}
+use Rattle.std.proofs.Common.{◌∙◌, sym, subst}
 use Rattle.std.specs.Option.{IsSome}
 use Rattle.std.proofs.lemmas.Map.Keys.{le_from_not_gt, ge_from_not_lt}
 use Rattle.lx_trace_text.specs.Blocks.{Holds}

@@ -1,5 +1,5 @@
-use Rattle.std.proofs.Common.{arith, refl}
-use Rattle.lx_trace_text.proofs.Lines.{told_none, told_more, told_all}
+use Rattle.std.proofs.Common.{arith}
+use Rattle.lx_trace_text.proofs.Lines.{told_more, told_all}
 use Rattle.lx_trace_text.proofs.events.put_events.Goals as goal
 
 pub loop-n-preserved : goal.loop-n-preserved
