@@ -11,19 +11,17 @@ module m one.ll
 thread
 call m:main fuel 4
 ---- file one.ll
-@g = global i32 0
 define i32 @main() {
-store i32 7, ptr @g
 ret i32 7
 }
 ---- file whole.schedule
-schedule 0*4
----- file short.schedule
 schedule 0*3
+---- file short.schedule
+schedule 0*2
 ---- file long.schedule
-schedule 0*5
+schedule 0*4
 ---- file nobody.schedule
-schedule 1*1 0*4
+schedule 1*1 0*3
 ---- file empty.schedule
 schedule 0*0
 ---- file cut.case
@@ -50,9 +48,8 @@ module m lacking.ll
 ---- whole
 status 0
 done 0 0.0 kernel script: calls m:main() enters m:main as m.shared
-done 1 0.0 m.shared m:main:3: store i32 7 at 0x1000000
-done 2 0.0 m.shared m:main:4: leaves 0 at 0x3000000
-ends 3 0.0 kernel script: ends: returned 7
+done 1 0.0 m.shared m:main:2: leaves 0 at 0x3000000
+ends 2 0.0 kernel script: ends: returned 7
 ---- words cut.case whole.schedule
 ---- a fault in the case
 ---- whole
@@ -92,12 +89,12 @@ lxfi: cannot read lacking.ll
 ---- a schedule that ends before the calls
 ---- whole
 status 7
-lxfi: schedule not whole at entry 3
+lxfi: schedule not whole at entry 2
 ---- words one.case long.schedule
 ---- a schedule that goes on behind the calls
 ---- whole
 status 7
-lxfi: schedule not whole at entry 4
+lxfi: schedule not whole at entry 3
 ---- words one.case nobody.schedule
 ---- a schedule of a thread that there is none of
 ---- whole
@@ -137,8 +134,7 @@ odd.ll:1: ---- words one.case whole.schedule
 ---- whole
 status 0
 done 0 0.0 kernel script: calls m:main() enters m:main as m.shared
-done 1 0.0 m.shared m:main:3: store i32 7 at 0x1000000
-done 2 0.0 m.shared m:main:4: leaves 0 at 0x3000000
-ends 3 0.0 kernel script: ends: returned 7
+done 1 0.0 m.shared m:main:2: leaves 0 at 0x3000000
+ends 2 0.0 kernel script: ends: returned 7
 "
 }
