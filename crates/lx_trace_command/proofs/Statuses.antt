@@ -1,0 +1,149 @@
+-- When each status comes.
+use Rattle.std.proofs.Common.{◌≡◌, ◌≢◌, ◌∙◌, sym, ap, subst, refl, ◌⊎◌, inl, inr, ℕ, ◌≤◌, Bool, true, false, List, [], ◌∷◌, ◌++◌, Option, None, Result, Ok, Err, if◌then◌else◌, arith}
+use Rattle.lx_model.specs.World.{opening, is_whole}
+use Rattle.lx_outside.specs.declared.file_text.FileText.{FileText}
+use Rattle.lx_outside.specs.Files.{file_at}
+use Rattle.lx_input.specs.Files.FaultLine.{FaultLine}
+use Rattle.lx_input.specs.Files.InputStop.{InputStop}
+use Rattle.lx_input.specs.Files.InputStop.TheVariants as stops
+use Rattle.lx_input.specs.Files.Laws.{IsOne, EndsAt}
+use Rattle.lx_input.specs.declared.input.Input.{Input}
+use Rattle.lx_runs.specs.Reports.{IsAsked}
+use Rattle.lx_cli.specs.Answer.{HasEnded, IsBroken}
+use Rattle.lx_cli.specs.Rows.{status_of}
+use Rattle.lx_cli.specs.declared.answer.Answer.{Answer}
+use Rattle.lx_cli.specs.declared.answer.Answer.TheVariants as answer
+use Rattle.lx_cli.proofs.Replays.{whole_unbroken}
+use Rattle.lx_cli.proofs.Statuses.{five_or}
+use Rattle.lx_trace_command.specs.Traced.{NoNewFault, TellsTraceOf, TellsTraced}
+
+-- a trace is of a whole schedule
+trace_is_whole : (i : Input) (text : List ℕ) (returned : Bool) (entry : ℕ) → TellsTraceOf i (answer.Report text returned) → IsBroken i entry → ⊥
+trace_is_whole i text returned entry (asked, some, traced) (other, there, at) =
+    let same : other ≡ asked = cc (some, there) in
+    let whole : is_whole i.program other (opening i.program i.script) ≡ true = rw same traced.whole in
+    let unbroken = whole_unbroken i.program other (opening i.program i.script) whole in
+    absurd cc
+
+-- the status says whether every call returned
+ended : (i : Input) (text : List ℕ) (returned : Bool) (result : ℕ) → TellsTraceOf i (answer.Report text returned) → result ≡ (if returned then 0 else 1) → HasEnded i result
+ended i text returned result (asked, some, traced) is = record {
+  schedule = asked;
+  asked = subst (λ (o : Option (List ℕ)). IsAsked o asked) (sym some) refl;
+  whole = traced.whole;
+  is_status = is ∙ sym (ap (λ b. if b then 0 else 1) traced.status);
+}
+
+-- what each status tells, whatever the files come to
+module _ (turn : Result Input InputStop → Type 0) where
+  pub fault_told : (a : Answer) → TellsTraced turn a → status_of a ≡ 3 → (f : FaultLine) × turn (Err (stops.Fault f))
+  fault_told (answer.Fault f) is status = (f, is)
+  fault_told (answer.Unread file) is status = absurd cc
+  fault_told (answer.Broken entry) is status = absurd cc
+  fault_told (answer.Report text true) is status = absurd cc
+  fault_told (answer.Report text false) is status = absurd cc
+  fault_told (answer.Text text) is status = absurd cc
+  fault_told answer.Accepted is status = absurd cc
+  fault_told (answer.Refused f) is status = absurd cc
+
+  pub broken_told : (a : Answer) → TellsTraced turn a → status_of a ≡ 7 → (i : Input) × (entry : ℕ) × turn (Ok i) × IsBroken i entry
+  broken_told (answer.Fault f) is status = absurd cc
+  broken_told (answer.Unread file) is status = absurd cc
+  broken_told (answer.Broken entry) is status = (is.0, entry, is.1, is.2)
+  broken_told (answer.Report text true) is status = absurd cc
+  broken_told (answer.Report text false) is status = absurd cc
+  broken_told (answer.Text text) is status = absurd cc
+  broken_told answer.Accepted is status = absurd cc
+  broken_told (answer.Refused f) is status = absurd cc
+
+  pub unread_told : (a : Answer) (file : List ℕ) → a ≡ answer.Unread file → TellsTraced turn a → turn (Err (stops.Unread file))
+  unread_told a file is told = subst (TellsTraced turn) is told
+
+  -- no status is above 7
+  pub few_statuses : (a : Answer) → TellsTraced turn a → (result : ℕ) → (result ≢ 5 → result ≡ status_of a) → result ≤ 7
+  few_statuses a is result status = elim (five_or result (status_of a) status) [
+    | inl five ↦ omega (arith, five)
+    | inr same ↦ on a is same
+  ] where
+    on : (b : Answer) → TellsTraced turn b → result ≡ status_of b → result ≤ 7
+    on (answer.Fault f) is same = omega (arith, same)
+    on (answer.Unread file) is same = omega (arith, same)
+    on (answer.Broken entry) is same = omega (arith, same)
+    on (answer.Report text true) is same = omega (arith, same)
+    on (answer.Report text false) is same = omega (arith, same)
+    on (answer.Text text) is same = omega (arith, same)
+    on answer.Accepted is same = omega (arith, same)
+    on (answer.Refused f) is same = absurd is.2
+
+-- of what the files come to, which is settled
+module _ (files : List FileText) (turn : Result Input InputStop → Type 0) (one : IsOne turn) (ends : EndsAt files turn) where
+  -- no fault stands where the files come to an input
+  no_fault_in : {X : Type 0} (i : Input) (f : FaultLine) → turn (Ok i) → turn (Err (stops.Fault f)) → X
+  no_fault_in i f is_i is_f = let no = one (Ok i) (Err (stops.Fault f)) is_i is_f tt tt in absurd cc
+
+  -- and the files come to one input
+  same_input : (i j : Input) → turn (Ok i) → turn (Ok j) → i ≡ j
+  same_input i j is_i is_j = let same : ◌≡◌ {A = Result Input InputStop} (Ok i) (Ok j) = one (Ok i) (Ok j) is_i is_j tt tt in cc
+
+  module _ (a : Answer) (is : TellsTraced turn a) (result : ℕ) (status : result ≢ 5 → result ≡ status_of a) where
+    pub fault_comes : (f : FaultLine) → turn (Err (stops.Fault f)) → (result ≡ 3) ⊎ (result ≡ 4) ⊎ (result ≡ 5) ⊎ (result ≡ 6)
+    fault_comes f comes = elim (five_or result (status_of a) status) [
+      | inl five ↦ inr (inr (inl five))
+      | inr same ↦ on a is same
+    ] where
+      on : (b : Answer) → TellsTraced turn b → result ≡ status_of b → (result ≡ 3) ⊎ (result ≡ 4) ⊎ (result ≡ 5) ⊎ (result ≡ 6)
+      on (answer.Fault g) is same = inl same
+      on (answer.Unread file) is same = inr (inl same)
+      on (answer.Broken entry) is same = no_fault_in is.0 f is.1 comes
+      on (answer.Report text returned) is same = no_fault_in is.0 f is.1 comes
+      on (answer.Text text) is same = absurd is.2
+      on answer.Accepted is same = absurd is.2
+      on (answer.Refused g) is same = absurd is.2
+
+    pub missing_comes : (file : List ℕ) → turn (Err (stops.Unread file)) → file_at files file ≡ None → (result ≡ 4) ⊎ (result ≡ 5) ⊎ (result ≡ 6)
+    missing_comes file comes gone = elim (five_or result (status_of a) status) [
+      | inl five ↦ inr (inl five)
+      | inr same ↦ on a is same
+    ] where
+      on : (b : Answer) → TellsTraced turn b → result ≡ status_of b → (result ≡ 4) ⊎ (result ≡ 5) ⊎ (result ≡ 6)
+      on (answer.Fault g) is same = absurd (ends file (Err (stops.Fault g)) comes gone is tt)
+      on (answer.Unread file) is same = inl same
+      on (answer.Broken entry) is same = absurd (ends file (Ok is.0) comes gone is.1 tt)
+      on (answer.Report text returned) is same = absurd (ends file (Ok is.0) comes gone is.1 tt)
+      on (answer.Text text) is same = absurd is.2
+      on answer.Accepted is same = absurd is.2
+      on (answer.Refused g) is same = absurd is.2
+
+    pub broken_comes : (i : Input) (entry : ℕ) → turn (Ok i) → IsBroken i entry → (result ≡ 7) ⊎ (result ≡ 4) ⊎ (result ≡ 5) ⊎ (result ≡ 6)
+    broken_comes i entry comes at = elim (five_or result (status_of a) status) [
+      | inl five ↦ inr (inr (inl five))
+      | inr same ↦ on a is same
+    ] where
+      on : (b : Answer) → TellsTraced turn b → result ≡ status_of b → (result ≡ 7) ⊎ (result ≡ 4) ⊎ (result ≡ 5) ⊎ (result ≡ 6)
+      on (answer.Fault g) is same = no_fault_in i g comes is
+      on (answer.Unread file) is same = inr (inl same)
+      on (answer.Broken other) is same = inl same
+      on (answer.Report text returned) is same =
+          absurd (trace_is_whole is.0 text returned entry is.2 (subst (λ (j : Input). IsBroken j entry) (same_input i is.0 comes is.1) at))
+      on (answer.Text text) is same = absurd is.2
+      on answer.Accepted is same = absurd is.2
+      on (answer.Refused g) is same = absurd is.2
+
+    pub all_comes : (before now : List (List ℕ)) (i : Input) → ((file : List ℕ) → a ≡ answer.Unread file → now ≡ before ++ file ∷ [])
+        → turn (Ok i) → NoNewFault before now turn → result ≢ 5 → (HasEnded i result ⊎ ((result ≡ 7) × (entry : ℕ) × IsBroken i entry)) ⊎ (result ≡ 6)
+    all_comes before now i grew comes no_fault not_5 = on a is grew (status not_5) where
+      Ends : Input → Type 0
+      Ends j = HasEnded j result ⊎ ((result ≡ 7) × (entry : ℕ) × IsBroken j entry)
+
+      here : (j : Input) → turn (Ok j) → Ends j → Ends i ⊎ (result ≡ 6)
+      here j is_j ends = inl (subst Ends (same_input j i is_j comes) ends)
+
+      on : (b : Answer) → TellsTraced turn b → ((file : List ℕ) → b ≡ answer.Unread file → now ≡ before ++ file ∷ []) → result ≡ status_of b → Ends i ⊎ (result ≡ 6)
+      on (answer.Fault g) is grew same = no_fault_in i g comes is
+      on (answer.Unread file) is grew same = absurd (no_fault (file ∷ []) file (grew file refl) (0, omega arith, refl) is)
+      on (answer.Broken entry) is grew same = here is.0 is.1 (inr (same, entry, is.2))
+      on (answer.Report text true) is grew same = here is.0 is.1 (inl (ended is.0 text true result is.2 same))
+      on (answer.Report text false) is grew same = here is.0 is.1 (inl (ended is.0 text false result is.2 same))
+      on (answer.Text text) is grew same = absurd is.2
+      on answer.Accepted is grew same = absurd is.2
+      on (answer.Refused g) is grew same = absurd is.2

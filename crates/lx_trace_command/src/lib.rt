@@ -1,0 +1,15 @@
+//! The tracing program: from its words, a case and a schedule, over any shelf and sink, to the trace of the case's run under that schedule,
+//! and its exit status.
+//!
+//! ```text
+//! // The words `one.case one.schedule`, over a shelf that has the files.
+//! let status = lxfi_trace(alloc, &words, &mut shelf, &mut sink);
+//! // 0, and the sink has one line for each event; 2 where the words are no such pair; the other statuses are those of `replay`.
+//! ```
+#![tactic(auto)]
+
+mod answer;
+mod top;
+mod words;
+
+pub use top::lxfi_trace;

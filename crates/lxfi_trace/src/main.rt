@@ -1,0 +1,18 @@
+//! Makes the real shelf and sink, and traces.
+#![tactic(auto)]
+
+use lx_cli::WANT_OF_MEMORY;
+use lx_outside::{FileShelf, StdSink, command_words};
+use lx_trace_command::lxfi_trace;
+use std::process::ExitCode;
+
+fn main(rt: HostRuntime) -> ExitCode {
+    let alloc = rt.alloc();
+    let Ok(words) = command_words(&rt, alloc) else {
+        return ExitCode::from(WANT_OF_MEMORY);
+    };
+    let mut shelf = FileShelf::new(&rt, alloc);
+    let mut sink = StdSink::new(&rt);
+    let status = lxfi_trace(alloc, &words, &mut shelf, &mut sink);
+    ExitCode::from(status)
+}
