@@ -174,7 +174,7 @@ fn trace_of<C: CapStore + Drop>(
     requires { (p : Program) × (script : List (List ScriptCall)) × StandsForTrace C.stands p script [] run.old × (images ≡ images_of p) }
     ensures { IfOk result (λ told. (p : Program) (script : List (List ScriptCall)) → StandsForTrace C.stands p script [] run.old → TellsTrace p script (Some schedule.now) told) }
 {
-    let mut events = Vec::new(alloc);
+    let mut events = Vec::with_capacity(alloc, schedule.len())?;
     match gather(alloc, run, schedule, &mut events)? {
         Some(entry) => Ok(Told::Broken(entry)),
         None => {
