@@ -16,6 +16,8 @@ pub struct Bench {
     pub shelf: MemShelf,
     /// Whether its output takes ten bytes alone.
     pub is_short: bool,
+    /// What the next run has to write, as far as it is said.
+    pub wanted: String,
     /// The status of the last run, and what it wrote.
     pub written: String,
     /// Why the next case is there.
@@ -33,6 +35,7 @@ impl Bench {
             words: Vec::new(alloc),
             shelf: MemShelf::new(alloc, Vec::new(alloc)),
             is_short: false,
+            wanted: String::new(alloc),
             written: String::new(alloc),
             why: String::new(alloc),
             wrong: String::new(alloc),

@@ -29,7 +29,13 @@ mod ends;
 #[cfg(test)]
 mod first_traces;
 #[cfg(test)]
+mod further_long_traces;
+#[cfg(test)]
+mod last_long_traces;
+#[cfg(test)]
 mod lesson_traces;
+#[cfg(test)]
+mod long_traces;
 #[cfg(test)]
 mod machine_traces;
 #[cfg(test)]
@@ -38,6 +44,8 @@ mod more_c_traces;
 mod more_card_traces;
 #[cfg(test)]
 mod more_driver_traces;
+#[cfg(test)]
+mod more_long_traces;
 #[cfg(test)]
 mod need_traces;
 #[cfg(test)]

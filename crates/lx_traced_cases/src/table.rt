@@ -41,16 +41,23 @@ fn put_wrong(wrong: &mut String, why: &str, wanted: &str, written: &str) -> Resu
     Ok(())
 }
 
-/// Runs the case that was put last; where it does not write this text, that goes to what went wrong.
-fn compare(alloc: Global, bench: &mut Bench, wanted: &str) -> Result<(), Fail> {
+/// Runs the case that was put last; where it does not write what is wanted, that goes to what went wrong.
+fn compare(alloc: Global, bench: &mut Bench) -> Result<(), Fail> {
     run(alloc, bench)?;
     bench.tried = bench.tried.saturating_add(1);
     bench.is_short = false;
-    let (why, written) = (bench.why.as_str(), bench.written.as_str());
+    let (wanted, written) = (bench.wanted.as_str(), bench.written.as_str());
     if written != wanted {
-        put_wrong(&mut bench.wrong, why, wanted, written)?;
+        put_wrong(&mut bench.wrong, bench.why.as_str(), wanted, written)?;
     }
+    bench.wanted.clear();
     Ok(())
+}
+
+/// Runs the case that was put last, which has to write this text behind what was said before.
+fn compare_whole(alloc: Global, bench: &mut Bench, ending: &str) -> Result<(), Fail> {
+    bench.wanted.push_str(ending)?;
+    compare(alloc, bench)
 }
 
 /// Notes that the next run has no words.
@@ -60,13 +67,14 @@ fn set_no_words(bench: &mut Bench) -> Result<(), Fail> {
 }
 
 /// Does what a part says: `file NAME` puts its body, `words WORD ..` or `no words` is the command, `short output` is what it writes to, `whole`
-/// runs the case, which has to write the body, and all else is why the next case is there.
+/// runs the case, which has to write the body behind those of `further` before, and all else is why the next case is there.
 fn take_part(alloc: Global, bench: &mut Bench, part: &str) -> Result<(), Fail> {
     let Some((head, body)) = part.split_once('\n') else {
         return Ok(());
     };
     match head {
-        "whole" => return compare(alloc, bench, body),
+        "whole" => return compare_whole(alloc, bench, body),
+        "further" => bench.wanted.push_str(body)?,
         "short output" => bench.is_short = true,
         "no words" => set_no_words(bench)?,
         _ => put_named(alloc, bench, head, body)?,

@@ -6,19 +6,23 @@ use crate::card_traces::card_traces_table;
 use crate::driver_traces::driver_traces_table;
 use crate::ends::ends;
 use crate::first_traces::first_traces_table;
+use crate::further_long_traces::further_long_traces_table;
+use crate::last_long_traces::last_long_traces_table;
 use crate::lesson_traces::lesson_traces_table;
+use crate::long_traces::long_traces_table;
 use crate::machine_traces::machine_traces_table;
 use crate::more_c_traces::more_c_traces_table;
 use crate::more_card_traces::more_card_traces_table;
 use crate::more_driver_traces::more_driver_traces_table;
+use crate::more_long_traces::more_long_traces_table;
 use crate::need_traces::need_traces_table;
 use crate::refusal_traces::refusal_traces_table;
 
 /// How many texts there are.
-pub const TEXTS: u32 = 13;
+pub const TEXTS: u32 = 17;
 
-/// How many cases are in them: 52 traces of examples, and 18 that `ends` has.
-pub const CASES: u32 = 70;
+/// How many cases are in them: 53 traces of examples, and 18 that `ends` has.
+pub const CASES: u32 = 71;
 
 /// A text by its number, in the order of `examples/RUNS`: the files of a row may stand in an earlier one.
 pub fn text(number: u32) -> &'static str {
@@ -35,6 +39,10 @@ pub fn text(number: u32) -> &'static str {
         9 => machine_traces_table(),
         10 => refusal_traces_table(),
         11 => need_traces_table(),
+        12 => long_traces_table(),
+        13 => more_long_traces_table(),
+        14 => further_long_traces_table(),
+        15 => last_long_traces_table(),
         _ => ends(),
     }
 }
