@@ -188,15 +188,14 @@ fn trace_of<C: CapStore + Drop>(
 fn trace_opened<C: CapStore + Drop>(
     alloc: Global,
     mut run: TraceRun<C>,
-    schedule: Schedule,
+    schedule: &[u32],
     images: Items<ImageCount>,
 ) -> Result<Told, Memory>
     requires { (p : Program) × (script : List (List ScriptCall)) × StandsForTrace C.stands p script [] run × (images ≡ images_of p) }
-    ensures { IfOk result (λ told. (p : Program) (script : List (List ScriptCall)) → StandsForTrace C.stands p script [] run → TellsTrace p script (Some schedule) told) }
+    ensures { IfOk result (λ told. (p : Program) (script : List (List ScriptCall)) → StandsForTrace C.stands p script [] run → TellsTrace p script (Some schedule.now) told) }
 {
-    let told = trace_of(alloc, &mut run, schedule.as_slice(), images);
+    let told = trace_of(alloc, &mut run, schedule, images);
     drop(run);
-    drop(schedule);
     told
 }
 
@@ -255,9 +254,33 @@ fn trace_over<C: CapStore + Drop>(alloc: Global, input: Input, caps: C) -> Resul
         images,
     } = open_input(alloc, input, caps)?;
     match schedule {
-        Some(schedule) => trace_opened(alloc, run, schedule, images),
+        Some(schedule) => {
+            let told = trace_opened(alloc, run, schedule.as_slice(), images);
+            drop(schedule);
+            told
+        }
         None => unreachable!(),
     }
+}
+
+/// The same under a schedule that is given.
+fn trace_given<C: CapStore + Drop>(
+    alloc: Global,
+    input: Input,
+    given: &[u32],
+    caps: C,
+) -> Result<Told, Memory>
+    requires ready { IsReady input }
+    requires new { C.stands caps [] }
+    ensures { IfOk result (TellsTrace input.program input.script (Some given.now)) }
+{
+    let Opened {
+        run,
+        schedule,
+        images,
+    } = open_input(alloc, input, caps)?;
+    drop(schedule);
+    trace_opened(alloc, run, given, images)
 }
 
 /// Replays an input under the schedule that is asked for, and tells each event of the run: which call it belongs to, the line of the text at which
@@ -274,6 +297,23 @@ pub fn trace_input(alloc: Global, input: Input) -> Result<Told, Memory>
 {
     match CapTables::new(alloc) {
         Ok(caps) => trace_over(alloc, input, caps),
+        Err(_) => {
+            drop(input);
+            Err(Memory)
+        }
+    }
+}
+
+/// The same under a schedule that is given, in place of the one that is asked for.
+///
+/// # Errors
+/// Those of [`trace_input`].
+pub fn trace_under(alloc: Global, input: Input, schedule: &[u32]) -> Result<Told, Memory>
+    requires { IsReady input }
+    ensures { IfOk result (TellsTrace input.program input.script (Some schedule.now)) }
+{
+    match CapTables::new(alloc) {
+        Ok(caps) => trace_given(alloc, input, schedule, caps),
         Err(_) => {
             drop(input);
             Err(Memory)

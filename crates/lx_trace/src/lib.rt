@@ -14,7 +14,7 @@ ghost use Rattle.lx_trace.specs.Laws.{TraceLaws};
 mod input;
 mod run;
 
-pub use input::trace_input;
+pub use input::{trace_input, trace_under};
 use lx_places::place_laws;
 pub use run::TraceRun;
 
