@@ -1,4 +1,5 @@
 pub mod Behind
+pub mod Ended
 pub mod Gained
 pub mod Gathering
 pub mod Placed

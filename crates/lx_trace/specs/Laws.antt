@@ -6,12 +6,13 @@ use Rattle.lx_model.specs.declared.program.Program.{Program}
 use Rattle.lx_model.specs.declared.program.ScriptCall.{ScriptCall}
 use Rattle.lx_model.specs.declared.request.Entry.{Entry}
 use Rattle.lx_model.specs.declared.request.Outcome.{Outcome}
+use Rattle.lx_model.specs.declared.request.Reply.TheVariants.{Ended}
 use Rattle.lx_model.specs.declared.request.Way.TheVariants.{Script}
 use Rattle.lx_model.specs.declared.request.What.{What}
 use Rattle.lx_model.specs.declared.request.What.TheVariants as what
 use Rattle.lx_model.specs.Next.{finish, next}
-use Rattle.lx_model.specs.Thread.{Thread}
-use Rattle.lx_model.specs.World.{World, is_whole, run}
+use Rattle.lx_model.specs.Thread.{Ending, Thread, has_work}
+use Rattle.lx_model.specs.World.{World, event, is_whole, run}
 use Rattle.lx_places.specs.Place.{Place, asks_at}
 use Rattle.lx_trace_text.specs.declared.Traced.{Traced}
 use Rattle.lx_trace.specs.Trace.{IsTrace, behind, site, trace, traced}
@@ -31,6 +32,10 @@ is_of_code w = true
 abbrev pub IsNoEnd : Traced → Type 0
 IsNoEnd e = (o : Outcome) → e.request ≢ finish o
 
+-- how an event that comes to an outcome ends the call that it belongs to: its function comes to the outcome
+abbrev pub ending_by : Traced → Outcome → Ending
+ending_by e o = record { function = e.function; outcome = o }
+
 pub record TraceLaws : Type 0 where
   -- the trace of a whole schedule is what the journal gains, entry by entry
   pub journal : (p : Program) (schedule : List ℕ) (w : World) → is_whole p schedule w ≡ true → (run p schedule w).state.journal ≡ w.state.journal ++ map entry_of (trace p schedule w)
@@ -38,6 +43,9 @@ pub record TraceLaws : Type 0 where
   pub count : (p : Program) (schedule : List ℕ) (w : World) → is_whole p schedule w ≡ true → length (trace p schedule w) ≡ length schedule
   -- a run has one trace, and one status
   pub one : (p : Program) (script : List (List ScriptCall)) (schedule : List ℕ) (a b : Text) (r s : Bool) → IsTrace p script schedule r a → IsTrace p script schedule s b → (a ≡ b) × (r ≡ s)
+  -- an event that is replied an outcome ends the call that it is said to belong to, by its number and its function
+  pub ended : (p : Program) (t : ℕ) (w : World) (thread : Thread) (o : Outcome) → slice_get w.threads t ≡ Some thread → has_work thread ≡ true → (traced p t w thread).reply ≡ Ended o
+      → (after : Thread) × (slice_get (event p t w).threads t ≡ Some after) × (slice_get after.ended (traced p t w thread).call ≡ Some (ending_by (traced p t w thread) o))
   -- what an instruction asks for is asked at a place, whatever the program
   pub placed : (p : Program) (t : ℕ) (thread : Thread) → is_of_code (next p t thread).request.what ≡ true → (x : Place) × (asks_at p t thread ≡ Some x)
   -- at each point of a run of a well-formed program, what is asked at a place has its line, unless its call has come to its end

@@ -16,12 +16,14 @@ mod run;
 
 pub use input::{trace_input, trace_under};
 use lx_places::place_laws;
+use lx_run_laws::reached_laws;
 pub use run::TraceRun;
 
 /// What a trace says, in the words of the journal: its events are what the journal gains, one for each entry of the schedule. A run
-/// has one trace; and what a function asks for has its line.
+/// has one trace; an event that is replied an outcome ends its call; and what a function asks for has its line.
 pub fn trace_laws()
     ensures { TraceLaws }
 {
     place_laws();
+    reached_laws();
 }
