@@ -1,5 +1,5 @@
 -- When each status comes.
-use Rattle.std.proofs.Common.{◌≡◌, ◌≢◌, ◌∙◌, sym, ap, subst, refl, ◌⊎◌, inl, inr, ℕ, ◌≤◌, Bool, true, false, List, [], ◌∷◌, ◌++◌, Option, None, Result, Ok, Err, if◌then◌else◌, arith}
+use Rattle.std.proofs.Common.{◌≡◌, ◌≢◌, ◌∙◌, sym, ap, subst, refl, ◌⊎◌, inl, inr, ℕ, ◌≤◌, Bool, true, false, List, [], ◌∷◌, ◌++◌, Option, Some, None, Result, Ok, Err, if◌then◌else◌, arith}
 use Rattle.lx_model.specs.World.{opening, is_whole}
 use Rattle.lx_outside.specs.declared.file_text.FileText.{FileText}
 use Rattle.lx_outside.specs.Files.{file_at}
@@ -7,29 +7,31 @@ use Rattle.lx_input.specs.Files.FaultLine.{FaultLine}
 use Rattle.lx_input.specs.Files.InputStop.{InputStop}
 use Rattle.lx_input.specs.Files.InputStop.TheVariants as stops
 use Rattle.lx_input.specs.Files.Laws.{IsOne, EndsAt}
+use Rattle.lx_input.specs.Laws.{MissingFilesEnd, OneInput}
 use Rattle.lx_input.specs.declared.input.Input.{Input}
 use Rattle.lx_runs.specs.Reports.{IsAsked}
-use Rattle.lx_cli.specs.Answer.{HasEnded, IsBroken}
+use Rattle.lx_cli.specs.Answer.{BrokenBy, EndedBy, HasEnded, IsBroken}
+use Rattle.lx_cli.specs.Command.{CommandTurn, Replay, Run, asked_of}
 use Rattle.lx_cli.specs.Rows.{status_of}
 use Rattle.lx_cli.specs.declared.answer.Answer.{Answer}
 use Rattle.lx_cli.specs.declared.answer.Answer.TheVariants as answer
 use Rattle.lx_cli.proofs.Replays.{whole_unbroken}
 use Rattle.lx_cli.proofs.Statuses.{five_or}
-use Rattle.lx_trace_command.specs.Traced.{NoNewFault, TellsTraceOf, TellsTraced}
+use Rattle.lx_trace_command.specs.Traced.{IsReplayed, NoNewFault, TellsTraceOf, TellsTraced, run_of}
 
 -- a trace is of a whole schedule
 trace_is_whole : (i : Input) (text : List ℕ) (returned : Bool) (entry : ℕ) → TellsTraceOf i (answer.Report text returned) → IsBroken i entry → ⊥
-trace_is_whole i text returned entry (asked, some, traced) (other, there, at) =
-    let same : other ≡ asked = cc (some, there) in
-    let whole : is_whole i.program other (opening i.program i.script) ≡ true = rw same traced.whole in
+trace_is_whole i text returned entry (asked, is, traced) (other, there, at) =
+    let same : IsAsked (Some other) asked = subst (λ (o : Option (List ℕ)). IsAsked o asked) there is in
+    let whole : is_whole i.program other (opening i.program i.script) ≡ true = rw (← same) traced.whole in
     let unbroken = whole_unbroken i.program other (opening i.program i.script) whole in
     absurd cc
 
 -- the status says whether every call returned
 ended : (i : Input) (text : List ℕ) (returned : Bool) (result : ℕ) → TellsTraceOf i (answer.Report text returned) → result ≡ (if returned then 0 else 1) → HasEnded i result
-ended i text returned result (asked, some, traced) is = record {
+ended i text returned result (asked, fits, traced) is = record {
   schedule = asked;
-  asked = subst (λ (o : Option (List ℕ)). IsAsked o asked) (sym some) refl;
+  asked = fits;
   whole = traced.whole;
   is_status = is ∙ sym (ap (λ b. if b then 0 else 1) traced.status);
 }
@@ -46,15 +48,27 @@ module _ (turn : Result Input InputStop → Type 0) where
   fault_told answer.Accepted is status = absurd cc
   fault_told (answer.Refused f) is status = absurd cc
 
-  pub broken_told : (a : Answer) → TellsTraced turn a → status_of a ≡ 7 → (i : Input) × (entry : ℕ) × turn (Ok i) × IsBroken i entry
-  broken_told (answer.Fault f) is status = absurd cc
-  broken_told (answer.Unread file) is status = absurd cc
-  broken_told (answer.Broken entry) is status = (is.0, entry, is.1, is.2)
-  broken_told (answer.Report text true) is status = absurd cc
-  broken_told (answer.Report text false) is status = absurd cc
-  broken_told (answer.Text text) is status = absurd cc
-  broken_told answer.Accepted is status = absurd cc
-  broken_told (answer.Refused f) is status = absurd cc
+  pub broken_told : (case : List ℕ) (schedule : Option (List ℕ)) (a : Answer) → IsReplayed (run_of case schedule) turn a → status_of a ≡ 7 → (i : Input) × (entry : ℕ) × turn (Ok i) × IsBroken i entry
+  broken_told case None (answer.Broken entry) is status = absurd is.2
+  broken_told case (Some schedule) (answer.Broken entry) is status = (is.0, entry, is.1, is.2)
+  broken_told case o (answer.Fault f) is status = absurd cc
+  broken_told case o (answer.Unread file) is status = absurd cc
+  broken_told case o (answer.Report text true) is status = absurd cc
+  broken_told case o (answer.Report text false) is status = absurd cc
+  broken_told case o (answer.Text text) is status = absurd cc
+  broken_told case o answer.Accepted is status = absurd cc
+  broken_told case o (answer.Refused f) is status = absurd cc
+
+  -- the schedule of a run is whole
+  pub whole_told : (case : List ℕ) (a : Answer) → IsReplayed (Run case) turn a → status_of a ≡ 7 → ⊥
+  whole_told case (answer.Broken entry) is status = is.2
+  whole_told case (answer.Fault f) is status = absurd cc
+  whole_told case (answer.Unread file) is status = absurd cc
+  whole_told case (answer.Report text true) is status = absurd cc
+  whole_told case (answer.Report text false) is status = absurd cc
+  whole_told case (answer.Text text) is status = absurd cc
+  whole_told case answer.Accepted is status = absurd cc
+  whole_told case (answer.Refused f) is status = absurd cc
 
   pub unread_told : (a : Answer) (file : List ℕ) → a ≡ answer.Unread file → TellsTraced turn a → turn (Err (stops.Unread file))
   unread_told a file is told = subst (TellsTraced turn) is told
@@ -75,6 +89,16 @@ module _ (turn : Result Input InputStop → Type 0) where
     on answer.Accepted is same = omega (arith, same)
     on (answer.Refused f) is same = absurd is.2
 
+-- what the files of a run or a replay come to is settled
+
+pub one_turn : OneInput → (files : List FileText) (case : List ℕ) (schedule : Option (List ℕ)) → IsOne (λ r. CommandTurn files (Some (run_of case schedule)) r)
+one_turn one files case None = one files case (asked_of (Run case))
+one_turn one files case (Some schedule) = one files case (asked_of (Replay case schedule))
+
+pub turn_ends : MissingFilesEnd → (files : List FileText) (case : List ℕ) (schedule : Option (List ℕ)) → EndsAt files (λ r. CommandTurn files (Some (run_of case schedule)) r)
+turn_ends ends files case None = ends files case (asked_of (Run case))
+turn_ends ends files case (Some schedule) = ends files case (asked_of (Replay case schedule))
+
 -- of what the files come to, which is settled
 module _ (files : List FileText) (turn : Result Input InputStop → Type 0) (one : IsOne turn) (ends : EndsAt files turn) where
   -- no fault stands where the files come to an input
@@ -84,6 +108,16 @@ module _ (files : List FileText) (turn : Result Input InputStop → Type 0) (one
   -- and the files come to one input
   same_input : (i j : Input) → turn (Ok i) → turn (Ok j) → i ≡ j
   same_input i j is_i is_j = let same : ◌≡◌ {A = Result Input InputStop} (Ok i) (Ok j) = one (Ok i) (Ok j) is_i is_j tt tt in cc
+
+  -- how a run ends, or a replay
+
+  ended_well : (case : List ℕ) (schedule : Option (List ℕ)) (i : Input) (result : ℕ) → HasEnded i result → EndedBy (Some (run_of case schedule)) i result
+  ended_well case None i result is = is
+  ended_well case (Some schedule) i result is = inl is
+
+  ended_broken : (case : List ℕ) (schedule : Option (List ℕ)) (i : Input) (entry result : ℕ) → BrokenBy (Some (run_of case schedule)) i entry → result ≡ 7 → EndedBy (Some (run_of case schedule)) i result
+  ended_broken case None i entry result is status = absurd is
+  ended_broken case (Some schedule) i entry result is status = inr (status, entry, is)
 
   module _ (a : Answer) (is : TellsTraced turn a) (result : ℕ) (status : result ≢ 5 → result ≡ status_of a) where
     pub fault_comes : (f : FaultLine) → turn (Err (stops.Fault f)) → (result ≡ 3) ⊎ (result ≡ 4) ⊎ (result ≡ 5) ⊎ (result ≡ 6)
@@ -129,21 +163,22 @@ module _ (files : List FileText) (turn : Result Input InputStop → Type 0) (one
       on answer.Accepted is same = absurd is.2
       on (answer.Refused g) is same = absurd is.2
 
-    pub all_comes : (before now : List (List ℕ)) (i : Input) → ((file : List ℕ) → a ≡ answer.Unread file → now ≡ before ++ file ∷ [])
-        → turn (Ok i) → NoNewFault before now turn → result ≢ 5 → (HasEnded i result ⊎ ((result ≡ 7) × (entry : ℕ) × IsBroken i entry)) ⊎ (result ≡ 6)
-    all_comes before now i grew comes no_fault not_5 = on a is grew (status not_5) where
+    pub all_comes : (case : List ℕ) (schedule : Option (List ℕ)) (before now : List (List ℕ)) (i : Input) → IsReplayed (run_of case schedule) turn a
+        → ((file : List ℕ) → a ≡ answer.Unread file → now ≡ before ++ file ∷ [])
+        → turn (Ok i) → NoNewFault before now turn → result ≢ 5 → EndedBy (Some (run_of case schedule)) i result ⊎ (result ≡ 6)
+    all_comes case schedule before now i replayed grew comes no_fault not_5 = on a is replayed grew (status not_5) where
       Ends : Input → Type 0
-      Ends j = HasEnded j result ⊎ ((result ≡ 7) × (entry : ℕ) × IsBroken j entry)
+      Ends j = EndedBy (Some (run_of case schedule)) j result
 
       here : (j : Input) → turn (Ok j) → Ends j → Ends i ⊎ (result ≡ 6)
       here j is_j ends = inl (subst Ends (same_input j i is_j comes) ends)
 
-      on : (b : Answer) → TellsTraced turn b → ((file : List ℕ) → b ≡ answer.Unread file → now ≡ before ++ file ∷ []) → result ≡ status_of b → Ends i ⊎ (result ≡ 6)
-      on (answer.Fault g) is grew same = no_fault_in i g comes is
-      on (answer.Unread file) is grew same = absurd (no_fault (file ∷ []) file (grew file refl) (0, omega arith, refl) is)
-      on (answer.Broken entry) is grew same = here is.0 is.1 (inr (same, entry, is.2))
-      on (answer.Report text true) is grew same = here is.0 is.1 (inl (ended is.0 text true result is.2 same))
-      on (answer.Report text false) is grew same = here is.0 is.1 (inl (ended is.0 text false result is.2 same))
-      on (answer.Text text) is grew same = absurd is.2
-      on answer.Accepted is grew same = absurd is.2
-      on (answer.Refused g) is grew same = absurd is.2
+      on : (b : Answer) → TellsTraced turn b → IsReplayed (run_of case schedule) turn b → ((file : List ℕ) → b ≡ answer.Unread file → now ≡ before ++ file ∷ []) → result ≡ status_of b → Ends i ⊎ (result ≡ 6)
+      on (answer.Fault g) is replayed grew same = no_fault_in i g comes is
+      on (answer.Unread file) is replayed grew same = absurd (no_fault (file ∷ []) file (grew file refl) (0, omega arith, refl) is)
+      on (answer.Broken entry) is replayed grew same = here replayed.0 replayed.1 (ended_broken case schedule replayed.0 entry result replayed.2 same)
+      on (answer.Report text true) is replayed grew same = here is.0 is.1 (ended_well case schedule is.0 result (ended is.0 text true result is.2 same))
+      on (answer.Report text false) is replayed grew same = here is.0 is.1 (ended_well case schedule is.0 result (ended is.0 text false result is.2 same))
+      on (answer.Text text) is replayed grew same = absurd is.2
+      on answer.Accepted is replayed grew same = absurd is.2
+      on (answer.Refused g) is replayed grew same = absurd is.2

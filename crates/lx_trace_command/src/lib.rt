@@ -1,10 +1,10 @@
-//! The tracing program: from its words, a case and a schedule, over any shelf and sink, to the trace of the case's run under that schedule,
-//! and its exit status.
+//! The tracing program: from its words, a case and perhaps a schedule, over any shelf and sink, to the trace of the case's run, under that schedule or
+//! the one that arises, and its exit status.
 //!
 //! ```text
-//! // The words `one.case one.schedule`, over a shelf that has the files.
-//! let status = lxfi_trace(alloc, &words, &mut shelf, &mut sink);
-//! // 0, and the sink has one line for each event; 2 where the words are no such pair; the other statuses are those of `replay`.
+//! // The words `one.case` or `one.case one.schedule`, over a shelf that has the files.
+//! let status = lxfi_trace(&rt, alloc, &words, &mut shelf, &mut sink, &OpenGate);
+//! // 0, and the sink has one line for each event; 2 where the words are no such; the other statuses are those of `run` and `replay`.
 //! ```
 #![tactic(auto)]
 

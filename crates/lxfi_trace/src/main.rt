@@ -1,8 +1,8 @@
-//! Makes the real shelf and sink, and traces.
+//! Makes the real shelf, sink and gate, and traces.
 #![tactic(auto)]
 
 use lx_cli::WANT_OF_MEMORY;
-use lx_outside::{FileShelf, StdSink, command_words};
+use lx_outside::{FileShelf, OpenGate, StdSink, command_words};
 use lx_trace_command::lxfi_trace;
 use std::process::ExitCode;
 
@@ -13,6 +13,6 @@ fn main(rt: HostRuntime) -> ExitCode {
     };
     let mut shelf = FileShelf::new(&rt, alloc);
     let mut sink = StdSink::new(&rt);
-    let status = lxfi_trace(alloc, &words, &mut shelf, &mut sink);
+    let status = lxfi_trace(&rt, alloc, &words, &mut shelf, &mut sink, &OpenGate);
     ExitCode::from(status)
 }

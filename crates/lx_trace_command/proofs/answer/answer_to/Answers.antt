@@ -1,46 +1,46 @@
-use Rattle.std.proofs.Common.{◌≡◌, Some}
+-- A case is replayed where a schedule is named, and run else.
+use Rattle.std.proofs.Common.{ap, subst, sym, ℕ, List, Option, Some, option_copied}
 use Rattle.lx_cli.specs.Command.{CommandTurn, UntoldTurn}
-use Rattle.lx_cli.specs.declared.answer.Answer.{Answer}
-use Rattle.lx_cli.specs.declared.answer.Answer.TheVariants as answer
-use Rattle.lx_cli.proofs.Telling.{if_ok, if_ok_at}
-use Rattle.lx_trace_command.specs.Traced.{TellsTraceOf, answer_of_stop, replayed}
-use Rattle.lx_trace_command.proofs.Telling.{told_input, told_stop, noted_stop}
+use Rattle.lx_cli.proofs.Telling.{if_ok}
+use Rattle.lx_trace_command.specs.Traced.{IsReplayed, TellsTraced, run_of}
 use Rattle.lx_trace_command.proofs.answer.answer_to.Goals as goal
 
-pub answer_input-requires-clause-asked : goal.answer_input-requires-clause-asked
-answer_input-requires-clause-asked g c = c.in-Ok.ensures.there.schedule
+pub returns-in-Some-clause-answer : goal.returns-in-Some-clause-answer
+returns-in-Some-clause-answer g c =
+    if_ok c.answer_replay.result
+    (λ a tells. λ files files_told. subst (λ (o : Option (List ℕ)). TellsTraced (CommandTurn files (Some (run_of c.args.named.case.now o))) a) (sym (ap option_copied c.in-Some.is)) (tells files files_told))
+    c.answer_replay.ensures.answer
 
-pub returns-in-Ok-clause-answer : goal.returns-in-Ok-clause-answer
-returns-in-Ok-clause-answer g c =
-    if_ok c.answer_input.result
-    (λ a tells. λ files files_told. told_input (CommandTurn files (Some (replayed c.args.named))) c.in-Ok.input a (c.in-Ok.ensures.told files files_told) tells)
-    c.answer_input.ensures
+pub returns-in-Some-clause-replayed : goal.returns-in-Some-clause-replayed
+returns-in-Some-clause-replayed g c =
+    if_ok c.answer_replay.result
+    (λ a is. λ files files_told.
+    subst (λ (o : Option (List ℕ)). IsReplayed (run_of c.args.named.case.now o) (CommandTurn files (Some (run_of c.args.named.case.now o))) a) (sym (ap option_copied c.in-Some.is)) (is files files_told))
+    c.answer_replay.ensures.replayed
 
-pub returns-in-Ok-clause-untold : goal.returns-in-Ok-clause-untold
-returns-in-Ok-clause-untold g c =
-    if_ok c.answer_input.result
-    (λ a tells. told_input (UntoldTurn (Some (replayed c.args.named)) (g.S.Shelf.faults c.args.shelf.now) (g.S.Shelf.faults c.read_input.new.shelf)) c.in-Ok.input a
-    (record { noted = c.in-Ok.ensures.noted; ready = c.in-Ok.ensures.ready; there = c.in-Ok.ensures.there }) tells)
-    c.answer_input.ensures
+pub returns-in-Some-clause-untold : goal.returns-in-Some-clause-untold
+returns-in-Some-clause-untold g c =
+    if_ok c.answer_replay.result
+    (λ a tells.
+    subst (λ (o : Option (List ℕ)). TellsTraced (UntoldTurn (Some (run_of c.args.named.case.now o)) (g.S.Shelf.faults c.args.shelf.now) (g.S.Shelf.faults c.answer_replay.new.shelf)) a) (sym (ap option_copied c.in-Some.is)) tells)
+    c.answer_replay.ensures.untold
 
-pub returns-in-Ok-clause-unread : goal.returns-in-Ok-clause-unread
-returns-in-Ok-clause-unread g c = λ file is.
-    absurd (if_ok_at (TellsTraceOf c.in-Ok.input) c.answer_input.result (answer.Unread file) c.answer_input.ensures is)
+pub returns-in-None-clause-answer : goal.returns-in-None-clause-answer
+returns-in-None-clause-answer g c =
+    if_ok c.answer_run.result
+    (λ a tells. λ files files_told. subst (λ (o : Option (List ℕ)). TellsTraced (CommandTurn files (Some (run_of c.args.named.case.now o))) a) (sym (ap option_copied c.in-None.is)) (tells files files_told))
+    c.answer_run.ensures.answer
 
-pub returns-in-Err-clause-answer : goal.returns-in-Err-clause-answer
-returns-in-Err-clause-answer g c =
-    if_ok c.stopped.result
-    (λ a tells. λ files files_told. told_stop (CommandTurn files (Some (replayed c.args.named))) c.in-Err.stop a (c.in-Err.ensures.told files files_told) tells)
-    c.stopped.ensures
+pub returns-in-None-clause-replayed : goal.returns-in-None-clause-replayed
+returns-in-None-clause-replayed g c =
+    if_ok c.answer_run.result
+    (λ a is. λ files files_told.
+    subst (λ (o : Option (List ℕ)). IsReplayed (run_of c.args.named.case.now o) (CommandTurn files (Some (run_of c.args.named.case.now o))) a) (sym (ap option_copied c.in-None.is)) (is files files_told))
+    c.answer_run.ensures.replayed
 
-pub returns-in-Err-clause-untold : goal.returns-in-Err-clause-untold
-returns-in-Err-clause-untold g c =
-    if_ok c.stopped.result
-    (λ a tells. told_stop (UntoldTurn (Some (replayed c.args.named)) (g.S.Shelf.faults c.args.shelf.now) (g.S.Shelf.faults c.read_input.new.shelf)) c.in-Err.stop a
-    (record { noted = c.in-Err.ensures.noted; ready = tt; there = tt }) tells)
-    c.stopped.ensures
-
-pub returns-in-Err-clause-unread : goal.returns-in-Err-clause-unread
-returns-in-Err-clause-unread g c = λ file is.
-    noted_stop (g.S.Shelf.faults c.args.shelf.now) (g.S.Shelf.faults c.read_input.new.shelf) c.in-Err.stop file c.in-Err.ensures.noted
-    (if_ok_at (λ (a : Answer). answer_of_stop c.in-Err.stop ≡ Some a) c.stopped.result (answer.Unread file) c.stopped.ensures is)
+pub returns-in-None-clause-untold : goal.returns-in-None-clause-untold
+returns-in-None-clause-untold g c =
+    if_ok c.answer_run.result
+    (λ a tells.
+    subst (λ (o : Option (List ℕ)). TellsTraced (UntoldTurn (Some (run_of c.args.named.case.now o)) (g.S.Shelf.faults c.args.shelf.now) (g.S.Shelf.faults c.answer_run.new.shelf)) a) (sym (ap option_copied c.in-None.is)) tells)
+    c.answer_run.ensures.untold
