@@ -1,11 +1,13 @@
 //! A bench, on which the program is run over memory.
 
-use lx_outside::{MemShelf, MemSink};
+use lx_outside::{MemShelf, MemSink, OpenGate};
 use lx_trace_command::lxfi_trace;
 use lx_words::Memory;
 use std::alloc::Global;
 use std::fmt::Write;
+use std::sync::Wait;
 use std::test::Fail;
+use std::thread::Threads;
 
 /// What traces are written with, and what they came to.
 #[derive(Drop)]
@@ -66,9 +68,10 @@ fn tell(text: &mut String, status: u8, written: &[u8]) -> Result<(), Fail> {
 }
 
 /// Runs the words of a bench.
-pub fn run(alloc: Global, bench: &mut Bench) -> Result<(), Fail> {
+pub fn run<R: Threads + Wait + Sync>(rt: &R, alloc: Global, bench: &mut Bench) -> Result<(), Fail> {
     let mut sink = sink_of(alloc, bench.is_short)?;
-    let status = lxfi_trace(alloc, bench.words.as_slice(), &mut bench.shelf, &mut sink);
+    let words = bench.words.as_slice();
+    let status = lxfi_trace(rt, alloc, words, &mut bench.shelf, &mut sink, &OpenGate);
     let told = tell(&mut bench.written, status, sink.bytes.as_slice());
     drop(sink);
     told

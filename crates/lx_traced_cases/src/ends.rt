@@ -1,7 +1,8 @@
 //! Runs that end before a trace, and outputs without room for one.
 
 /// A fault in the case, in the schedule and in the module, and files that are exchanged; a file that is not there; schedules that are not
-/// whole, words that are no case and schedule, and an output that takes ten bytes, of a trace and of a fault's line.
+/// whole; a case alone, of one thread, whose schedule is the whole one; words that are no case, and an output that takes ten bytes, of a trace and
+/// of a fault's line.
 pub fn ends() -> &'static str {
     "---- file one.case
 lxfi case 1
@@ -103,22 +104,39 @@ lxfi: schedule not whole at entry 0
 ---- words one.case
 ---- a case alone
 ---- whole
+status 0
+done 0 0.0 kernel script: calls m:main() enters m:main as m.shared
+done 1 0.0 m.shared m:main:2: leaves 0 at 0x3000000
+ends 2 0.0 kernel script: ends: returned 7
+---- words odd.case
+---- a fault in a module of a case alone
+---- whole
+status 3
+odd.ll:1: ir 3 i33
+---- words absent.case
+---- no case, and no schedule
+---- whole
+status 4
+lxfi: cannot read absent.case
+---- words --schedule
+---- an option alone
+---- whole
 status 2
-usage: lxfi_trace CASE SCHEDULE
+usage: lxfi_trace CASE [SCHEDULE]
 ---- words one.case --schedule
 ---- an option
 ---- whole
 status 2
-usage: lxfi_trace CASE SCHEDULE
+usage: lxfi_trace CASE [SCHEDULE]
 ---- words trace one.case whole.schedule
 ---- three words
 ---- whole
 status 2
-usage: lxfi_trace CASE SCHEDULE
+usage: lxfi_trace CASE [SCHEDULE]
 ---- no words
 ---- whole
 status 2
-usage: lxfi_trace CASE SCHEDULE
+usage: lxfi_trace CASE [SCHEDULE]
 ---- words one.case whole.schedule
 ---- a trace without room
 ---- short output

@@ -2,7 +2,9 @@
 
 use crate::bench::{Bench, run};
 use std::alloc::Global;
+use std::sync::Wait;
 use std::test::Fail;
+use std::thread::Threads;
 
 /// What begins a part.
 const MARK: &str = "---- ";
@@ -42,8 +44,8 @@ fn put_wrong(wrong: &mut String, why: &str, wanted: &str, written: &str) -> Resu
 }
 
 /// Runs the case that was put last; where it does not write what is wanted, that goes to what went wrong.
-fn compare(alloc: Global, bench: &mut Bench) -> Result<(), Fail> {
-    run(alloc, bench)?;
+fn compare<R: Threads + Wait + Sync>(rt: &R, alloc: Global, bench: &mut Bench) -> Result<(), Fail> {
+    run(rt, alloc, bench)?;
     bench.tried = bench.tried.saturating_add(1);
     bench.is_short = false;
     let (wanted, written) = (bench.wanted.as_str(), bench.written.as_str());
@@ -55,9 +57,14 @@ fn compare(alloc: Global, bench: &mut Bench) -> Result<(), Fail> {
 }
 
 /// Runs the case that was put last, which has to write this text behind what was said before.
-fn compare_whole(alloc: Global, bench: &mut Bench, ending: &str) -> Result<(), Fail> {
+fn compare_whole<R: Threads + Wait + Sync>(
+    rt: &R,
+    alloc: Global,
+    bench: &mut Bench,
+    ending: &str,
+) -> Result<(), Fail> {
     bench.wanted.push_str(ending)?;
-    compare(alloc, bench)
+    compare(rt, alloc, bench)
 }
 
 /// Notes that the next run has no words.
@@ -68,12 +75,17 @@ fn set_no_words(bench: &mut Bench) -> Result<(), Fail> {
 
 /// Does what a part says: `file NAME` puts its body, `words WORD ..` or `no words` is the command, `short output` is what it writes to, `whole`
 /// runs the case, which has to write the body behind those of `further` before, and all else is why the next case is there.
-fn take_part(alloc: Global, bench: &mut Bench, part: &str) -> Result<(), Fail> {
+fn take_part<R: Threads + Wait + Sync>(
+    rt: &R,
+    alloc: Global,
+    bench: &mut Bench,
+    part: &str,
+) -> Result<(), Fail> {
     let Some((head, body)) = part.split_once('\n') else {
         return Ok(());
     };
     match head {
-        "whole" => return compare_whole(alloc, bench, body),
+        "whole" => return compare_whole(rt, alloc, bench, body),
         "further" => bench.wanted.push_str(body)?,
         "short output" => bench.is_short = true,
         "no words" => set_no_words(bench)?,
@@ -83,14 +95,19 @@ fn take_part(alloc: Global, bench: &mut Bench, part: &str) -> Result<(), Fail> {
 }
 
 /// Does what each part of a text says.
-pub fn take_parts(alloc: Global, bench: &mut Bench, text: &str) -> Result<(), Fail> {
+pub fn take_parts<R: Threads + Wait + Sync>(
+    rt: &R,
+    alloc: Global,
+    bench: &mut Bench,
+    text: &str,
+) -> Result<(), Fail> {
     let mut rest = text;
     for _ in 0..text.len() {
         let Some((part, behind)) = rest.split_once(MARK) else {
             break;
         };
-        take_part(alloc, bench, part)?;
+        take_part(rt, alloc, bench, part)?;
         rest = behind;
     }
-    take_part(alloc, bench, rest)
+    take_part(rt, alloc, bench, rest)
 }

@@ -5,16 +5,27 @@ use crate::table::take_parts;
 use crate::texts::{CASES, TEXTS, text};
 use std::alloc::Global;
 use std::process::Abort;
+use std::sync::Wait;
 use std::test::Fail;
+use std::thread::Threads;
 
 /// Takes a text, each of whose cases has to write what is wanted.
-fn assert_text(rt: &impl Abort, alloc: Global, bench: &mut Bench, number: u32) -> Result<(), Fail> {
-    take_parts(alloc, bench, text(number))?;
+fn assert_text<R: Threads + Wait + Sync + Abort>(
+    rt: &R,
+    alloc: Global,
+    bench: &mut Bench,
+    number: u32,
+) -> Result<(), Fail> {
+    take_parts(rt, alloc, bench, text(number))?;
     assert_eq!(rt; bench.wrong.as_str(), "");
     Ok(())
 }
 
-fn assert_texts(rt: &impl Abort, alloc: Global, bench: &mut Bench) -> Result<(), Fail> {
+fn assert_texts<R: Threads + Wait + Sync + Abort>(
+    rt: &R,
+    alloc: Global,
+    bench: &mut Bench,
+) -> Result<(), Fail> {
     for number in 0..TEXTS {
         assert_text(rt, alloc, bench, number)?;
     }

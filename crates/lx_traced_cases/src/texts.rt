@@ -21,8 +21,8 @@ use crate::refusal_traces::refusal_traces_table;
 /// How many texts there are.
 pub const TEXTS: u32 = 17;
 
-/// How many cases are in them: 53 traces of examples, and 18 that `ends` has.
-pub const CASES: u32 = 71;
+/// How many cases are in them: 53 traces of examples, and 21 that `ends` has.
+pub const CASES: u32 = 74;
 
 /// A text by its number, in the order of `examples/RUNS`: the files of a row may stand in an earlier one.
 pub fn text(number: u32) -> &'static str {
