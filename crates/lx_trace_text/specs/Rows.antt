@@ -103,6 +103,10 @@ leaves low high = event Kernel in_probe (what.Return low high) Done
 abbrev ends_call : Traced
 ends_call = event Kernel None (what.Finish Budget) (Ended Budget)
 
+-- the same of another thread's event
+abbrev in_second : Traced → Traced
+in_second e = record e { thread = 1 }
+
 -- the text of events
 abbrev told : List Traced → Text
 told events = trace_text program names events
@@ -188,6 +192,21 @@ pub record WorkedTraceTexts : Type 0 where
   pub copied : told (allocates 0x2000040 ∷ event Kernel in_probe (what.Copy 0x2000050 0x1000004 8) Done ∷ []) ≡
       codes "done 0 0.1 kernel kernel:probe:12: calls k.alloc(0x40) = 0x2000040\n"
       ++ codes "done 1 0.1 kernel kernel:probe:12: copy 8 from 0x1000004 (m:@ops+4) to 0x2000050 (event 0+16)\n"
+  -- bytes that are set in a block
+  pub filled : told (allocates 0x2000040 ∷ event Kernel in_probe (what.Fill 0x2000048 7 8) Done ∷ []) ≡
+      codes "done 0 0.1 kernel kernel:probe:12: calls k.alloc(0x40) = 0x2000040\n"
+      ++ codes "done 1 0.1 kernel kernel:probe:12: fill 8 with 7 at 0x2000048 (event 0+8)\n"
+  -- the end of the second thread's call leaves the first one its stack
+  pub at_another_end : told (takes 0x3000000 16 ∷ in_second (takes 0x3010000 16) ∷ in_second ends_call ∷ stores 0x3000008 ∷ stores 0x3010008 ∷ []) ≡
+      codes "done 0 0.1 kernel kernel:probe:12: alloca 16 at 0x3000000\n"
+      ++ codes "done 1 1.1 kernel kernel:probe:12: alloca 16 at 0x3010000\n"
+      ++ codes "ends 2 1.1 kernel script: ends: budget\n"
+      ++ codes "done 3 0.1 kernel kernel:probe:12: store i8 0 at 0x3000008 (event 0+8)\n"
+      ++ codes "done 4 0.1 kernel kernel:probe:12: store i8 0 at 0x3010008\n"
+  -- a lock that is got gives no bytes, whatever number is answered
+  pub locked : told (event Kernel in_probe (what.Native 3 (word W64 0x1000000 ∷ [])) (Value (word W32 1)) ∷ stores 0x8 ∷ []) ≡
+      codes "done 0 0.1 kernel kernel:probe:12: calls k.try_lock(0x1000000) = 1\n"
+      ++ codes "done 1 0.1 kernel kernel:probe:12: store i8 0 at 0x8\n"
   -- actions before a body and behind it
   pub before : line_of (Shared 0) in_poke (perform false 0 (Shared 0) Kernel) Done ≡
       codes "done 12 0.1 m.shared m:poke:17: pre 0 of kernel:probe from m.shared to kernel\n"
