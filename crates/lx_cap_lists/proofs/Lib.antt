@@ -1,6 +1,9 @@
 pub mod BitLemmas
 pub mod EntryLemmas
+pub mod HasLemmas
 pub mod HeldLemmas
+pub mod HolderKeys
+pub mod IndexLemmas
 pub mod KeptLemmas
 pub mod KeyLemmas
 pub mod KeyPlaces
@@ -12,6 +15,7 @@ mod NextBit
 pub mod NodeLemmas
 pub mod PartLemmas
 pub mod Ranges
+pub mod ShownLemmas
 pub mod TakenLemmas
 pub mod VisitLemmas
 pub mod WalkLemmas

@@ -1,5 +1,5 @@
 -- What entries say of holders.
-use Rattle.std.specs.Prelude.{ℕ, Bool, false, ◌&&◌, ◌||◌, List, [], ◌∷◌, ◌-◌, nat_eq, bit_and, if◌then◌else◌}
+use Rattle.std.specs.Prelude.{◌≡◌, ℕ, ◌<◌, Bool, true, false, ◌&&◌, ◌||◌, List, [], ◌∷◌, ◌-◌, nat_eq, bit_and, if◌then◌else◌}
 use Rattle.lx_cap_lists.specs.declared.entry.Entry.{Entry}
 use Rattle.lx_cap_lists.specs.declared.holder.Holder.{Holder}
 use Rattle.lx_cap_lists.specs.Bits.{is_set}
@@ -13,6 +13,11 @@ gives_bit among k e = among e.holder && is_set e.mask k
 abbrev pub bit_among : (Holder → Bool) → List (ℕ × Entry) → ℕ → Bool
 bit_among among [] k = false
 bit_among among (n ∷ ns) k = gives_bit among k n.1 || bit_among among ns k
+
+-- whether these holders have each bit of the mask; where they do not, one of them lacks
+abbrev pub HasBits : (Holder → Bool) → List (ℕ × Entry) → ℕ → Bool → Type 0
+HasBits among es mask true = (k : ℕ) → k < 64 → is_set mask k ≡ true → bit_among among es k ≡ true
+HasBits among es mask false = (k : ℕ) × (k < 64) × (is_set mask k ≡ true) × (bit_among among es k ≡ false)
 
 -- some node is of the holder
 abbrev pub is_holder : Holder → List (ℕ × Entry) → Bool

@@ -2,6 +2,7 @@ pub mod Atoms
 pub mod Bits
 pub mod Entries
 pub mod Holders
+pub mod Index
 pub mod Kept
 pub mod Lists
 pub mod Loans

@@ -1,5 +1,5 @@
 //! Masks of 64 bits.
-ghost use Rattle.std.specs.Prelude.{◌≡◌, ◌<◌, ◌≤◌, ℕ, ◌&&◌, ◌||◌, bit_or, nat_le, nat_lt};
+ghost use Rattle.std.specs.Prelude.{◌≡◌, ◌<◌, ◌≤◌, ℕ, ◌&&◌, ◌||◌, bit_and, bit_or, nat_eq, nat_le, nat_lt};
 ghost use Rattle.lx_cap_lists.specs.Bits.{is_set};
 
 /// Says whether the bit at a place of a mask is set.
@@ -16,6 +16,13 @@ pub(crate) fn with(mask: u64, more: u64) -> u64
     ensures bits { (k : ℕ) → is_set result k ≡ (is_set mask k || is_set more k) }
 {
     mask | more
+}
+
+/// Says whether each of the wanted bits is in a mask.
+pub(crate) fn has_all(mask: u64, wanted: u64) -> bool
+    ensures { result ≡ nat_eq (bit_and mask wanted) wanted }
+{
+    mask & wanted == wanted
 }
 
 /// The bits from one place up to another.

@@ -1,6 +1,7 @@
 //! Who has something, and on what ground.
-ghost use Rattle.std.specs.Prelude.{◌≡◌};
-ghost use Rattle.lx_cap_lists.specs.Holders.{counts, principal_of, same_holder};
+ghost use Rattle.std.specs.Prelude.{◌≡◌, true};
+ghost use Rattle.lx_cap_lists.specs.declared.holder.Holder.TheVariants.{Keeper};
+ghost use Rattle.lx_cap_lists.specs.Holders.{counts, principal_of};
 
 use lx_caps::{Principal, is_same, reaches};
 
@@ -30,16 +31,14 @@ pub fn principal_of(holder: Holder) -> Principal
     }
 }
 
-/// Says whether two holders are the same.
-pub(crate) fn is_same_holder(one: Holder, other: Holder) -> bool
-    ensures { result ≡ same_holder one other }
+/// The principal that is asked for. What it keeps itself counts.
+pub(crate) fn asked_for(in_reach: InReach) -> Principal
+    ensures { counts in_reach (Keeper result) ≡ true }
 {
-    match (one, other) {
-        (Holder::Keeper(p), Holder::Keeper(q)) => is_same(p, q),
-        (Holder::Borrower(t, loan, p), Holder::Borrower(u, other_loan, q)) => {
-            t == u && loan == other_loan && is_same(p, q)
-        }
-        _ => false,
+    match in_reach {
+        InReach::Owned(who) => who,
+        InReach::Own(who) => who,
+        InReach::Kept(who) => who,
     }
 }
 

@@ -1,5 +1,5 @@
 //! Walks along the lists of a pool.
-ghost use Rattle.std.specs.Prelude.{◌≡◌, ◌+◌, ◌<◌, ◌≤◌, ℕ, Bool, ◌&&◌, ◌||◌, not, false, true, Some, None, [], ◌∷◌, ◌++◌, List, ◌≢◌, IfNone, IfSome, length};
+ghost use Rattle.std.specs.Prelude.{◌≡◌, ◌+◌, ◌<◌, ◌≤◌, ℕ, Bool, ◌&&◌, ◌||◌, not, false, true, Some, None, [], ◌∷◌, ◌++◌, List, ◌≢◌, length};
 ghost use Rattle.lx_caps.specs.Precedence.{follows, is_found, IsFirstPrincipal};
 ghost use Rattle.lx_caps.specs.declared.Principal.{Principal};
 ghost use Rattle.lx_cap_nodes.specs.Words.{is_live, names, nodes_at, nodes_of, pool_with, value_in};
@@ -8,8 +8,8 @@ ghost use Rattle.lx_cap_lists.specs.Bits.{is_set};
 ghost use Rattle.std.specs.Int.{bit_at};
 ghost use Rattle.lx_cap_lists.specs.declared.entry.Entry.{Entry};
 ghost use Rattle.lx_cap_lists.specs.declared.holder.Holder.{Holder};
-ghost use Rattle.lx_cap_lists.specs.Holders.{counts, held_by, principal_of, same_holder};
-ghost use Rattle.lx_cap_lists.specs.Entries.{bit_among, cut_all, cut_node, gives_bit, is_holder, with_mask};
+ghost use Rattle.lx_cap_lists.specs.Holders.{counts, held_by, principal_of};
+ghost use Rattle.lx_cap_lists.specs.Entries.{HasBits, bit_among, cut_all, cut_node, gives_bit, with_mask};
 ghost use Rattle.lx_cap_nodes.specs.declared.pool.ListName.{ListName};
 ghost use Rattle.lx_caps.specs.Order.{is_behind, IsFirst};
 ghost use Rattle.lx_caps.specs.declared.Atom.{Atom};
@@ -18,15 +18,13 @@ ghost use Rattle.lx_cap_lists.specs.Kept.{all_nodes, AllNodes, AreAll, Fits, IsM
 ghost use Rattle.lx_cap_lists.specs.Lists.{family_of};
 ghost use Rattle.lx_cap_lists.specs.Walks.{from, HasCome, StandsAt};
 
-use crate::bits::{is_set, with};
+use crate::bits::{has_all, is_set, with};
 use crate::entry::{Entry, atom_behind, sooner};
-use crate::holder::{Holder, InReach, counts, is_same_holder, principal_of};
-use lx_cap_nodes::{Family, ListName, NodePool};
+use crate::holder::{Holder, InReach, asked_for, counts, principal_of};
+use crate::pool::Pool;
+use lx_cap_nodes::{Family, ListName};
 use lx_caps::{Atom, Principal, Steps, earlier, follows, is_same};
 use std::sync::ledger::Ledger;
-
-/// The nodes of all lists.
-pub type Pool = NodePool<Entry>;
 
 /// What a walk finds at a node, and the node behind.
 #[derive(Clone, Copy)]
@@ -75,22 +73,26 @@ pub fn reached(pool: &Pool, place: u64, in_reach: InReach) -> u64
     bits
 }
 
-/// The node of a holder in the list of a place.
-fn node_of(pool: &Pool, place: u64, holder: Holder) -> Option<u64>
-    requires { place < length pool.now.places }
-    ensures found { IfSome result (λ n. StandsAt (nodes_at pool.now.places place) n (λ e. same_holder holder e.holder ≡ true)) }
-    ensures none { IfNone result (is_holder holder (nodes_at pool.now.places place) ≡ false) }
+/// The bits at a place that the principal itself keeps.
+fn kept_bits(pool: &Pool, place: u64, in_reach: InReach) -> u64
+    ensures { (k : ℕ) → is_set result k ≡ true → bit_among (counts in_reach) (nodes_at pool.now.places place) k ≡ true }
 {
     pool.laws();
-    let mut node = pool.first(ListName::Place(place));
-    while let Some(n) = node {
-        let seen = visit(pool, ListName::Place(place), n);
-        if is_same_holder(holder, seen.entry.holder) {
-            return Some(n);
-        }
-        node = seen.next;
+    match pool.node_of(place, Holder::Keeper(asked_for(in_reach))) {
+        Some(n) => pool.value(n).mask,
+        None => 0,
     }
-    None
+}
+
+/// Says whether someone in reach has each of these bits at a place. Where the principal itself keeps them all, no other holder is looked at.
+pub fn has_bits(pool: &Pool, place: u64, in_reach: InReach, wanted: u64) -> bool
+    requires { place < length pool.now.places }
+    ensures { HasBits (counts in_reach) (nodes_at pool.now.places place) wanted result }
+{
+    if has_all(kept_bits(pool, place, in_reach), wanted) {
+        return true;
+    }
+    has_all(reached(pool, place, in_reach), wanted)
 }
 
 /// Writes the mask of a node.
@@ -100,8 +102,7 @@ fn put_mask(pool: &mut Pool, n: u64, mask: u64)
     ensures kept { (p : ListName → Entry → Bool) → Respects p → AreAll p pool.old → AreAll p pool.new }
 {
     pool.laws();
-    let entry = pool.value_mut(n);
-    entry.mask = mask;
+    pool.put_mask(n, mask);
 }
 
 /// Adds bits to a node of a place.
@@ -132,7 +133,7 @@ pub fn give(pool: &mut Pool, place: u64, owner: u64, entry: Entry)
     ensures nodes { IsMask (width_of place) entry.mask → AllNodes pool.old.places → AllNodes pool.new.places }
     ensures kept { (p : ListName → Entry → Bool) → Respects p → Fits p place owner entry → AreAll p pool.old → AreAll p pool.new }
 {
-    match node_of(pool, place, entry.holder) {
+    match pool.node_of(place, entry.holder) {
         Some(n) => widen(pool, place, n, entry.mask),
         None => {
             pool.link(place, owner, entry);

@@ -11,8 +11,9 @@ ghost use Rattle.lx_cap_lists.specs.Tables.{count_in, part_list, work_in};
 
 use crate::entry::{Entry, Spot};
 use crate::holder::Holder;
-use crate::lists::{Pool, give, take};
+use crate::lists::{give, take};
 use crate::piece::{PART, parts_end, piece_bits, piece_of};
+use crate::pool::Pool;
 use lx_caps::Steps;
 use std::sync::ledger::Ledger;
 

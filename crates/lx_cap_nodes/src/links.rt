@@ -1,7 +1,7 @@
 //! Lists that are linked by numbers.
 ghost use Rattle.std.specs.Prelude.{◌≡◌, ◌<◌, ◌∷◌, [], ◌++◌, false, true, IfOk, OnOk, OnErr, length, map, slice_set};
 ghost use Rattle.lx_cap_nodes.specs.Links.{IsFamily, IsWithin, at_list, heads_passing, lists_of, with_next, with_previous};
-ghost use Rattle.lx_cap_nodes.specs.Names.{drop_name, first_of, is_listed, next_in};
+ghost use Rattle.lx_cap_nodes.specs.Names.{drop_name, first_of, has, is_listed, next_in};
 
 use lx_words::Memory;
 
@@ -130,4 +130,13 @@ pub(crate) fn after_in(links: &Vec<Link>, heads: &Vec<Option<usize>>, node: usiz
     ensures { result ≡ next_in node (lists_of links.now.items heads.now.items) }
 {
     links[node].next
+}
+
+/// The list that a node stands in.
+pub(crate) fn list_of(links: &Vec<Link>, heads: &Vec<Option<usize>>, node: usize) -> usize
+    requires family { IsFamily links.now.items heads.now.items (lists_of links.now.items heads.now.items) }
+    requires listed { is_listed node (lists_of links.now.items heads.now.items) ≡ true }
+    ensures { has node (at_list (lists_of links.now.items heads.now.items) result) ≡ true }
+{
+    links[node].list
 }

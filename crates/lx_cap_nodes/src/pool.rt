@@ -1,11 +1,11 @@
 //! The pool of nodes.
 ghost use Rattle.std.specs.Prelude.{◌≡◌, ◌+◌, ◌<◌, ◌≤◌, ◌∷◌, [], ◌++◌, ℕ, ◌&&◌, ◌||◌, not, nat_eq, true, false, Some, length, map, slice_set, OnOk, OnErr, IfOk, IfSome, vec_capacity};
 ghost use Rattle.std.specs.Borrow.{Lends, sem};
-ghost use Rattle.lx_cap_nodes.specs.Names.{first_of, next_in};
+ghost use Rattle.lx_cap_nodes.specs.Names.{first_of, has, next_in};
 ghost use Rattle.lx_cap_nodes.specs.Slots.{is_used, slot_at};
 ghost use Rattle.lx_cap_nodes.specs.Words.{IsInUse, PoolLaws, is_live, lists_in, names, nodes_at, nodes_of, value_in, with_list, without};
 
-use crate::links::{Link, add_empty, after_in, first_in, no_link, put_first, take_out};
+use crate::links::{Link, add_empty, after_in, first_in, list_of, no_link, put_first, take_out};
 use lx_words::Memory;
 use std::alloc::Global;
 use std::marker::Model;
@@ -269,6 +269,14 @@ impl<T> NodePool<T> {
             Family::Place => as_name(after_in(&self.place_links, &self.place_heads, node as usize)),
             Family::Owner => as_name(after_in(&self.owner_links, &self.owner_heads, node as usize)),
         }
+    }
+
+    /// The number of the list of places that a node stands in.
+    pub fn place_of(&self, node: u64) -> u64
+        requires { is_live self.now node ≡ true }
+        ensures { has node (names (nodes_at self.now.places result)) ≡ true }
+    {
+        list_of(&self.place_links, &self.place_heads, node as usize) as u64
     }
 
     /// A node's value.

@@ -1,6 +1,8 @@
 -- Calls and references as they are taken and given.
 use Rattle.std.proofs.Common.{◌≡◌, ◌≢◌, ℕ, ◌+◌, ◌/◌, ◌%◌, ◌<◌, ◌≤◌, Bool, true, false, not, ◌&&◌, ◌||◌, nat_eq, List, length, Option, Some, None, refl, sym, ap, ◌∙◌, subst, arith}
 use Rattle.std.proofs.lemmas.Bool.Decides.{nat_tests}
+use Rattle.std.proofs.Common.{inl, inr}
+use Rattle.std.proofs.lemmas.Bool.{cases_lt}
 use Rattle.std.proofs.lemmas.List.{length_push}
 use Rattle.lx_cap_lists.specs.declared.holder.Holder.{Holder}
 use Rattle.lx_caps.specs.declared.Atom.{Atom}
@@ -10,10 +12,11 @@ use Rattle.lx_caps.specs.History.{has}
 use Rattle.lx_cap_nodes.specs.Words.{nodes_at}
 use Rattle.lx_cap_lists.specs.declared.entry.Entry.{Entry}
 use Rattle.lx_cap_lists.specs.Bits.{is_set}
-use Rattle.lx_cap_lists.specs.Entries.{bit_among, cut_all}
+use Rattle.lx_cap_lists.specs.Entries.{HasBits, bit_among, cut_all}
 use Rattle.lx_cap_lists.specs.Tables.{Key, same_key, call_key, ref_key, place_in, with_key, or_with, part_list, behind_parts, place_of, bit_of, shown_at, AreEmpty}
 use Rattle.lx_cap_lists.proofs.BitLemmas.{bit_cut}
 use Rattle.lx_cap_lists.proofs.KeyLemmas.{same_self, found_last, found_before, not_last, found_within, one_key}
+use Rattle.lx_cap_lists.proofs.NodeLemmas.{one_mask}
 use Rattle.lx_cap_lists.proofs.PartLemmas.{list_below}
 use Rattle.lx_cap_lists.proofs.KeyPlaces.{behind_far, same_parts}
 
@@ -26,6 +29,17 @@ behind_within atoms k l e =
       | None ↦ λ p f. absurd (cc)
       | Some i ↦ λ p f. let is : 0xc000 + i ≡ l = cc in let h = list_within atoms k i p in omega (arith, is, h)
     ]) refl e
+
+-- a call or a reference has the lowest bit alone
+lowest_alone : (k : ℕ) → is_set 1 k ≡ true → k ≡ 0
+lowest_alone k is = elim (cases_lt k 1) [
+  | inl lt ↦ omega (arith, lt)
+  | inr ge ↦ absurd (let no : is_set 1 k ≡ false = ap (λ n. nat_eq n 1) (one_mask.none k ge) in cc)
+]
+
+pub first_bit : (among : Holder → Bool) (es : List (ℕ × Entry)) (b : Bool) → HasBits among es 1 b → b ≡ bit_among among es 0
+first_bit among es true all = sym (all 0 (omega arith) refl)
+first_bit among es false lack = sym lack.3 ∙ ap (bit_among among es) (lowest_alone lack.0 lack.2)
 
 turned : (x y : Key) → same_key x y ≡ false → same_key y x ≡ false
 turned x y e = grind (arith, nat_tests, e)

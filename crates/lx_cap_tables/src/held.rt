@@ -1,5 +1,5 @@
 //! What principals hold.
-ghost use Rattle.std.specs.Prelude.{true, false, ◌≡◌, ◌+◌, ◌*◌, ◌/◌, ◌%◌, ◌^◌, ◌<◌, ◌≤◌, ◌&&◌, ◌||◌, bit_and, nat_eq, length, List, Some, IfSome};
+ghost use Rattle.std.specs.Prelude.{true, false, ◌≡◌, ◌+◌, ◌*◌, ◌/◌, ◌%◌, ◌^◌, ◌<◌, ◌≤◌, ◌&&◌, ◌||◌, length, List, Some, IfSome};
 ghost use Rattle.lx_caps.specs.declared.Principal.{Principal};
 ghost use Rattle.lx_caps.specs.History.{each_byte};
 ghost use Rattle.lx_caps.specs.Placed.{is_placed};
@@ -20,18 +20,11 @@ use crate::caps::list_of_key;
 use crate::loans::THREADS;
 use indexmap::IndexSet;
 use lx_cap_lists::{
-    InReach, Key, PART, Pool, bits_from, call_key, first_byte, first_owned, first_owner, is_set,
+    InReach, Key, PART, Pool, bits_from, call_key, first_byte, first_owned, first_owner, has_bits,
     list_of_part, loan_key, owner_key, parts_end, piece_bits, piece_of, place_in, reached, ref_key,
     sooner,
 };
 use lx_caps::{Atom, Cap, Principal};
-
-/// Whether each of these bits is among the others.
-fn has_all(bits: u64, wanted: u64) -> bool
-    ensures { result ≡ nat_eq (bit_and bits wanted) wanted }
-{
-    bits & wanted == wanted
-}
 
 /// Whether each byte of a range in one part is had in reach.
 fn holds_part(pool: &Pool, in_reach: InReach, at: u64, size: u64, part: u64) -> bool
@@ -43,10 +36,7 @@ fn holds_part(pool: &Pool, in_reach: InReach, at: u64, size: u64, part: u64) -> 
     ensures { HoldsPart (λ b. shown_at pool.now.places (part_list (b / 64)) (counts in_reach) (b % 64)) at size part result }
 {
     match list_of_part(part) {
-        Some(place) => has_all(
-            reached(pool, place, in_reach),
-            piece_bits(piece_of(at, size, part)),
-        ),
+        Some(place) => has_bits(pool, place, in_reach, piece_bits(piece_of(at, size, part))),
         None => false,
     }
 }
@@ -73,7 +63,7 @@ fn holds_atom(pool: &Pool, atoms: &IndexSet<Key>, in_reach: InReach, key: Key) -
     ensures { result ≡ shown_at pool.now.places (behind_parts (place_in atoms.now.keys key)) (counts in_reach) 0 }
 {
     match list_of_key(atoms, key) {
-        Some(place) => is_set(reached(pool, place, in_reach), 0),
+        Some(place) => has_bits(pool, place, in_reach, 1),
         None => false,
     }
 }

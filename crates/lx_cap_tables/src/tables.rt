@@ -18,7 +18,7 @@ use crate::held::{Wanted, holds_cap, owned_behind, owner_behind};
 use crate::loans::{Ended, THREADS, shut_loans};
 use indexmap::IndexSet;
 use lx_cap_lists::{Holder, InReach, Key, Pool, loan_key, owner_key, place_for, ranges_of};
-use lx_cap_nodes::{Family, NodePool};
+use lx_cap_nodes::Family;
 use lx_caps::{Atom, Cap, CapStore, Principal, Steps, cells, in_order};
 use lx_words::Memory;
 use std::alloc::Global;
@@ -150,7 +150,7 @@ impl CapTables {
     pub fn new(alloc: Global) -> Result<Self, Memory>
         ensures { IfOk result (λ t. StandsFor t []) }
     {
-        let mut pool = NodePool::new(alloc);
+        let mut pool = Pool::new(alloc);
         let mut place_lists = 0;
         more_places(&mut pool, &mut place_lists, PARTS)?;
         let loans = no_loans(alloc)?;
