@@ -10,7 +10,7 @@ ghost use Rattle.lx_caps.specs.declared.Principal.TheVariants.{Kernel, Shared};
 ghost use Rattle.lx_cap_tables.specs.Laws.{lent, three};
 ghost use Rattle.lx_cap_tables.specs.Sound.{StandsFor};
 ghost use Rattle.lx_writer_sets.specs.Laws.{granted};
-ghost use Rattle.lx_writer_sets.specs.Stands.{StandsForWriters};
+ghost use Rattle.lx_writer_sets.specs.Stands.{StandsForWriters, spare_of};
 
 use crate::ranges::are_ranges;
 use lx_cap_tables::{CapTables, worked_bounds};
@@ -304,6 +304,46 @@ fn assert_looked(rt: &impl Abort, sets: &mut WriterSets) -> Result<(), Fail>
 fn slots_near_a_writer_take_few_looks(rt: HostRuntime) -> Result<(), Fail> {
     let mut sets = WriterSets::new(rt.alloc());
     let went = assert_looked(&rt, &mut sets);
+    drop(sets);
+    went
+}
+
+/// A writer more of a slot that has one: one look is enough.
+fn notes_another<L: Ledger>(sets: &mut WriterSets, steps: &mut Steps<L>)
+    requires { 2 ≤ spare_of sets.old }
+    ensures { steps.new ≤ steps.old + 1 }
+{
+    writer_look_laws();
+    sets.note_counted(BORROWER, 0x2000000, 8, steps);
+}
+
+fn notes_by<L: Ledger>(sets: &mut WriterSets, blank: Blank)
+    requires name { blank.name ≡ L.name }
+    requires parts { blank.parts ≡ L.parts }
+    requires some { 0 < L.parts }
+    requires room { 2 ≤ spare_of sets.old }
+{
+    let mut steps = Steps::<L>::new(blank);
+    notes_another(sets, &mut steps);
+}
+
+fn assert_noted(rt: &impl Abort, sets: &mut WriterSets) -> Result<(), Fail>
+    requires { StandsForWriters sets.old [] }
+{
+    note_eight(sets)?;
+    sets.reserve(2)?;
+    notes_by::<Brand>(sets, Blank::new(1));
+    assert!(rt; sets.is_writer(0x2000000, OWNER));
+    assert!(rt; sets.is_writer(0x2000000, BORROWER));
+    assert!(rt; !sets.is_writer(0x2000000, OTHER));
+    assert!(rt; !sets.is_writer(0x2000040, BORROWER));
+    Ok(())
+}
+
+#[test]
+fn a_further_writer_takes_one_look(rt: HostRuntime) -> Result<(), Fail> {
+    let mut sets = WriterSets::new(rt.alloc());
+    let went = assert_noted(&rt, &mut sets);
     drop(sets);
     went
 }

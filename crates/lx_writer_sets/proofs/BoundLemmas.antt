@@ -1,5 +1,5 @@
 -- The nodes of a part are no more than its writers.
-use Rattle.std.proofs.Common.{◌≡◌, ℕ, zero, suc, ◌+◌, ◌*◌, ◌/◌, ◌%◌, ◌<◌, ◌≤◌, Bool, true, false, ◌&&◌, ◌||◌, nat_eq, cond, List, [], ◌∷◌, ◌++◌, map, Some, None, refl, sym, ap, ◌∙◌, subst, arith, append_assoc}
+use Rattle.std.proofs.Common.{◌≡◌, ℕ, zero, suc, ◌+◌, ◌-◌, ◌*◌, ◌/◌, ◌%◌, ◌<◌, ◌≤◌, Bool, true, false, ◌&&◌, ◌||◌, nat_eq, cond, List, [], ◌∷◌, ◌++◌, map, Some, None, refl, sym, ap, ◌∙◌, subst, arith, append_assoc}
 use Rattle.std.specs.List.{list_any}
 use Rattle.std.proofs.lemmas.Bool.Decides.{nat_tests}
 use Rattle.std.proofs.lemmas.List.{length-map}
@@ -18,7 +18,7 @@ use Rattle.lx_writer_sets.specs.declared.entry.Entry.{Entry}
 use Rattle.lx_writer_sets.specs.Bits.{is_set}
 use Rattle.lx_writer_sets.specs.Nodes.{has_writer, AreNodes, AllNodes}
 use Rattle.lx_writer_sets.specs.Sets.{part_list, is_given, is_given_at, is_recorded, Records, count_in}
-use Rattle.lx_writer_sets.specs.Work.{some_below, is_among, and_one, count_of, receivers, writes_part_of, pairs, look_bound}
+use Rattle.lx_writer_sets.specs.Work.{some_below, is_among, and_one, count_of, receivers, writes_part_of, pairs, look_bound, note_bound}
 use Rattle.lx_writer_sets.proofs.Few.{added, added_self, few, ArePassing}
 use Rattle.lx_writer_sets.proofs.GivenLemmas.{by_writer}
 use Rattle.lx_caps.proofs.Tests.{byte_of}
@@ -139,3 +139,11 @@ two_where_clean h slot first last =
       | true ↦ omega (arith, a)
       | false ↦ omega (arith, a, b)
     ]
+
+-- a note looks into each part once
+pub parts_within : (old new at size : ℕ) → 0 < size → new ≤ old + ((at + size + 63) / 64 - at / 64) → new ≤ old + note_bound at size
+unfolding note_bound
+parts_within old new at zero some is = absurd (omega (arith, some))
+parts_within old new at (suc n) some is =
+    let ne : nat_eq (suc n) 0 ≡ false = grind (arith, nat_tests) in
+    subst (λ t. new ≤ old + cond t 0 ((at + suc n + 63) / 64 - at / 64)) (sym ne) is

@@ -7,6 +7,7 @@ pub mod WalkLemmas
 pub mod VisitLemmas
 pub mod GivenLemmas
 pub mod NodeLemmas
+pub mod IndexLemmas
 pub mod PartLemmas
 pub mod Recording
 pub mod Few

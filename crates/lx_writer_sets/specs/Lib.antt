@@ -2,6 +2,7 @@ pub mod Room
 pub mod Bits
 pub mod Walks
 pub mod Sets
+pub mod Index
 pub mod Nodes
 pub mod Stands
 pub mod Work

@@ -1,11 +1,12 @@
 -- What holds of the nodes of each list.
-use Rattle.std.specs.Prelude.{◌≡◌, ℕ, ◌<◌, ◌≤◌, Bool, true, false, ◌&&◌, ◌||◌, nat_eq, List, [], ◌∷◌, length, if◌then◌else◌}
+use Rattle.std.specs.Prelude.{◌≡◌, ℕ, ◌<◌, ◌≤◌, min, Bool, true, false, ◌&&◌, ◌||◌, nat_eq, List, [], ◌∷◌, length, if◌then◌else◌}
 use Rattle.std.specs.List.{list_any}
 use Rattle.lx_caps.specs.declared.Principal.{Principal}
 use Rattle.lx_caps.specs.History.{same_principal}
 use Rattle.lx_cap_nodes.specs.Pool.{Pool}
 use Rattle.lx_cap_nodes.specs.Words.{nodes_at}
 use Rattle.lx_writer_sets.specs.Bits.{is_set, is_marked}
+use Rattle.lx_writer_sets.specs.Index.{Key, AreIndexed}
 use Rattle.lx_writer_sets.specs.declared.entry.Entry.{Entry}
 
 -- some node is of the writer
@@ -46,7 +47,7 @@ pub record Parts : Type 0 where
   pub lists : List (List (ℕ × Entry))
   -- how many words of bits there are
   pub words : ℕ
-  -- how many more nodes there is room for
+  -- how many more nodes there is room for, each with its key in the table
   pub spare : ℕ
 
 -- each part of memory has its list and its bit
@@ -57,13 +58,14 @@ is_ready p = nat_eq (length p.lists) 0xc000 && nat_eq p.words 768
 abbrev pub is_made : ℕ → Parts → Bool
 is_made promised p = nat_eq promised 0 || is_ready p
 
-abbrev pub shown : Pool Entry → List ℕ → Parts
-shown pool words = record { lists = pool.places; words = length words; spare = pool.spare }
+abbrev pub shown : Pool Entry → List ℕ → ℕ → Parts
+shown pool words keys = record { lists = pool.places; words = length words; spare = min pool.spare keys }
 
-pub record IsSound (pool : Pool Entry) (words : List ℕ) (count : ℕ) : Type 0 where
+pub record IsSound (pool : Pool Entry) (words : List ℕ) (count : ℕ) (entries : List (Key × ℕ)) : Type 0 where
   pub counted : length pool.places ≡ count
   pub few : count ≤ 0xc000
   pub few_words : length words ≤ 768
   pub owned : 0 < count → 0 < length pool.owners
   pub marked : AreMarked words pool.places
   pub nodes : AllNodes pool.places
+  pub indexed : AreIndexed entries pool.places

@@ -1,5 +1,5 @@
--- The bound on what it takes to see whether a slot is clean.
-use Rattle.std.specs.Prelude.{ℕ, zero, suc, ◌+◌, ◌*◌, ◌/◌, Bool, false, nat_eq, ◌||◌, List, [], ◌∷◌, if◌then◌else◌}
+-- The bounds on what it takes to see whether a slot is clean, and to note a writer.
+use Rattle.std.specs.Prelude.{ℕ, zero, suc, ◌+◌, ◌-◌, ◌*◌, ◌/◌, Bool, false, nat_eq, ◌||◌, List, [], ◌∷◌, if◌then◌else◌}
 use Rattle.lx_caps.specs.declared.Principal.{Principal}
 use Rattle.lx_caps.specs.declared.Act.TheVariants.{Grant, Strip, Zero, Loan, Lend, Shut, ShutAll}
 use Rattle.lx_caps.specs.History.{History, same_principal}
@@ -50,3 +50,7 @@ pairs h (part ∷ parts) = count_of (writes_part_of h part) (receivers h) + pair
 -- two, and the pairs of a writer and a touched part: so two alone where no byte of a touched part has a writer
 unfoldable pub look_bound : History → ℕ → ℕ
 look_bound h slot = 2 + pairs h (touched slot)
+
+-- how many parts of 64 bytes a range lies in, whoever has written there
+unfoldable pub note_bound : ℕ → ℕ → ℕ
+note_bound at size = if nat_eq size 0 then 0 else (at + size + 63) / 64 - at / 64

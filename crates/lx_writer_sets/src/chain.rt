@@ -1,22 +1,25 @@
 //! Walks along the list of a part.
-ghost use Rattle.std.specs.Prelude.{◌≡◌, ◌≢◌, ◌+◌, ◌*◌, ◌^◌, ◌<◌, ◌≤◌, ℕ, Bool, ◌&&◌, ◌||◌, not, nat_eq, nat_le, nat_lt, true, false, Some, ◌∷◌, ◌++◌, List, IfNone, IfSome, length};
+ghost use Rattle.std.specs.Prelude.{◌≡◌, ◌≢◌, ◌+◌, ◌*◌, ◌^◌, ◌<◌, ◌≤◌, ℕ, Bool, ◌&&◌, ◌||◌, not, nat_eq, nat_le, nat_lt, true, false, Some, ◌∷◌, ◌++◌, List, length};
 ghost use Rattle.lx_caps.specs.declared.Principal.{Principal};
 ghost use Rattle.lx_caps.specs.declared.Atom.TheVariants.{Byte};
 ghost use Rattle.lx_caps.specs.History.{History, owns, same_principal};
 ghost use Rattle.lx_caps.specs.Precedence.{IsFirstPrincipal};
+ghost use Rattle.indexmap.specs.IndexMap.{spare};
 ghost use Rattle.lx_cap_nodes.specs.Words.{is_live, nodes_at, pool_with, value_in};
 ghost use Rattle.lx_writer_sets.specs.Bits.{is_set};
 ghost use Rattle.lx_writer_sets.specs.declared.entry.Entry.{Entry};
-ghost use Rattle.lx_writer_sets.specs.Nodes.{AllNodes, HasBit, has_nodes, has_writer, put_node, with_mask};
+ghost use Rattle.lx_writer_sets.specs.Index.{AreIndexed};
+ghost use Rattle.lx_writer_sets.specs.Nodes.{AllNodes, HasBit, has_nodes, put_node, with_mask};
 ghost use Rattle.lx_writer_sets.specs.Sets.{IsNobody, is_given, writes_in};
 ghost use Rattle.lx_writer_sets.specs.Walks.{from, HasCome, StandsAt};
 
 use crate::PrincipalTest;
 use crate::bits::with;
-use crate::entry::{Entry, SlotPart, is_by, kept_mask, touches, writer_by};
+use crate::entry::{Entry, SlotPart, kept_mask, touches, writer_by};
+use crate::index::{Table, key_of, node_at, put, remove};
 use crate::piece::Piece;
 use lx_cap_nodes::{Family, ListName, NodePool};
-use lx_caps::{CapStore, Principal, Steps, earlier, is_same};
+use lx_caps::{CapStore, Principal, Steps, earlier};
 use std::sync::ledger::Ledger;
 
 pub(crate) type Pool = NodePool<Entry>;
@@ -39,24 +42,6 @@ fn visit(pool: &Pool, list: u64, node: u64) -> Seen
         entry: *pool.value(node),
         next: pool.after(node, Family::Place),
     }
-}
-
-/// The node of a writer in a list.
-fn node_of(pool: &Pool, list: u64, writer: Principal) -> Option<u64>
-    requires { list < length pool.now.places }
-    ensures found { IfSome result (λ n. StandsAt (nodes_at pool.now.places list) n (λ e. same_principal writer e.writer ≡ true)) }
-    ensures none { IfNone result (has_writer writer (nodes_at pool.now.places list) ≡ false) }
-{
-    pool.laws();
-    let mut node = pool.first(ListName::Place(list));
-    while let Some(n) = node {
-        let seen = visit(pool, list, n);
-        if is_same(writer, seen.entry.writer) {
-            return Some(n);
-        }
-        node = seen.next;
-    }
-    None
 }
 
 /// Writes the mask of a node.
@@ -82,23 +67,29 @@ fn widen(pool: &mut Pool, list: u64, n: u64, more: u64)
     put_mask(pool, n, with(mask, more));
 }
 
-/// Records what an entry says. It takes at most one of the room.
-pub(crate) fn add(pool: &mut Pool, list: u64, entry: Entry)
+/// Records what an entry says. The table finds the writer's node. It takes at most one of the room of each.
+pub(crate) fn add(pool: &mut Pool, table: &mut Table, list: u64, entry: Entry)
     requires list { list < length pool.old.places }
     requires owner { 0 < length pool.old.owners }
     requires room { 0 < pool.old.spare }
+    requires keys { 0 < spare table.old }
     requires bit { HasBit entry.mask }
+    requires indexed { AreIndexed table.old.entries pool.old.places }
     ensures here { (k : ℕ) (q : Principal) → is_given (nodes_at pool.new.places list) k q ≡ ((same_principal q entry.writer && is_set entry.mask k) || is_given (nodes_at pool.old.places list) k q) }
     ensures some { has_nodes (nodes_at pool.new.places list) ≡ true }
     ensures others { (l : ℕ) → l ≢ list → nodes_at pool.new.places l ≡ nodes_at pool.old.places l }
     ensures counts { (length pool.new.places ≡ length pool.old.places) × (length pool.new.owners ≡ length pool.old.owners) }
     ensures spare { pool.old.spare ≤ pool.new.spare + 1 }
+    ensures keys { spare table.old ≤ spare table.new + 1 }
     ensures nodes { AllNodes pool.old.places → AllNodes pool.new.places }
+    ensures indexed { AreIndexed table.new.entries pool.new.places }
 {
-    match node_of(pool, list, entry.writer) {
+    let key = key_of(list, entry.writer);
+    match node_at(table, key) {
         Some(n) => widen(pool, list, n, entry.mask),
         None => {
-            pool.link(list, 0, entry);
+            let n = pool.link(list, 0, entry);
+            put(table, key, n);
         }
     }
 }
@@ -120,8 +111,33 @@ fn keep(pool: &mut Pool, list: u64, n: u64, mask: u64)
     }
 }
 
+/// Writes the mask of a node of a list, as `keep` does. Where the node goes, its writer leaves the table.
+fn keep_indexed(pool: &mut Pool, table: &mut Table, list: u64, n: u64, mask: u64)
+    requires { StandsAt (nodes_at pool.old.places list) n (λ e. Unit {0}) }
+    ensures here { (xs ys : List (ℕ × Entry)) (v : Entry) → nodes_at pool.old.places list ≡ xs ++ (n, v) ∷ ys → nodes_at pool.new.places list ≡ xs ++ put_node mask (n, v) ys }
+    ensures others { (l : ℕ) → l ≢ list → nodes_at pool.new.places l ≡ nodes_at pool.old.places l }
+    ensures counts { (length pool.new.places ≡ length pool.old.places) × (length pool.new.owners ≡ length pool.old.owners) }
+    ensures spare { pool.old.spare ≤ pool.new.spare }
+    ensures keys { spare table.old ≤ spare table.new }
+    ensures nodes { AllNodes pool.old.places → AllNodes pool.new.places }
+    ensures indexed { AllNodes pool.old.places → AreIndexed table.old.entries pool.old.places → AreIndexed table.new.entries pool.new.places }
+{
+    pool.laws();
+    let writer = pool.value(n).writer;
+    keep(pool, list, n, mask);
+    if mask == 0 {
+        remove(table, key_of(list, writer));
+    }
+}
+
 /// Clears the bytes of a piece in each node of its part's list whose writer does not own them.
-pub(crate) fn forget<C: CapStore>(pool: &mut Pool, list: u64, piece: Piece, caps: &C)
+pub(crate) fn forget<C: CapStore>(
+    pool: &mut Pool,
+    table: &mut Table,
+    list: u64,
+    piece: Piece,
+    caps: &C,
+)
     requires list { list < length pool.old.places }
     requires some { piece.from < piece.to }
     requires to { piece.to ≤ 64 }
@@ -131,13 +147,16 @@ pub(crate) fn forget<C: CapStore>(pool: &mut Pool, list: u64, piece: Piece, caps
     ensures others { (l : ℕ) → l ≢ list → nodes_at pool.new.places l ≡ nodes_at pool.old.places l }
     ensures counts { (length pool.new.places ≡ length pool.old.places) × (length pool.new.owners ≡ length pool.old.owners) }
     ensures spare { pool.old.spare ≤ pool.new.spare }
+    ensures keys { spare table.old ≤ spare table.new }
     ensures nodes { AllNodes pool.old.places → AllNodes pool.new.places }
+    ensures indexed { AllNodes pool.old.places → AreIndexed table.old.entries pool.old.places → AreIndexed table.new.entries pool.new.places }
 {
     pool.laws();
     let mut node = pool.first(ListName::Place(list));
     while let Some(n) = node {
         let seen = visit(pool, list, n);
-        keep(pool, list, n, kept_mask(caps, seen.entry, piece));
+        let mask = kept_mask(caps, seen.entry, piece);
+        keep_indexed(pool, table, list, n, mask);
         pool.laws();
         node = seen.next;
     }
@@ -167,22 +186,19 @@ pub(crate) fn first_writer<T: PrincipalTest>(
     first
 }
 
-/// Whether a list has the principal as a writer of a slot.
-pub(crate) fn writes(pool: &Pool, list: u64, at: SlotPart, who: Principal) -> bool
-    requires list { list < length pool.now.places }
+/// Whether a list has the principal as a writer of a slot. The table finds its node.
+pub(crate) fn writes(pool: &Pool, table: &Table, list: u64, at: SlotPart, who: Principal) -> bool
     requires slot { at.slot + 8 ≤ 2 ^ 64 }
+    requires nodes { AllNodes pool.now.places }
+    requires indexed { AreIndexed table.now.entries pool.now.places }
     ensures { result ≡ writes_in at.part (nodes_at pool.now.places list) at.slot who }
 {
     pool.laws();
-    let mut node = pool.first(ListName::Place(list));
-    while let Some(n) = node {
-        let seen = visit(pool, list, n);
-        if is_by(seen.entry, at, who) {
-            return true;
-        }
-        node = seen.next;
+    let key = key_of(list, who);
+    match node_at(table, key) {
+        Some(n) => touches(*pool.value(n), at),
+        None => false,
     }
-    false
 }
 
 /// Whether a list has no writer of a slot. Each node that is looked at is a step.

@@ -10,7 +10,7 @@ ghost use Rattle.lx_writer_sets.specs.Sets.{has_byte, touches};
 use crate::PrincipalTest;
 use crate::bits::{is_set, without};
 use crate::piece::{PART, Piece};
-use lx_caps::{CapStore, Principal, is_same, owns_byte};
+use lx_caps::{CapStore, Principal, owns_byte};
 
 /// The bytes of a part, by a bit for each, that a principal may have written.
 #[derive(Clone, Copy)]
@@ -66,14 +66,6 @@ pub(crate) fn touches(entry: Entry, at: SlotPart) -> bool
         }
     }
     false
-}
-
-/// Whether the entry says that the principal is a writer of one of the slot's bytes in the part.
-pub(crate) fn is_by(entry: Entry, at: SlotPart, who: Principal) -> bool
-    requires { at.slot + 8 ≤ 2 ^ 64 }
-    ensures { result ≡ (same_principal who entry.writer && touches at.part entry at.slot) }
-{
-    is_same(who, entry.writer) && touches(entry, at)
 }
 
 /// The entry's writer, if it is one of the slot and passes the test.

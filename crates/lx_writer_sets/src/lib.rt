@@ -1,8 +1,9 @@
 //! Who wrote where: the writers of each byte since it was last zeroed, and a store of capabilities that tells them too.
 //!
 //! [`WriterSets`] has a list for each part of 64 bytes of memory. A node of it is a writer and a mask of the bytes in that part
-//! that it may have written; one bit for each part says whether it has any. A grant of bytes is noted; to zero bytes only
-//! clears bits and gives nodes back, and so takes no memory; to take bytes from everyone changes no writer.
+//! that it may have written; one bit for each part says whether it has any, and a table finds the node of a writer in a part. A
+//! grant of bytes is noted, at the cost of the parts that it touches; to zero bytes only clears bits and gives nodes back, and
+//! so takes no memory; to take bytes from everyone changes no writer.
 //!
 //! ```text
 //! let mut sets = WriterSets::new(alloc);
@@ -34,6 +35,7 @@ mod bitmap;
 mod bits;
 mod chain;
 mod entry;
+mod index;
 mod laws;
 mod noted;
 mod parts;

@@ -5,6 +5,7 @@ ghost use Rattle.lx_caps.specs.declared.Atom.TheVariants.{Byte};
 ghost use Rattle.lx_caps.specs.History.{History, owns, same_principal};
 ghost use Rattle.lx_caps.specs.Precedence.{IsFirstPrincipal};
 ghost use Rattle.lx_caps.specs.Regions.{covers, mapped};
+ghost use Rattle.indexmap.specs.IndexMap.{spare};
 ghost use Rattle.lx_cap_nodes.specs.Words.{nodes_at};
 ghost use Rattle.lx_writer_sets.specs.Nodes.{AllNodes, has_nodes, is_ready};
 ghost use Rattle.lx_writer_sets.specs.Sets.{IsNobody, count_in, is_given_at, is_recorded, part_list, writes_part};
@@ -13,7 +14,9 @@ use crate::PrincipalTest;
 use crate::bitmap::{add_words, is_marked, mark, mark_anew};
 use crate::chain::{Pool, add, first_writer, forget, is_untouched, writes};
 use crate::entry::{Entry, SlotPart};
+use crate::index::{Table, make_keys};
 use crate::piece::{PART, list_of_part, parts_end, piece_bits, piece_of};
+use indexmap::IndexMap;
 use lx_cap_nodes::{Family, NodePool};
 use lx_caps::{CapStore, Principal, Steps};
 use lx_words::Memory;
@@ -29,6 +32,8 @@ const PARTS: u64 = 0xc000;
 pub(crate) struct PartLists {
     // A node stands in the list of its part. All stand in one list of owners, which nobody asks for.
     pool: Pool,
+    // The node of each writer in each list, so that nobody walks along a list to find it.
+    table: Table,
     // The bit of each part is set where its list has a node.
     words: Vec<u64>,
     // How many lists of parts there are so far.
@@ -40,9 +45,11 @@ impl Model for PartLists {
 
     ghost Value = { Parts };
 
-    ghost view = { λ p. shown p.pool p.words.items };
+    ghost use Rattle.indexmap.specs.IndexMap.{spare};
 
-    ghost invariant = { λ p. IsSound p.pool p.words.items p.count };
+    ghost view = { λ p. shown p.pool p.words.items (spare p.table) };
+
+    ghost invariant = { λ p. IsSound p.pool p.words.items p.count p.table.entries };
 }
 
 /// Adds lists until each part has one.
@@ -100,6 +107,20 @@ fn add_lists(pool: &mut Pool, count: &mut u64) -> Result<(), Memory>
     Ok(())
 }
 
+/// Makes room for at least `n` nodes more, and for as many keys that find them.
+fn make_room(pool: &mut Pool, table: &mut Table, n: u64) -> Result<(), Memory>
+    ensures nodes { OnOk result (n ≤ pool.new.spare) }
+    ensures keys { OnOk result (n ≤ spare table.new) }
+    ensures grows { (pool.old.spare ≤ pool.new.spare) × (spare table.old ≤ spare table.new) }
+    ensures places { pool.new.places ≡ pool.old.places }
+    ensures owners { pool.new.owners ≡ pool.old.owners }
+    ensures entries { table.new.entries ≡ table.old.entries }
+{
+    pool.reserve(n)?;
+    make_keys(table, n)?;
+    Ok(())
+}
+
 impl PartLists {
     /// Lists without nodes.
     pub(crate) fn new(alloc: Global) -> Self
@@ -107,6 +128,7 @@ impl PartLists {
     {
         PartLists {
             pool: NodePool::new(alloc),
+            table: IndexMap::new(alloc),
             words: Vec::new(alloc),
             count: 0,
         }
@@ -142,7 +164,7 @@ impl PartLists {
         ensures grows { self.old.spare ≤ self.new.spare }
         ensures rest { (self.new.lists ≡ self.old.lists) × (self.new.words ≡ self.old.words) }
     {
-        match self.pool.reserve(n) {
+        match make_room(&mut self.pool, &mut self.table, n) {
             Ok(()) => Ok(()),
             Err(_) => Err(Memory),
         }
@@ -194,7 +216,7 @@ impl PartLists {
                 writer: who,
                 mask: piece_bits(piece_of(at, size, part)),
             };
-            add(&mut self.pool, list, entry);
+            add(&mut self.pool, &mut self.table, list, entry);
             mark(&mut self.words, list);
         }
     }
@@ -212,7 +234,8 @@ impl PartLists {
     {
         match self.list_at(part) {
             Some(list) => {
-                forget(&mut self.pool, list, piece_of(at, size, part), caps);
+                let piece = piece_of(at, size, part);
+                forget(&mut self.pool, &mut self.table, list, piece, caps);
                 mark_anew(&mut self.words, &self.pool, list);
             }
             None => {}
@@ -242,7 +265,7 @@ impl PartLists {
         ensures { result ≡ writes_part self.now.lists at.part at.slot who }
     {
         match self.list_at(at.part) {
-            Some(list) => writes(&self.pool, list, at, who),
+            Some(list) => writes(&self.pool, &self.table, list, at, who),
             None => false,
         }
     }
@@ -262,8 +285,14 @@ impl PartLists {
     }
 }
 
-/// Records a principal as a writer of each byte of a range.
-pub(crate) fn note_range(parts: &mut PartLists, who: Principal, at: u64, size: u64)
+/// Records a principal as a writer of each byte of a range. Each part of it is a step: there the table is asked once.
+pub(crate) fn note_range<L: Ledger>(
+    parts: &mut PartLists,
+    who: Principal,
+    at: u64,
+    size: u64,
+    steps: &mut Steps<L>,
+)
     requires ready { is_ready parts.old ≡ true }
     requires room { size / 64 + 2 ≤ parts.old.spare }
     requires placed { mapped at size ≡ true }
@@ -271,8 +300,10 @@ pub(crate) fn note_range(parts: &mut PartLists, who: Principal, at: u64, size: u
     ensures ready { is_ready parts.new ≡ true }
     ensures records { (b : ℕ) (q : Principal) → is_recorded parts.new.lists b q ≡ ((same_principal q who && covers at size b) || is_recorded parts.old.lists b q) }
     ensures takes { parts.old.spare ≤ parts.new.spare + (size / 64 + 2) }
+    ensures cost { steps.new ≤ steps.old + ((at + size + 63) / 64 - at / 64) }
 {
     for part in at / PART..parts_end(at, size) {
+        steps.tick();
         parts.note_part(who, at, size, part);
     }
 }

@@ -24,11 +24,13 @@ loop-node-init g c =
       others = λ k ne. refl;
       counts = (refl, refl);
       spare = omega arith;
+      keys = omega arith;
       nodes = λ all. all;
+      indexed = λ nodes all. all;
     }
 
-pub keep-requires : goal.keep-requires
-keep-requires g c =
+pub keep_indexed-requires : goal.keep_indexed-requires
+keep_indexed-requires g c =
     let es = nodes_at c.loop-node.pool.places c.args.list in
     let step = ap (λ o. from o es) c.in-Some.is ∙ c.visit-seen.ensures.entry in
     record {
@@ -43,13 +45,13 @@ pub loop-node-smaller : goal.loop-node-smaller
 loop-node-smaller g c =
     let old = c.loop-node.invariant in
     let es = nodes_at c.loop-node.pool.places c.args.list in
-    let now = nodes_at c.keep.new.pool.places c.args.list in
-    let mask = c.kept_mask.result in
+    let now = nodes_at c.keep_indexed.new.pool.places c.args.list in
+    let mask = c.kept_mask-mask.result in
     let e : ℕ × Entry = (c.in-Some.n, c.visit-seen.result.entry) in
     let ys = from c.visit-seen.result.next es in
     let step : from c.loop-node.node es ≡ e ∷ ys = ap (λ o. from o es) c.in-Some.is ∙ c.visit-seen.ensures.entry in
     let split : es ≡ old.left ++ e ∷ ys = old.now ∙ ap (λ r. old.left ++ r) step in
-    let here : now ≡ old.left ++ put_node mask e ys = c.keep.ensures.here old.left ys c.visit-seen.result.entry split in
+    let here : now ≡ old.left ++ put_node mask e ys = c.keep_indexed.ensures.here old.left ys c.visit-seen.result.entry split in
     let whole : now ≡ (old.left ++ put_node mask e []) ++ ys = here ∙ (ap (λ r. old.left ++ r) (put_node_is mask e ys) ∙ sym (append_assoc old.left (put_node mask e []) ys)) in
     let come = comes_to (old.left ++ put_node mask e []) ys now c.visit-seen.result.next whole (c.laws-in-Some.ensures.apart Place c.args.list) c.visit-seen.ensures.next.here in
     let a = ap length come.0 in
@@ -60,13 +62,13 @@ pub loop-node-preserved : goal.loop-node-preserved
 loop-node-preserved g c =
     let old = c.loop-node.invariant in
     let es = nodes_at c.loop-node.pool.places c.args.list in
-    let now = nodes_at c.keep.new.pool.places c.args.list in
-    let mask = c.kept_mask.result in
+    let now = nodes_at c.keep_indexed.new.pool.places c.args.list in
+    let mask = c.kept_mask-mask.result in
     let e : ℕ × Entry = (c.in-Some.n, c.visit-seen.result.entry) in
     let ys = from c.visit-seen.result.next es in
     let step : from c.loop-node.node es ≡ e ∷ ys = ap (λ o. from o es) c.in-Some.is ∙ c.visit-seen.ensures.entry in
     let split : es ≡ old.left ++ e ∷ ys = old.now ∙ ap (λ r. old.left ++ r) step in
-    let here : now ≡ old.left ++ put_node mask e ys = c.keep.ensures.here old.left ys c.visit-seen.result.entry split in
+    let here : now ≡ old.left ++ put_node mask e ys = c.keep_indexed.ensures.here old.left ys c.visit-seen.result.entry split in
     let whole : now ≡ (old.left ++ put_node mask e []) ++ ys = here ∙ (ap (λ r. old.left ++ r) (put_node_is mask e ys) ∙ sym (append_assoc old.left (put_node mask e []) ys)) in
     let come = comes_to (old.left ++ put_node mask e []) ys now c.visit-seen.result.next whole (c.laws-in-Some.ensures.apart Place c.args.list) c.visit-seen.ensures.next.here in
     record {
@@ -77,9 +79,11 @@ loop-node-preserved g c =
       now = whole ∙ ap (λ r. (old.left ++ put_node mask e []) ++ r) (sym come.0);
       given = λ h stands k below q.
           kept_more old.was old.left e mask k q (not (nat_le c.args.piece.from k && nat_lt k c.args.piece.to)) (λ w. owns h w (Byte (c.args.piece.part * 64 + k)))
-          (c.kept_mask.ensures h stands k below) (old.given h stands k below q);
-      others = λ k ne. c.keep.ensures.others k ne ∙ old.others k ne;
-      counts = (c.keep.ensures.counts.0 ∙ old.counts.0, c.keep.ensures.counts.1 ∙ old.counts.1);
-      spare = let a = c.keep.ensures.spare in let b = old.spare in omega (arith, a, b);
-      nodes = λ all. c.keep.ensures.nodes (old.nodes all);
+          (c.kept_mask-mask.ensures h stands k below) (old.given h stands k below q);
+      others = λ k ne. c.keep_indexed.ensures.others k ne ∙ old.others k ne;
+      counts = (c.keep_indexed.ensures.counts.0 ∙ old.counts.0, c.keep_indexed.ensures.counts.1 ∙ old.counts.1);
+      spare = let a = c.keep_indexed.ensures.spare in let b = old.spare in omega (arith, a, b);
+      keys = let a = c.keep_indexed.ensures.keys in let b = old.keys in omega (arith, a, b);
+      nodes = λ all. c.keep_indexed.ensures.nodes (old.nodes all);
+      indexed = λ nodes all. c.keep_indexed.ensures.indexed (old.nodes nodes) (old.indexed nodes all);
     }

@@ -3,8 +3,10 @@ use Rattle.std.proofs.Common.{◌≡◌, ◌≢◌, ◌+◌, ◌*◌, ◌<◌, �
 use Rattle.lx_caps.specs.declared.Principal.{Principal}
 use Rattle.lx_caps.specs.declared.Atom.TheVariants.{Byte}
 use Rattle.lx_caps.specs.History.{History, owns}
+use Rattle.indexmap.specs.IndexMap as tables
 use Rattle.lx_cap_nodes.specs.Words.{nodes_at}
 use Rattle.lx_writer_sets.specs.declared.entry.Entry.{Entry}
+use Rattle.lx_writer_sets.specs.Index.{AreIndexed}
 use Rattle.lx_writer_sets.specs.Nodes.{AllNodes}
 use Rattle.lx_writer_sets.specs.Sets.{is_given}
 use Rattle.lx_writer_sets.specs.Walks.{from, HasCome}
@@ -22,7 +24,9 @@ invariant-loop-node g l = record {
   others : (k : ℕ) → k ≢ l.list → nodes_at l.pool.places k ≡ nodes_at l.fn.pool.places k;
   counts : (length l.pool.places ≡ length l.fn.pool.places) × (length l.pool.owners ≡ length l.fn.pool.owners);
   spare : l.fn.pool.spare ≤ l.pool.spare;
+  keys : tables.spare l.fn.table ≤ tables.spare l.table;
   nodes : AllNodes l.fn.pool.places → AllNodes l.pool.places;
+  indexed : AllNodes l.fn.pool.places → AreIndexed l.fn.table.entries l.fn.pool.places → AreIndexed l.table.entries l.pool.places;
 }
 
 abbrev pub decreases-loop-node : goal.decreases-loop-node

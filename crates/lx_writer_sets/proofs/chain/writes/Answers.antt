@@ -1,38 +1,26 @@
-use Rattle.std.proofs.Common.{◌≡◌, ◌&&◌, ◌∷◌, false, true, sym, ap, ◌∙◌}
-use Rattle.std.proofs.lemmas.Bool.{or_left}
-use Rattle.lx_caps.specs.History.{same_principal}
+use Rattle.std.proofs.Common.{◌≡◌, sym, ap, ◌∙◌}
 use Rattle.lx_cap_nodes.specs.declared.pool.Family.TheVariants.{Place}
+use Rattle.lx_writer_sets.specs.declared.entry.Entry.{Entry}
+use Rattle.lx_writer_sets.specs.Sets.{touches}
 use Rattle.lx_cap_nodes.specs.Words.{nodes_at}
-use Rattle.lx_writer_sets.specs.Sets.{touches, writes_in}
-use Rattle.lx_writer_sets.specs.Walks.{from}
-use Rattle.lx_writer_sets.proofs.WalkLemmas.{begins}
-use Rattle.lx_writer_sets.proofs.GivenLemmas.{or_rest}
+use Rattle.lx_writer_sets.proofs.IndexLemmas.{stands, no_writer, no_writes, writes_here}
 use Rattle.lx_writer_sets.proofs.chain.writes.Goals as goal
 
-pub loop-node-init : goal.loop-node-init
-loop-node-init c =
-    let es = nodes_at c.args.pool.now.places c.args.list in
-    let start = begins es c.first-node.result (c.laws.ensures.apart Place c.args.list) c.first-node.ensures.first in
-    record { come = start.1; rest = ap (λ r. writes_in c.args.at.part r c.args.at.slot c.args.who) start.0 }
+pub value-requires : goal.value-requires
+value-requires c =
+    let f = stands c.args.table.now.entries c.args.pool.now.places c.args.list c.args.who c.key_of-key.result c.node_at.result c.in-Some.n c.requires.indexed c.key_of-key.ensures c.node_at.ensures c.in-Some.is in
+    (c.laws.ensures.at_node Place c.args.list f.front c.in-Some.n f.v f.behind f.is).live
 
-pub loop-node-preserved : goal.loop-node-preserved
-loop-node-preserved c =
-    let es = nodes_at c.args.pool.now.places c.args.list in
-    let e = c.visit-seen.result.entry in
-    let rest = from c.visit-seen.result.next es in
-    let step : from c.loop-node.node es ≡ (c.in-Some.n, e) ∷ rest = ap (λ o. from o es) c.in-Some.is ∙ c.visit-seen.ensures.entry in
-    let out : (same_principal c.args.who e.writer && touches c.args.at.part e c.args.at.slot) ≡ false = sym c.is_by.ensures ∙ c.if-is_by.false in
-    record {
-      come = c.visit-seen.ensures.next;
-      rest = or_rest (same_principal c.args.who e.writer && touches c.args.at.part e c.args.at.slot) (writes_in c.args.at.part rest c.args.at.slot c.args.who) out
-          ∙ (ap (λ r. writes_in c.args.at.part r c.args.at.slot c.args.who) (sym step) ∙ c.loop-node.invariant.rest);
-    }
+pub returns-in-Some : goal.returns-in-Some
+returns-in-Some c =
+    let f = stands c.args.table.now.entries c.args.pool.now.places c.args.list c.args.who c.key_of-key.result c.node_at.result c.in-Some.n c.requires.indexed c.key_of-key.ensures c.node_at.ensures c.in-Some.is in
+    let at = c.laws.ensures.at_node Place c.args.list f.front c.in-Some.n f.v f.behind f.is in
+    let same : f.v ≡ c.value.result.now = cc (at.value, c.value.ensures) in
+    c.touches.ensures
+    ∙ (ap (λ (e : Entry). touches c.args.at.part e c.args.at.slot) (sym same)
+    ∙ sym (writes_here c.args.pool.now.places c.args.list c.args.at.part c.args.at.slot c.args.who f.front f.behind c.in-Some.n f.v c.requires.nodes f.is f.such))
 
-pub returns-then-is_by : goal.returns-then-is_by
-returns-then-is_by c =
-    let es = nodes_at c.args.pool.now.places c.args.list in
-    let e = c.visit-seen.result.entry in
-    let rest = from c.visit-seen.result.next es in
-    let step : from c.loop-node.node es ≡ (c.in-Some.n, e) ∷ rest = ap (λ o. from o es) c.in-Some.is ∙ c.visit-seen.ensures.entry in
-    let here : (same_principal c.args.who e.writer && touches c.args.at.part e c.args.at.slot) ≡ true = sym c.is_by.ensures ∙ c.if-is_by.true in
-    sym (sym c.loop-node.invariant.rest ∙ (ap (λ r. writes_in c.args.at.part r c.args.at.slot c.args.who) step ∙ or_left (same_principal c.args.who e.writer && touches c.args.at.part e c.args.at.slot) (writes_in c.args.at.part rest c.args.at.slot c.args.who) here))
+pub returns-in-None : goal.returns-in-None
+returns-in-None c =
+    sym (no_writes c.args.at.part c.args.at.slot c.args.who (nodes_at c.args.pool.now.places c.args.list)
+    (no_writer c.args.table.now.entries c.args.pool.now.places c.args.list c.args.who c.key_of-key.result c.node_at.result c.requires.indexed c.key_of-key.ensures c.node_at.ensures c.in-None.is))

@@ -6,7 +6,7 @@ use Rattle.lx_writer_sets.proofs.Ranges.{noted_more}
 use Rattle.lx_writer_sets.proofs.parts.note_range.Goals as goal
 
 pub loop-part-preserved : goal.loop-part-preserved
-loop-part-preserved c =
+loop-part-preserved g c =
     let inv = c.loop-part.invariant in
     record {
       low = omega (arith, inv.low);
@@ -16,4 +16,5 @@ loop-part-preserved c =
           noted_more (same_principal q c.args.who) (is_recorded c.args.parts.now.lists b q) (is_recorded c.loop-part.parts.lists b q) (is_recorded c.note_part.new.self.lists b q)
           c.args.at c.args.size c.loop-part.part b (inv.noted b q) (c.note_part.ensures.records b q);
       room = omega (arith, inv.room, inv.low, c.note_part.ensures.takes);
+      cost = let a = inv.cost in let b = inv.low in let t = c.tick.ensures in omega (arith, a, b, t);
     }

@@ -13,4 +13,5 @@ invariant_of-self c =
       owned = old.owned;
       marked = marked_same t.words.items c.add_words.new.words.items t.pool.places t.pool.places c.add_words.ensures.stays (λ l. refl) old.marked;
       nodes = old.nodes;
+      indexed = old.indexed;
     }

@@ -29,6 +29,7 @@ invariant_of-self c =
       owned = λ some. let a = old.owned some in let b = add.counts.1 in omega (arith, a, b);
       marked = marked_more t.words.items c.mark.new.words.items t.pool.places c.add.new.pool.places c.in-Some.list c.mark.ensures.bits add.some add.others old.marked;
       nodes = add.nodes old.nodes;
+      indexed = add.indexed;
     }
 
 pub returns-in-Some-clause-records : goal.returns-in-Some-clause-records

@@ -23,13 +23,14 @@ invariant_of-self g c =
       owned = λ more. let a = old.owned more in let b = forget.counts.1 in omega (arith, a, b);
       marked = marked_left t.words.items c.mark_anew.new.words.items t.pool.places c.forget.new.pool.places c.in-Some.list c.mark_anew.ensures.bits some forget.others old.marked;
       nodes = forget.nodes old.nodes;
+      indexed = forget.indexed old.nodes old.indexed;
     }
 
 pub returns-in-Some-clause-records : goal.returns-in-Some-clause-records
 returns-in-Some-clause-records g c h stands b q =
     subst (λ (p : Parts). is_recorded c.forget.new.pool.places b q ≡ (is_recorded p.lists b q && (not (covers c.args.at c.args.size b && nat_eq c.args.part (b / 64)) || owns h q (Byte b)))) c.self.view_is
-    (zeroed_part c.self.inside.pool.places c.forget.new.pool.places c.args.part c.in-Some.list c.args.at c.args.size c.piece_of.result (λ (n : ℕ) (w : Principal). owns h w (Byte n)) c.in-Some.ensures.found.0
-    c.piece_of.ensures.of_the_part c.piece_of.ensures.bytes (c.forget.ensures.here h stands) c.forget.ensures.others b q)
+    (zeroed_part c.self.inside.pool.places c.forget.new.pool.places c.args.part c.in-Some.list c.args.at c.args.size c.piece_of-piece.result (λ (n : ℕ) (w : Principal). owns h w (Byte n)) c.in-Some.ensures.found.0
+    c.piece_of-piece.ensures.of_the_part c.piece_of-piece.ensures.bytes (c.forget.ensures.here h stands) c.forget.ensures.others b q)
 
 pub returns-in-None-clause-records : goal.returns-in-None-clause-records
 returns-in-None-clause-records g c h stands b q =
