@@ -1,5 +1,5 @@
 -- Which calls the threads of a world are in, as runners keep it.
-use Rattle.std.proofs.Common.{◌≡◌, ℕ, zero, suc, Option, List, [], ◌∷◌, length, refl}
+use Rattle.std.proofs.Common.{◌≡◌, ℕ, zero, suc, List, [], ◌∷◌, length, refl}
 use Rattle.std.specs.Prelude.{option_and_then, option_map, slice_get}
 use Rattle.lx_images.specs.Image.{Code, ImageThread}
 use Rattle.lx_interp.specs.declared.runner.Runner.{Runner}

@@ -1,10 +1,9 @@
-use Rattle.std.proofs.Common.{IsTrue, refl, sym, ap, subst, ◌∙◌}
+use Rattle.std.proofs.Common.{IsTrue, refl, sym, subst, ◌∙◌}
 use Rattle.std.proofs.lemmas.Result.{err_from_is_err_and}
 use Rattle.lx_images.specs.Image.{Code, ImageThread, image_next}
 use Rattle.lx_interp.specs.Runner.{IsAsking}
 use Rattle.lx_model.specs.Thread.{has_call}
 use Rattle.lx_world.specs.Worlds.{StandsFor}
-use Rattle.lx_world.proofs.Counted.{ends_behind, room_still}
 use Rattle.lx_world.proofs.Exact.{but_for, exact_others, place_told}
 use Rattle.lx_world.proofs.Threads.{busy, fault_stands, idle_is}
 use Rattle.lx_world.proofs.Wanted.{asks_next}
