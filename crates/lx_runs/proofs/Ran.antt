@@ -4,7 +4,7 @@ use Rattle.lx_caps.specs.History.{History}
 use Rattle.lx_caps.specs.Placed.{AllPlaced}
 use Rattle.lx_images.specs.Image.{Code}
 use Rattle.lx_images.specs.ImageWorld.{ImageWorld, image_opening, image_run}
-use Rattle.lx_images.specs.Shown.{image_is_whole, shown}
+use Rattle.lx_images.specs.Shown.{shown}
 use Rattle.lx_images.specs.Stands.{StandsFor}
 use Rattle.lx_threads.specs.Running.{AreRun}
 use Rattle.lx_world.specs.declared.world.World.{World as Held}
@@ -46,9 +46,6 @@ module _ {C : Type 0} (stands : C → History → Type 0) (p : Program) (script 
     behind : (s : List ℕ) → StandsFor opened_code (run p s (opening p script)) (image_run opened_code s opened)
     behind s = laws.stands p o.images o.formed o.are_images script s o.few o.fits
 
-    same_whole : (s : List ℕ) → image_is_whole opened_code s opened ≡ true → is_whole p s (opening p script) ≡ true
-    same_whole s whole = sym (laws.showing.wholes p o.images o.formed o.are_images script s o.few o.fits) ∙ whole
-
     same_broken : (s : List ℕ) → image_broken_at opened_code s opened ≡ broken_at p s (opening p script)
     same_broken s = broken_from laws.showing opened_code (opening p script) opened behind s
 
@@ -58,10 +55,10 @@ module _ {C : Type 0} (stands : C → History → Type 0) (p : Program) (script 
     account_told done a ran is =
         let s = threads_of ran.history in
         let came = ran.runs opened_code opened o.stands_for in
-        let at : StandsForWorld stands opened_code done (image_run opened_code s opened) = subst (λ (v : ImageWorld). StandsForWorld stands opened_code done v) came.1.run.run came.1.stands_for in (
+        let monitored = came.1.monitored (opening p script) behind in (
           s,
-          same_whole s came.1.whole,
-          is opened_code (image_run opened_code s opened) at ∙ laws.showing.accounts opened_code (run p s (opening p script)) (image_run opened_code s opened) (behind s),
+          monitored.whole,
+          is opened_code came.0 came.1.stands_for ∙ laws.showing.accounts opened_code (run p s (opening p script)) came.0 monitored.stands_for,
         )
 
     module _ (runs : RunLaws) (linked : LinkedLaws) where
@@ -77,7 +74,7 @@ module _ {C : Type 0} (stands : C → History → Type 0) (p : Program) (script 
       run_told done t ran said =
           let s = threads_of ran.history in
           let came = ran.runs opened_code opened o.stands_for in
-          reported s None done t (same_whole s came.1.whole) tt
+          reported s None done t (came.1.monitored (opening p script) behind).whole tt
           (subst (λ (v : ImageWorld). StandsForWorld stands opened_code done v) came.1.run.run came.1.stands_for) said
 
       pub replay_told : (s : List ℕ) (done : Held C) (t : Told) → image_broken_at opened_code s opened ≡ None
