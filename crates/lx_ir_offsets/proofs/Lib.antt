@@ -6,3 +6,4 @@ pub mod Kept
 pub mod Steps
 pub mod Fits
 mod Passes
+mod Begun

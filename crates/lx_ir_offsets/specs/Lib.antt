@@ -2,3 +2,4 @@ pub mod Offsets
 pub mod Laws
 pub mod Shapes
 pub mod DistanceLaws
+pub mod Known

@@ -1,11 +1,11 @@
 -- How far constant indices go, where types may lie outside the limits.
-use Rattle.std.specs.Prelude.{ℕ, zero, suc, ◌+◌, ◌*◌, ◌%◌, ◌^◌, Bool, true, false, Option, Some, None, List, [], ◌∷◌, slice_get}
+use Rattle.std.specs.Prelude.{ℕ, zero, suc, ◌+◌, ◌*◌, ◌%◌, ◌^◌, Bool, true, false, Option, Some, None, List, [], ◌∷◌, slice_get, option_and_then}
 use Rattle.lx_words.specs.declared.word.Width.{Width}
 use Rattle.lx_words.specs.declared.word.Width.TheVariants.{W32, W64}
 use Rattle.lx_words.specs.Word.{Word, resize}
 use Rattle.lx_ir.specs.declared.types.NamedType.{NamedType}
 use Rattle.lx_ir.specs.IrType.{IrType, One, Array, Struct, Packed, Named, IrTypes, none, also}
-use Rattle.lx_ir.specs.Fitting.{◌>>?◌, Layouts, laid_beside, fit_type}
+use Rattle.lx_ir.specs.Fitting.{◌>>?◌, Layouts, laid_beside, fit_type, named_starts}
 use Rattle.lx_ir.specs.Layout.{Layout, layout, field_start, unnamed, list_of_types}
 
 -- how far an index goes, counted in values of so many bytes, modulo 2^64
@@ -35,6 +35,20 @@ numbered _ n = None
 -- the number of the field that an index names: it is an `i32`
 abbrev pub field_number : Word → Option ℕ
 field_number i = numbered i.width i.bits
+
+-- a field, where it has a start and a type
+abbrev pub begun : Option ℕ → Option IrType → Option Part
+begun None t = None
+begun (Some n) None = None
+begun (Some n) (Some t) = Some (part n t)
+
+-- where a field of the type with a number begins
+abbrev pub start_kept : List NamedType → ℕ → ℕ → Option ℕ
+start_kept types number k = option_and_then (λ starts. slice_get starts k) (slice_get (named_starts types) number)
+
+-- the field that an index names of the type with a number, whose fields these are, by where they begin
+abbrev pub field_kept : List NamedType → ℕ → List IrType → Word → Option Part
+field_kept types number ts i = field_number i >>? λ k. begun (start_kept types number k) (slice_get ts k)
 
 -- the part that an index names: an element of an array, or a field of a struct
 abbrev pub part_of : Layouts → IrType → Word → Option Part

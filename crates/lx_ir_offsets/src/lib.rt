@@ -2,16 +2,18 @@
 //!
 //! ```text
 //! // The indices `i64 1, i32 1` over `{ i32, ptr }`: one whole struct, and then to its second field. Some(24).
-//! distance(named, layouts, &ty, &indices);
+//! distance(types, &ty, &indices);
 //! ```
 #![tactic(auto)]
 
 ghost use Rattle.lx_ir_offsets.specs.Laws.{FitsAreLayouts};
 ghost use Rattle.lx_ir_offsets.specs.DistanceLaws.{LayoutsAreKept, LawfulTypesFit, FieldsAreOffsets, DistancesAreOffsets, DistancesAreFound};
 
+mod known;
 mod offset;
 mod shape;
 
+pub use known::KnownTypes;
 pub use offset::{distance, part_at};
 pub use shape::{Shape, is_outside, left_behind, named_shapes};
 

@@ -3,10 +3,12 @@
 ghost use Rattle.std.specs.Prelude.{◌≡◌, Option, Some, None, MatchOption};
 ghost use Rattle.lx_ir.specs.Layout.{layout, unnamed};
 ghost use Rattle.lx_ir.specs.TypeNodes.{types_of_list};
-ghost use Rattle.lx_ir_offsets.specs.Offsets.{field_number, field_type, part_type, part_at, scaled, part, field_after, part_of, moved, distance};
+ghost use Rattle.lx_ir_offsets.specs.Known.{named_in, layouts_in};
+ghost use Rattle.lx_ir_offsets.specs.Offsets.{field_number, field_type, part_type, part_at, scaled, part, field_after, part_of, field_kept, moved, distance};
 
+use crate::known::KnownTypes;
 use lx_ir::types::{IrType, NamedType, TypeNode};
-use lx_ir::{Layout, fit_type};
+use lx_ir::{Layout, NamedTypes, fit_type};
 use lx_words::{Width, Word, resize};
 
 /// The type that a name names.
@@ -96,8 +98,8 @@ fn field_after<'a>(
     None
 }
 
-/// Where the part that an index names begins, and its type.
-fn part_of<'a>(layouts: &[Option<Layout>], t: &'a IrType, i: Word) -> Option<(u64, &'a IrType)>
+/// Where the part of a type as it is written begins that an index names, and its type.
+fn written_part<'a>(layouts: &[Option<Layout>], t: &'a IrType, i: Word) -> Option<(u64, &'a IrType)>
     ensures { MatchOption result (part_of layouts.now t.entry.now i ≡ None) (λ p. part_of layouts.now t.entry.now i ≡ Some (part p.0 p.1.now)) }
 {
     match &t.node {
@@ -111,37 +113,58 @@ fn part_of<'a>(layouts: &[Option<Layout>], t: &'a IrType, i: Word) -> Option<(u6
     }
 }
 
+/// The field that an index names of the type with a number, whose fields these are, by where the fields of that type begin.
+fn field_kept<'a>(
+    types: &NamedTypes,
+    number: u32,
+    fields: &'a [IrType],
+    i: Word,
+) -> Option<(u64, &'a IrType)>
+    ensures { MatchOption result (field_kept types.now number fields.entry.now i ≡ None) (λ p. field_kept types.now number fields.entry.now i ≡ Some (part p.0 p.1.now)) }
+{
+    let k = field_number(i)? as usize;
+    match (types.field_start(number, k), fields.get(k)) {
+        (Some(start), Some(field)) => Some((start, field)),
+        _ => None,
+    }
+}
+
+/// Where the part that an index names begins, and its type.
+#[tactic(auto, using(crate::proofs::Begun::struct_part, crate::proofs::Begun::packed_part))]
+fn part_of<'a>(types: KnownTypes<'a>, t: &'a IrType, i: Word) -> Option<(u64, &'a IrType)>
+    ensures { MatchOption result (part_of (layouts_in types.entry) (unnamed (named_in types.entry) t.entry.now) i ≡ None) (λ p. part_of (layouts_in types.entry) (unnamed (named_in types.entry) t.entry.now) i ≡ Some (part p.0 p.1.now)) }
+{
+    let shown = unnamed(types.named(), t);
+    match (types, &t.node, &shown.node) {
+        (
+            KnownTypes::Laid(laid),
+            TypeNode::Named(number),
+            TypeNode::Struct(fields) | TypeNode::Packed(fields),
+        ) => field_kept(laid, *number, fields, i),
+        _ => written_part(types.layouts(), shown, i),
+    }
+}
+
 /// How far the indices of a `getelementptr` go, modulo 2^64: the first counts whole values of the type. None where one
 /// names no part, or where the type or a part on the way is outside the limits.
-pub fn distance(
-    named: &[NamedType],
-    layouts: &[Option<Layout>],
-    t: &IrType,
-    indices: &[Word],
-) -> Option<u64>
-    ensures { result ≡ distance named.now layouts.now t.now indices.now }
+pub fn distance(types: KnownTypes<'_>, t: &IrType, indices: &[Word]) -> Option<u64>
+    ensures { result ≡ distance (named_in types.entry) (layouts_in types.entry) t.now indices.now }
 {
     let [first, rest @ ..] = indices else {
         return Some(0);
     };
-    let start = scaled(*first, fit_type(layouts, t)?.size());
-    moved(named, layouts, start, t, rest)
+    let start = scaled(*first, fit_type(types.layouts(), t)?.size());
+    moved(types, start, t, rest)
 }
 
 /// How far indices go behind an offset.
-fn moved(
-    named: &[NamedType],
-    layouts: &[Option<Layout>],
-    offset: u64,
-    t: &IrType,
-    indices: &[Word],
-) -> Option<u64>
-    ensures { result ≡ moved named.now layouts.now offset t.now indices.now }
+fn moved(types: KnownTypes<'_>, offset: u64, t: &IrType, indices: &[Word]) -> Option<u64>
+    ensures { result ≡ moved (named_in types.entry) (layouts_in types.entry) offset t.now indices.now }
 {
     let mut offset = offset;
     let mut t = t;
     for i in indices {
-        let (start, part) = part_of(layouts, unnamed(named, t), *i)?;
+        let (start, part) = part_of(types, t, *i)?;
         offset = offset.wrapping_add(start);
         t = part;
     }
