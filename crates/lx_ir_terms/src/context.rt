@@ -3,10 +3,8 @@
 ghost use Rattle.std.specs.Prelude.{◌≡◌};
 ghost use Rattle.lx_ir_terms.specs.Context.{entry, unless_complete, type_number, symbol_of, register_number, bytes_of};
 
-use lx_ir::Layout;
 use lx_ir::module::Symbol;
-use lx_ir::types::NamedType;
-use lx_ir_offsets::Shape;
+use lx_ir_offsets::{KnownTypes, Shape};
 use lx_ir_tokens::NameTable;
 use std::marker::Model;
 
@@ -22,10 +20,8 @@ pub struct Context<'a> {
     pub symbols: &'a [Option<Symbol>],
     /// The registers of the function that is read.
     pub registers: &'a [Option<u32>],
-    /// The types, by their numbers.
-    pub named: &'a [NamedType],
-    /// Their layouts; none for a type that is outside the limits.
-    pub layouts: &'a [Option<Layout>],
+    /// The types, by their numbers, with their layouts.
+    pub known: KnownTypes<'a>,
     /// Their shapes, where types have to be within the limits as they are written.
     pub limits: Option<&'a [Shape]>,
     /// The names of the text, and what its byte strings say.
@@ -36,6 +32,7 @@ pub struct Context<'a> {
 
 impl<'a> Model for Context<'a> {
     ghost use Rattle.std.specs.Prelude.{option_map};
+    ghost use Rattle.lx_ir_offsets.specs.Known.{named_in, layouts_in};
     ghost use Rattle.lx_ir_terms.specs.Context.{Context as Meaning};
 
     ghost Value = { Meaning };
@@ -45,7 +42,7 @@ impl<'a> Model for Context<'a> {
 
     ghost coded = { Prim.hlevel (codes, ir_type.the_row.coded) };
 
-    ghost view = { λ c. record { types = c.types.now; symbols = c.symbols.now; registers = c.registers.now; named = c.named.now; layouts = c.layouts.now; limits = option_map (λ s. s.now) c.limits; names = c.names.now; complete = c.complete } };
+    ghost view = { λ c. record { types = c.types.now; symbols = c.symbols.now; registers = c.registers.now; named = named_in c.known; layouts = layouts_in c.known; limits = option_map (λ s. s.now) c.limits; names = c.names.now; complete = c.complete } };
 }
 
 fn entry<T: Copy>(table: &[Option<T>], name: u32) -> Option<T>
