@@ -87,7 +87,7 @@ impl FrameStack {
     }
 
     /// The function for which the frames act: the one that runs on top, or the one that called the wrapper there. None, where neither
-    /// is: without a frame, and in a wrapper that the kernel's script calls.
+    /// is: without a frame, and in a wrapper that a script calls.
     #[tactic(auto, using(crate::proofs::Acting::acts_on_top, crate::proofs::Acting::acts_below))]
     pub fn acting(&self) -> Option<&Activation>
         ensures { (c : Images) → option_map (run_of c) (option_copied result) ≡ acting (frames_of c self.now.top self.now.below) }

@@ -36,7 +36,7 @@ pub fn address_of(context: &Context<'_>, element: &Element) -> Pointer
     ensures { result ≡ address_of context.now element.now }
 {
     let indices = element.indices.as_slice();
-    let bytes = match distance(context.named, context.layouts, &element.ty, indices) {
+    let bytes = match distance(context.known, &element.ty, indices) {
         Some(bytes) => bytes,
         None => 0,
     };

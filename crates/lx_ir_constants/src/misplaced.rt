@@ -20,7 +20,7 @@ fn names_parts(context: &Context<'_>, element: &Element) -> bool
         [] => indices,
         [_, behind @ ..] => behind,
     };
-    match part_at(context.named, &element.ty, behind) {
+    match part_at(context.known.named(), &element.ty, behind) {
         Some(_) => true,
         None => false,
     }

@@ -15,7 +15,6 @@ use Rattle.lx_ir.specs.declared.module.Module.{Module}
 use Rattle.lx_ir.specs.declared.instr.Instr.{Instr}
 use Rattle.lx_ir.specs.declared.instr.Argument.{Argument}
 use Rattle.lx_ir.specs.Operands.{given_by, operands_where}
-use Rattle.lx_ir.specs.Fitting.{Layouts, fitting_layouts}
 use Rattle.lx_ir_offsets.specs.Shapes.{Shape, named_shapes}
 use Rattle.lx_ir_terms.specs.Context.{Context, bytes_of}
 use Rattle.lx_ir_calls.specs.declared.intrinsics.TextForm.{TextForm}
@@ -32,11 +31,10 @@ use Rattle.lx_ir_read.specs.declared.module_error.ModuleError.TheVariants as err
 use Rattle.lx_ir_read.specs.declared.draft.Draft.{Draft}
 use Rattle.lx_ir_read.specs.declared.reading.Tables.{Tables}
 use Rattle.lx_ir_read.specs.declared.reading.Types.{Types}
-use Rattle.lx_ir_read.specs.declared.reading.Reckoned.{Reckoned}
 use Rattle.lx_ir_read.specs.First.{first_reading}
 use Rattle.lx_ir_read.specs.Tables.{types_of, naming_types, named_types}
 use Rattle.lx_ir_read.specs.Again.{registers_in, local_names, with_body, kept}
-use Rattle.lx_ir_read.specs.Reading.{first_early, left_at, first_of, early_context, front_fault, types_in, symbols_in, reckoned_of, tables_of, module_found, unless_faulty, module_by, module_at}
+use Rattle.lx_ir_read.specs.Reading.{first_early, left_at, first_of, early_context, front_fault, types_in, symbols_in, tables_of, module_found, unless_faulty, module_by, module_at}
 use Rattle.lx_ir_read.specs.Says.{FailsIn}
 
 -- Functions.
@@ -104,20 +102,14 @@ types_are form ir found count types numbers named is numbered table read =
     let t : numbers ≡ table_of (types_of (length ir.names) found) = table ∙ ap table_of (numbered ∙ ap (λ n. types_of n found) is) in
     (λ j. types_with (t j) (read j))
 
-abbrev reckoned_with : Layouts → List Shape → Reckoned
-reckoned_with layouts shapes = record { layouts = layouts; shapes = shapes }
+abbrev tables_with : Types → List (Option Symbol) → List Shape → Tables
+tables_with t symbols shapes = record { types = t.numbers; symbols = symbols; named = t.named; shapes = shapes }
 
-pub reckoned_are : (named : List NamedType) (layouts : Layouts) (shapes : List Shape) → layouts ≡ fitting_layouts named → shapes ≡ named_shapes named → reckoned_with layouts shapes ≡ reckoned_of named
-reckoned_are named layouts shapes laid shaped = (λ j. reckoned_with (laid j) (shaped j))
-
-abbrev tables_with : Types → List (Option Symbol) → Reckoned → Tables
-tables_with t symbols r = record { types = t.numbers; symbols = symbols; named = t.named; layouts = r.layouts; shapes = r.shapes }
-
-pub tables_are : (form : TextForm) (ir : IrTokens) (found : List Found) (types : Types) (named : List NamedType) (symbols : List (Option Symbol)) (r : Reckoned)
-    → types ≡ types_in form ir found → named ≡ types.named → r ≡ reckoned_of named → symbols ≡ symbols_in ir found
-    → tables_with types symbols r ≡ tables_of form ir found
-tables_are form ir found types named symbols r is same known listed =
-    let k : r ≡ reckoned_of (types_in form ir found).named = known ∙ ap reckoned_of (same ∙ ap (λ (t : Types). t.named) is) in
+pub tables_are : (form : TextForm) (ir : IrTokens) (found : List Found) (types : Types) (named : List NamedType) (symbols : List (Option Symbol)) (shapes : List Shape)
+    → types ≡ types_in form ir found → named ≡ types.named → shapes ≡ named_shapes named → symbols ≡ symbols_in ir found
+    → tables_with types symbols shapes ≡ tables_of form ir found
+tables_are form ir found types named symbols shapes is same shaped listed =
+    let k : shapes ≡ named_shapes (types_in form ir found).named = shaped ∙ ap named_shapes (same ∙ ap (λ (t : Types). t.named) is) in
     (λ j. tables_with (is j) (listed j) (k j))
 
 -- The first fault, and the module.

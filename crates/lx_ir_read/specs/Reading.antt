@@ -26,7 +26,6 @@ use Rattle.lx_ir_read.specs.declared.first.FirstReading.{FirstReading}
 use Rattle.lx_ir_read.specs.declared.draft.Draft.{Draft}
 use Rattle.lx_ir_read.specs.declared.reading.Tables.{Tables}
 use Rattle.lx_ir_read.specs.declared.reading.Types.{Types}
-use Rattle.lx_ir_read.specs.declared.reading.Reckoned.{Reckoned}
 use Rattle.lx_ir_read.specs.declared.fault.TextFault.{TextFault}
 use Rattle.lx_ir_read.specs.declared.fault.TextFault.TheVariants as texts
 use Rattle.lx_ir_read.specs.declared.fault.ReadFault.{ReadFault}
@@ -92,9 +91,6 @@ types_in form ir found = record {
 abbrev pub symbols_in : IrTokens → List Found → List (Option Symbol)
 symbols_in ir found = symbols_of (unknown_context ir.names) (length ir.names) found
 
-abbrev pub reckoned_of : List NamedType → Reckoned
-reckoned_of named = record { layouts = fitting_layouts named; shapes = named_shapes named }
-
 -- what the statements of a text define, by number, and what is reckoned of its types
 abbrev pub tables_of : TextForm → IrTokens → List Found → Tables
 tables_of form ir found =
@@ -103,7 +99,6 @@ tables_of form ir found =
       types = table_of (types_of (length ir.names) found);
       symbols = symbols_of (unknown_context ir.names) (length ir.names) found;
       named = named;
-      layouts = fitting_layouts named;
       shapes = named_shapes named;
     }
 
@@ -114,7 +109,7 @@ full_context ir t limited = record {
   symbols = t.symbols;
   registers = [];
   named = t.named;
-  layouts = t.layouts;
+  layouts = fitting_layouts t.named;
   limits = (if limited then Some t.shapes else None);
   names = ir.names;
   complete = true;

@@ -5,6 +5,7 @@ ghost use Rattle.lx_ir_terms.specs.Reading.{Gives};
 ghost use Rattle.lx_ir_read.specs.First.{knowing_registers, no_progress, with_found, found_at, stopped, leftover, first_at, first_reading};
 
 use lx_ir_calls::TextForm;
+use lx_ir_offsets::KnownTypes;
 use lx_ir_statements::{Defined, Statement, statement};
 use lx_ir_tables::own_numbers;
 use lx_ir_terms::{Context, Fault, FaultKind, ReadError, Reader};
@@ -41,8 +42,7 @@ pub fn knowing_registers<'a>(names: &'a NameTable, own: &'a [Option<u32>]) -> Co
         types: &[],
         symbols: &[],
         registers: own,
-        named: &[],
-        layouts: &[],
+        known: KnownTypes::Listed(&[], &[]),
         limits: None,
         names,
         complete: false,

@@ -4,7 +4,7 @@ ghost use Rattle.std.specs.Prelude.{◌≡◌, ◌+◌, ◌^◌, ◌<◌, length
 ghost use Rattle.lx_ir_read.specs.First.{first_reading};
 ghost use Rattle.lx_ir_read.specs.Tables.{types_of, named_types};
 ghost use Rattle.lx_ir_read.specs.Again.{no_draft, all_again};
-ghost use Rattle.lx_ir_read.specs.Reading.{told, types_in, symbols_in, reckoned_of, tables_of, full_context, module_by_tables, module_found, unless_faulty, module_by, module_at, SaysModule, ModuleFails};
+ghost use Rattle.lx_ir_read.specs.Reading.{told, types_in, symbols_in, tables_of, full_context, module_by_tables, module_found, unless_faulty, module_by, module_at, SaysModule, ModuleFails};
 ghost use Rattle.lx_ir_read.specs.Says.{AnswersText};
 ghost use Rattle.lx_ir_read.specs.Laws.{OneModule, OneFault, NotBoth, ModulesAreFound};
 
@@ -15,11 +15,10 @@ use crate::first::{FirstReading, Found, first_reading, knowing_registers};
 use crate::module_error::ModuleError;
 use crate::tables::{named_types, symbols_of, types_of};
 use crate::{ReadFault, TextFault, shown};
+use lx_ir::NamedTypes;
 use lx_ir::module::{Module, Symbol};
-use lx_ir::types::NamedType;
-use lx_ir::{Layout, fitting_layouts};
 use lx_ir_calls::TextForm;
-use lx_ir_offsets::{Shape, named_shapes};
+use lx_ir_offsets::{KnownTypes, Shape, named_shapes};
 use lx_ir_statements::statement_laws;
 use lx_ir_tables::own_numbers;
 use lx_ir_terms::{Context, ReadError};
@@ -32,8 +31,7 @@ use std::alloc::Global;
 struct Tables {
     types: Items<Option<u32>>,
     symbols: Items<Option<Symbol>>,
-    named: Items<NamedType>,
-    layouts: Items<Option<Layout>>,
+    named: NamedTypes,
     shapes: Items<Shape>,
 }
 
@@ -41,14 +39,7 @@ struct Tables {
 #[derive(Drop)]
 struct Types {
     numbers: Items<Option<u32>>,
-    named: Items<NamedType>,
-}
-
-/// What is reckoned of types.
-#[derive(Drop)]
-struct Reckoned {
-    layouts: Items<Option<Layout>>,
-    shapes: Items<Shape>,
+    named: NamedTypes,
 }
 
 /// The types of the statements that were found.
@@ -56,8 +47,9 @@ fn types_in(alloc: Global, form: TextForm, ir: &IrTokens, found: &[Found]) -> Re
     ensures { IfOk result (λ t. t ≡ types_in form ir.now found.now) }
 {
     let types = types_of(alloc, ir.names.len(), found)?;
-    let named = named_types(alloc, form, ir, &types, found)?;
+    let entries = named_types(alloc, form, ir, &types, found)?;
     let numbers = Items::from_slice(alloc, types.table())?;
+    let named = NamedTypes::new(alloc, entries)?;
     Ok(Types { numbers, named })
 }
 
@@ -76,14 +68,6 @@ fn symbols_in(
     Ok(symbols)
 }
 
-fn reckoned_of(alloc: Global, named: &[NamedType]) -> Result<Reckoned, Memory>
-    ensures { IfOk result (λ r. r ≡ reckoned_of named.now) }
-{
-    let layouts = fitting_layouts(alloc, named)?;
-    let shapes = named_shapes(alloc, named)?;
-    Ok(Reckoned { layouts, shapes })
-}
-
 /// The tables of the statements that were found. They are made part by part: each way out drops what is there by then.
 fn tables_of(
     alloc: Global,
@@ -94,14 +78,13 @@ fn tables_of(
     ensures { IfOk result (λ t. t ≡ tables_of form ir.now found.now) }
 {
     let types = types_in(alloc, form, ir, found)?;
-    let reckoned = reckoned_of(alloc, types.named.as_slice())?;
+    let shapes = named_shapes(alloc, types.named.as_slice())?;
     let symbols = symbols_in(alloc, ir, found)?;
     Ok(Tables {
         types: types.numbers,
         symbols,
         named: types.named,
-        layouts: reckoned.layouts,
-        shapes: reckoned.shapes,
+        shapes,
     })
 }
 
@@ -118,8 +101,7 @@ fn full_context<'a>(ir: &'a IrTokens, tables: &'a Tables, limited: bool) -> Cont
         types: tables.types.as_slice(),
         symbols: tables.symbols.as_slice(),
         registers: &[],
-        named: tables.named.as_slice(),
-        layouts: tables.layouts.as_slice(),
+        known: KnownTypes::Laid(&tables.named),
         limits,
         names: &ir.names,
         complete: true,

@@ -8,6 +8,7 @@ use crate::first::Found;
 use lx_ir::module::Symbol;
 use lx_ir::types::NamedType;
 use lx_ir_calls::TextForm;
+use lx_ir_offsets::KnownTypes;
 use lx_ir_statements::{Defined, Statement, is_block_write, statement};
 use lx_ir_tables::{Numbering, symbols_by};
 use lx_ir_terms::{Context, ReadError, Reader};
@@ -151,8 +152,7 @@ pub fn naming_types<'a>(
         types,
         symbols: &[],
         registers: &[],
-        named,
-        layouts: &[],
+        known: KnownTypes::Listed(named, &[]),
         limits: None,
         names,
         complete: false,

@@ -1,6 +1,7 @@
 //! What the names of short texts mean.
 
 use lx_ir::module::Symbol;
+use lx_ir_offsets::KnownTypes;
 use lx_ir_terms::Context;
 use lx_ir_tokens::IrTokens;
 use lx_words::{Items, Memory};
@@ -38,8 +39,7 @@ pub fn meaning<'a>(
         types: &[],
         symbols,
         registers,
-        named: &[],
-        layouts: &[],
+        known: KnownTypes::Listed(&[], &[]),
         limits: None,
         names: &tokens.names,
         complete,
