@@ -84,11 +84,34 @@ fn kept_bits(pool: &Pool, place: u64, in_reach: InReach) -> u64
     }
 }
 
-/// Says whether someone in reach has each of these bits at a place. Where the principal itself keeps them all, no other holder is looked at.
+/// The bits at a place of whoever came last to it, where that one is in reach.
+fn newest_bits(pool: &Pool, place: u64, in_reach: InReach) -> u64
+    requires { place < length pool.now.places }
+    ensures { (k : ℕ) → is_set result k ≡ true → bit_among (counts in_reach) (nodes_at pool.now.places place) k ≡ true }
+{
+    pool.laws();
+    match pool.first(ListName::Place(place)) {
+        Some(n) => {
+            let newest = visit(pool, ListName::Place(place), n).entry;
+            if counts(in_reach, newest.holder) {
+                newest.mask
+            } else {
+                0
+            }
+        }
+        None => 0,
+    }
+}
+
+/// Says whether someone in reach has each of these bits at a place. Where whoever came last, or the principal itself, has them all, no other
+/// holder is looked at.
 pub fn has_bits(pool: &Pool, place: u64, in_reach: InReach, wanted: u64) -> bool
     requires { place < length pool.now.places }
     ensures { HasBits (counts in_reach) (nodes_at pool.now.places place) wanted result }
 {
+    if has_all(newest_bits(pool, place, in_reach), wanted) {
+        return true;
+    }
     if has_all(kept_bits(pool, place, in_reach), wanted) {
         return true;
     }
