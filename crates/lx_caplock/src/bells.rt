@@ -6,7 +6,8 @@ use lx_words::Memory;
 use std::alloc::Global;
 use std::sync::Wait;
 
-// How many bells there are. At most 17 tickets are out at a time; a power of two also keeps them apart where tickets wrap.
+// How many bells there are. At most 17 tickets are out at a time, and there are at most 17 threads; a power of two also keeps tickets apart
+// where they wrap.
 const BELLS: u64 = 32;
 
 // A bell at which nobody sleeps, or is about to.
@@ -28,18 +29,18 @@ impl Play<u8, ()> for Anything {
     ghost then = { λ _ _ _ _. Unit {0} };
 }
 
-/// A bell for each ticket that is out, to sleep at.
+/// Bells that are told apart by numbers, to sleep at.
 #[derive(Drop)]
 pub(crate) struct Bells {
     table: Table<u8, (), (), Anything, Global>,
     ghost sized: { table.shared.table_id.words ≡ 32 },
 }
 
-// Which bell is the ticket's.
-fn bell_of(ticket: u64) -> usize
+// Which bell is the number's.
+fn bell_of(number: u64) -> usize
     ensures { result < 32 }
 {
-    (ticket % BELLS) as usize
+    (number % BELLS) as usize
 }
 
 impl Bells {
@@ -52,23 +53,34 @@ impl Bells {
         Ok(Bells { table })
     }
 
-    /// Says at the ticket's bell that somebody is about to sleep. Where that is said already, sleeps there until a wake, and may also
-    /// come back for no reason. Whoever waits looks for its turn before each call: between saying and sleeping it then has looked once
+    /// Says at the number's bell that somebody is about to sleep. Where that is said already, sleeps there until a wake, and may also
+    /// come back for no reason. Whoever waits looks at the lock before each call: between saying and sleeping it then has looked once
     /// more, and who ends a turn looks at the bell behind that, so that one of the two sees the other.
-    pub(crate) fn sleep<R: Wait>(&self, rt: &R, ticket: u64) {
-        let bell = bell_of(ticket);
+    pub(crate) fn sleep<R: Wait>(&self, rt: &R, number: u64) {
+        let bell = bell_of(number);
         let (found, _seat) = self.table.shared.swap_new_seat::<Anything>(bell, AWAITED);
         if found == AWAITED {
             self.table.shared.park(rt, bell, AWAITED as u32);
         }
     }
 
-    /// Wakes who sleeps at the ticket's bell, and who is about to. It costs a load where nobody is.
-    pub(crate) fn wake(&self, ticket: u64) {
-        let bell = bell_of(ticket);
-        if self.table.shared.peek(bell) == AWAITED {
+    /// Wakes who sleeps at the number's bell, and who is about to; says whether there was anybody. It costs a load where nobody is.
+    pub(crate) fn wake(&self, number: u64) -> bool {
+        let bell = bell_of(number);
+        let awaited = self.table.shared.peek(bell) == AWAITED;
+        if awaited {
             let (_found, _seat) = self.table.shared.swap_new_seat::<Anything>(bell, QUIET);
             self.table.shared.wake_all(bell);
+        }
+        awaited
+    }
+
+    /// Wakes at the first bell at which somebody sleeps, of those of the numbers below `count`, from one on and round.
+    pub(crate) fn wake_one_below(&self, count: u64, from: u64) {
+        for k in 0..count {
+            if self.wake(from.wrapping_add(k) % count) {
+                return;
+            }
         }
     }
 }

@@ -31,7 +31,13 @@ use std::sync::Wait;
 // How often a thread looks for its turn before it sleeps. It takes about as long as a sleep and a wake, some microseconds: who
 // waits less saves both, and who waits longer loses no more than them. (It does not yield between: where other work is ready, a
 // yield may take milliseconds, for which all others wait.)
-const LOOKS: u32 = 100;
+const LOOKS: u32 = 400;
+
+// With so many tickets out, one more would only stand behind one that waits: who comes then waits at its door, without a ticket.
+const CROWD: u64 = 2;
+
+// After so many turns one who waits at a door comes in, also where those within ask on.
+const TURNS_A_GUEST: u64 = 64;
 
 /// A seat of the table, as the calls within use it.
 pub(crate) type Place<T> = Seat<T, View<T>>;
@@ -42,7 +48,10 @@ pub(crate) type Place<T> = Seat<T, View<T>>;
 pub struct CapLock<T: Part + Drop> {
     table: Table<T, View<T>, Opening<T>, Turns, Global>,
     seats: u32,
+    // To sleep at until a ticket has its turn.
     bells: Bells,
+    // To sleep at before a ticket is taken.
+    doors: Bells,
     ghost sized: { (table.shared.table_id.words ≡ 3) × (table.shared.table_id.slots ≡ 1) × (table.shared.key.seats ≡ seats) },
 }
 
@@ -56,6 +65,7 @@ impl<T: Part + Drop> CapLock<T> {
         ensures { IfOk result (λ r. (r.1.table_id ≡ r.0.table.shared.table_id) × (r.0.seats ≡ seats) × IsAtRest r.1 × (r.1.me.0 ≡ first_view (Some part) seats)) }
     {
         let bells = Bells::new(alloc)?;
+        let doors = Bells::new(alloc)?;
         let about = Opening {
             part: Snapshot::of(&part),
             seats: seats as u64,
@@ -70,9 +80,47 @@ impl<T: Part + Drop> CapLock<T> {
                 table,
                 seats,
                 bells,
+                doors,
             },
             place,
         ))
+    }
+
+    // Whether a further ticket would stand behind one that waits.
+    fn is_crowded(&self) -> bool {
+        let over = self.table.shared.peek(2);
+        self.table.shared.peek(1).wrapping_sub(over) >= CROWD
+    }
+
+    // The number of a thread's door.
+    fn door_of(&self, thread: u32) -> u64 {
+        if self.seats == 0 {
+            0
+        } else {
+            (thread % self.seats) as u64
+        }
+    }
+
+    // Waits at the thread's door, where the lock is crowded, until somebody lets it in. It may also come in for no reason: what the lock
+    // promises rests on tickets alone.
+    fn come_in<R: Wait>(&self, rt: &R, thread: u32) {
+        if self.is_crowded() {
+            let door = self.door_of(thread);
+            self.doors.sleep(rt, door);
+            if self.is_crowded() {
+                self.doors.sleep(rt, door);
+            }
+            self.doors.wake(door);
+        }
+    }
+
+    // Wakes who has the next turn. Where nobody has, and now and then where somebody has, it also lets one in who waits at a door.
+    fn call_next(&self, next: u64) {
+        self.bells.wake(next);
+        if next % TURNS_A_GUEST == 0 || self.table.shared.peek(1) == next {
+            self.doors
+                .wake_one_below(self.seats as u64, next / TURNS_A_GUEST);
+        }
     }
 
     // Waits for the turn of the ticket: the place then has the part. Looks some times, and then sleeps at the ticket's bell.
@@ -127,7 +175,7 @@ impl<T: Part + Drop> CapLock<T> {
         ensures { (place.new.table_id ≡ place.old.table_id) × (place.new.id ≡ place.old.id) × (place.new.me ≡ (released place.old.me.0 W.added, [])) }
     {
         let turn = self.table.shared.fetch_add::<Release<W>>(place, 2, 1);
-        self.bells.wake(turn.wrapping_add(1));
+        self.call_next(turn.wrapping_add(1));
     }
 
     // The same with one entry, that of the request. What is asked and answered is handed in for the contract alone.
@@ -143,7 +191,7 @@ impl<T: Part + Drop> CapLock<T> {
         self.release::<W>(place);
     }
 
-    // Takes a ticket, waits for its turn and has the request served.
+    // Comes in, takes a ticket, waits for its turn and has the request served.
     pub(crate) fn ask_at<R: Wait>(
         &self,
         rt: &R,
@@ -159,6 +207,7 @@ impl<T: Part + Drop> CapLock<T> {
         ensures seat { IsSameSeat place.old.me.0 place.new.me.0 }
         ensures answer { MatchResult result (λ reply. Answers (LegalFrom T.program T.stands) thread request.now place.old.me.0 reply place.new.me.0) (λ e. Refuses (LegalFrom T.program T.stands) place.old.me.0 place.new.me.0) }
     {
+        self.come_in(rt, thread);
         let ticket = self.table.shared.fetch_add::<TakeTicket>(place, 1, 1);
         self.wait(rt, place, ticket);
         match self.serve_held(place, thread, request) {
@@ -223,6 +272,7 @@ impl<T: Part + Drop> CapLock<T> {
             table,
             seats: _,
             bells: _,
+            doors: _,
         } = self;
         let mut closed = table.close_with(place);
         let part = closed.take(0);
