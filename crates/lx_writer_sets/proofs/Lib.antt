@@ -6,6 +6,8 @@ pub mod Slots
 pub mod WalkLemmas
 pub mod VisitLemmas
 pub mod GivenLemmas
+pub mod SlotMasks
+pub mod SomeLemmas
 pub mod NodeLemmas
 pub mod IndexLemmas
 pub mod PartLemmas

@@ -10,7 +10,7 @@ use Rattle.lx_caps.proofs.Tests.{max_one, min_one}
 pub set_in_either : (m n k : ℕ) → is_set (bit_or m n) k ≡ (is_set m k || is_set n k)
 set_in_either m n k = ap (λ t. nat_eq t 1) (bit_at_or m n k) ∙ max_one (bit_at m k) (bit_at n k) (bit_at-lt m k) (bit_at-lt n k)
 
-set_in_both : (m n k : ℕ) → is_set (bit_and m n) k ≡ (is_set m k && is_set n k)
+pub set_in_both : (m n k : ℕ) → is_set (bit_and m n) k ≡ (is_set m k && is_set n k)
 set_in_both m n k = ap (λ t. nat_eq t 1) (bit_at_and m n k) ∙ min_one (bit_at m k) (bit_at n k) (bit_at-lt m k) (bit_at-lt n k)
 
 not_itself : (b : Bool) (p : ℕ) → false ≡ (b && not (nat_eq p p))

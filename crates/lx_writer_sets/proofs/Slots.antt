@@ -1,5 +1,5 @@
 -- The eight bytes of a slot, one after the other.
-use Rattle.std.proofs.Common.{◌≡◌, ◌∙◌, refl, sym, ap, subst, ℕ, zero, suc, ◌+◌, ◌/◌, ◌%◌, ◌<◌, Bool, true, false, ◌&&◌, ◌||◌, nat_eq, List, [], ◌∷◌, drop, Option, Some, None, arith, eqb-true}
+use Rattle.std.proofs.Common.{◌≡◌, ◌∙◌, refl, sym, ap, subst, ℕ, ◌+◌, ◌/◌, ◌%◌, ◌<◌, Bool, true, false, ◌&&◌, ◌||◌, nat_eq, List, [], ◌∷◌, Option, Some, None, arith, eqb-true}
 use Rattle.std.specs.List.{list_any}
 use Rattle.std.proofs.lemmas.Bool.{both_ways}
 use Rattle.std.proofs.lemmas.Bool.Decides.{nat_tests}
@@ -15,28 +15,6 @@ use Rattle.lx_writer_sets.proofs.GivenLemmas.{or_rest}
 use Rattle.lx_writer_sets.proofs.Lists.{and_or}
 use Rattle.lx_caps.proofs.Tests.{and_none, or_nothing}
 use Rattle.lx_caps.proofs.PrincipalOrder.{same_first}
-
-next_of_eight : (k : ℕ) → k < 8 → drop k eight ≡ k ∷ drop (k + 1) eight
-next_of_eight zero below = refl
-next_of_eight (suc zero) below = refl
-next_of_eight (suc (suc zero)) below = refl
-next_of_eight (suc (suc (suc zero))) below = refl
-next_of_eight (suc (suc (suc (suc zero)))) below = refl
-next_of_eight (suc (suc (suc (suc (suc zero))))) below = refl
-next_of_eight (suc (suc (suc (suc (suc (suc zero)))))) below = refl
-next_of_eight (suc (suc (suc (suc (suc (suc (suc zero))))))) below = refl
-next_of_eight (suc (suc (suc (suc (suc (suc (suc (suc k)))))))) below = absurd (omega arith)
-
--- a byte that does not pass leaves the rest
-pub one_byte_less : (p : ℕ → Bool) (k : ℕ) → k < 8 → p k ≡ false → list_any p (drop k eight) ≡ list_any p (drop (k + 1) eight)
-one_byte_less p k below is = ap (list_any p) (next_of_eight k below) ∙ ap (λ (b : Bool). b || list_any p (drop (k + 1) eight)) is
-
-pub byte_found : (p : ℕ → Bool) (k : ℕ) → k < 8 → p k ≡ true → list_any p (drop k eight) ≡ true
-byte_found p k below is = ap (list_any p) (next_of_eight k below) ∙ ap (λ (b : Bool). b || list_any p (drop (k + 1) eight)) is
-
-pub touches_is : (part : ℕ) (e : Entry) (slot : ℕ) → touches part e slot ≡ list_any (λ k. has_byte part e (slot + k)) eight
-unfolding touches
-touches_is part e slot = refl
 
 none_of : (ks : List ℕ) → list_any (λ k. false) ks ≡ false
 none_of [] = refl

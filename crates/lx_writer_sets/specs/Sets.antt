@@ -1,10 +1,11 @@
 -- Who is recorded as a writer of a byte, by lists of nodes: one list for each part of 64 bytes, in which a node is a writer
 -- and a mask of bytes.
-use Rattle.std.specs.Prelude.{◌≡◌, ℕ, ◌+◌, ◌-◌, ◌/◌, ◌%◌, Bool, true, false, ◌&&◌, nat_eq, nat_le, nat_lt, List, [], ◌∷◌, Option, Some, None, length, if◌then◌else◌}
+use Rattle.std.specs.Prelude.{◌≡◌, ℕ, ◌+◌, ◌-◌, ◌*◌, ◌/◌, ◌%◌, ◌<◌, Bool, true, false, ◌&&◌, nat_eq, nat_le, nat_lt, List, [], ◌∷◌, Option, Some, None, length, if◌then◌else◌}
 use Rattle.std.specs.List.{list_any}
 use Rattle.lx_caps.specs.declared.Principal.{Principal}
 use Rattle.lx_caps.specs.History.{History, same_principal}
 use Rattle.lx_caps.specs.Precedence.{follows, IsFirstPrincipal}
+use Rattle.lx_caps.specs.Regions.{covers}
 use Rattle.lx_caps.specs.Writers.{is_writer, is_slot_writer}
 use Rattle.lx_cap_nodes.specs.Words.{nodes_at}
 use Rattle.lx_writer_sets.specs.Bits.{is_set}
@@ -51,6 +52,10 @@ has_byte part e b = nat_eq part (b / 64) && is_set e.mask (b % 64)
 unfoldable pub touches : ℕ → Entry → ℕ → Bool
 touches part e slot = list_any (λ k. has_byte part e (slot + k)) eight
 
+-- the mask has the places in the part of the slot's bytes that lie there
+abbrev pub IsSlotMask : ℕ → ℕ → ℕ → Type 0
+IsSlotMask slot part mask = (k : ℕ) → k < 64 → is_set mask k ≡ covers slot 8 (part * 64 + k)
+
 -- some node of a part says that the principal is a writer of one of the slot's eight bytes
 abbrev pub writes_in : ℕ → List (ℕ × Entry) → ℕ → Principal → Bool
 writes_in part es slot q = list_any (λ e. same_principal q e.1.writer && touches part e.1 slot) es
@@ -72,6 +77,15 @@ count_in lists (Some l) = length (nodes_at lists l)
 -- the first writer of the slot that passes the test, if there is one
 abbrev pub IsFirstWriter : History → ℕ → (Principal → Bool) → Option Principal → Type 0
 IsFirstWriter h slot t first = IsFirstPrincipal (λ q. t q && is_slot_writer h slot q) first
+
+-- some principal that passes the test; or none passes at all
+abbrev pub IsSomePrincipal : (Principal → Bool) → Option Principal → Type 0
+IsSomePrincipal p None = (q : Principal) → p q ≡ false
+IsSomePrincipal p (Some w) = p w ≡ true
+
+-- some writer of the slot that passes the test, if there is one
+abbrev pub IsSomeWriter : History → ℕ → (Principal → Bool) → Option Principal → Type 0
+IsSomeWriter h slot t some = IsSomePrincipal (λ q. t q && is_slot_writer h slot q) some
 
 -- the next writer of the slot behind the given principal, if there is one
 abbrev pub IsNextWriter : History → ℕ → Option Principal → Option Principal → Type 0

@@ -10,7 +10,7 @@ ghost use Rattle.lx_writer_sets.specs.Bits.{is_set};
 ghost use Rattle.lx_writer_sets.specs.declared.entry.Entry.{Entry};
 ghost use Rattle.lx_writer_sets.specs.Index.{AreIndexed};
 ghost use Rattle.lx_writer_sets.specs.Nodes.{AllNodes, HasBit, has_nodes, put_node, with_mask};
-ghost use Rattle.lx_writer_sets.specs.Sets.{IsNobody, is_given, writes_in};
+ghost use Rattle.lx_writer_sets.specs.Sets.{IsNobody, IsSomePrincipal, is_given, writes_in};
 ghost use Rattle.lx_writer_sets.specs.Walks.{from, HasCome, StandsAt};
 
 use crate::PrincipalTest;
@@ -171,7 +171,6 @@ pub(crate) fn first_writer<T: PrincipalTest>(
     found: Option<Principal>,
 ) -> Option<Principal>
     requires list { list < length pool.now.places }
-    requires slot { at.slot + 8 ≤ 2 ^ 64 }
     ensures { (t : Principal → Bool) → T.stands test.now t → (p : Principal → Bool) → IsFirstPrincipal p found
         → IsFirstPrincipal (λ q. p q || (t q && writes_in at.part (nodes_at pool.now.places list) at.slot q)) result }
 {
@@ -186,9 +185,30 @@ pub(crate) fn first_writer<T: PrincipalTest>(
     first
 }
 
+/// Some writer in a list of a slot that passes the test. None is asked behind the first that is met.
+pub(crate) fn some_writer<T: PrincipalTest>(
+    pool: &Pool,
+    list: u64,
+    at: SlotPart,
+    test: &T,
+) -> Option<Principal>
+    requires { list < length pool.now.places }
+    ensures { (t : Principal → Bool) → T.stands test.now t → IsSomePrincipal (λ q. t q && writes_in at.part (nodes_at pool.now.places list) at.slot q) result }
+{
+    pool.laws();
+    let mut node = pool.first(ListName::Place(list));
+    while let Some(n) = node {
+        let seen = visit(pool, list, n);
+        if let Some(writer) = writer_by(seen.entry, at, test) {
+            return Some(writer);
+        }
+        node = seen.next;
+    }
+    None
+}
+
 /// Whether a list has the principal as a writer of a slot. The table finds its node.
 pub(crate) fn writes(pool: &Pool, table: &Table, list: u64, at: SlotPart, who: Principal) -> bool
-    requires slot { at.slot + 8 ≤ 2 ^ 64 }
     requires nodes { AllNodes pool.now.places }
     requires indexed { AreIndexed table.now.entries pool.now.places }
     ensures { result ≡ writes_in at.part (nodes_at pool.now.places list) at.slot who }
@@ -209,7 +229,6 @@ pub(crate) fn is_untouched<L: Ledger>(
     steps: &mut Steps<L>,
 ) -> bool
     requires list { list < length pool.now.places }
-    requires slot { at.slot + 8 ≤ 2 ^ 64 }
     ensures nobody { IsNobody result (writes_in at.part (nodes_at pool.now.places list) at.slot) }
     ensures cost { steps.new ≤ steps.old + length (nodes_at pool.now.places list) }
 {

@@ -5,10 +5,10 @@ ghost use Rattle.lx_caps.specs.declared.Atom.TheVariants.{Byte};
 ghost use Rattle.lx_caps.specs.History.{History, owns, same_principal};
 ghost use Rattle.lx_caps.specs.Precedence.{is_found};
 ghost use Rattle.lx_writer_sets.specs.Bits.{is_set};
-ghost use Rattle.lx_writer_sets.specs.Sets.{has_byte, touches};
+ghost use Rattle.lx_writer_sets.specs.Sets.{IsSlotMask, touches};
 
 use crate::PrincipalTest;
-use crate::bits::{is_set, without};
+use crate::bits::{between, is_set, without};
 use crate::piece::{PART, Piece};
 use lx_caps::{CapStore, Principal, owns_byte};
 
@@ -19,11 +19,13 @@ pub(crate) struct Entry {
     pub(crate) mask: u64,
 }
 
-/// Those of a slot's eight bytes that lie in one part.
+/// Those of a slot's eight bytes that lie in one part, with a bit for the place of each.
 #[derive(Clone, Copy)]
 pub(crate) struct SlotPart {
     pub(crate) slot: u64,
     pub(crate) part: u64,
+    pub(crate) mask: u64,
+    ghost bits: { IsSlotMask slot part mask },
 }
 
 /// A slot in the part of its first byte.
@@ -31,9 +33,12 @@ pub(crate) fn first_part(slot: u64) -> SlotPart
     ensures slot { result.slot ≡ slot }
     ensures part { result.part ≡ slot / 64 }
 {
+    let from = slot % PART;
+    let to = if from + 8 < PART { from + 8 } else { PART };
     SlotPart {
         slot,
         part: slot / PART,
+        mask: between(from, to),
     }
 }
 
@@ -43,34 +48,24 @@ pub(crate) fn last_part(slot: u64) -> SlotPart
     ensures slot { result.slot ≡ slot }
     ensures part { result.part ≡ (slot + 7) / 64 }
 {
+    let to = (slot + 7) % PART + 1;
+    let from = if to < 8 { 0 } else { to - 8 };
     SlotPart {
         slot,
         part: (slot + 7) / PART,
+        mask: between(from, to),
     }
-}
-
-fn has_byte(part: u64, entry: Entry, byte: u64) -> bool
-    ensures { result ≡ has_byte part entry byte }
-{
-    part == byte / PART && is_set(entry.mask, byte % PART)
 }
 
 /// Whether the entry has one of the slot's bytes in the part.
 pub(crate) fn touches(entry: Entry, at: SlotPart) -> bool
-    requires { at.slot + 8 ≤ 2 ^ 64 }
     ensures { result ≡ touches at.part entry at.slot }
 {
-    for k in 0..8 {
-        if has_byte(at.part, entry, at.slot + k) {
-            return true;
-        }
-    }
-    false
+    entry.mask & at.mask != 0
 }
 
 /// The entry's writer, if it is one of the slot and passes the test.
 pub(crate) fn writer_by<T: PrincipalTest>(entry: Entry, at: SlotPart, test: &T) -> Option<Principal>
-    requires { at.slot + 8 ≤ 2 ^ 64 }
     ensures { (p : Principal → Bool) → T.stands test.now p → (q : Principal) → (p q && (same_principal q entry.writer && touches at.part entry at.slot)) ≡ is_found result q }
 {
     if touches(entry, at) && test.passes(entry.writer) {

@@ -12,6 +12,8 @@
 //! // The first writer of the slot, in the order of principals; and the first that passes the test.
 //! sets.next_writer(0x1000000, None);
 //! sets.first_writer(0x1000000, &test);
+//! // Some writer that passes, the first that is met.
+//! sets.some_writer(0x1000000, &test);
 //! // Who does not own the bytes any more is forgotten.
 //! sets.zero(0x1000000, 8, &caps);
 //! ```

@@ -1,5 +1,5 @@
 //! The lists of the parts of memory, each with a bit that says whether it has a writer.
-ghost use Rattle.std.specs.Prelude.{◌≡◌, ◌+◌, ◌-◌, ◌*◌, ◌/◌, ◌^◌, ◌<◌, ◌≤◌, ℕ, Bool, ◌&&◌, ◌||◌, not, nat_eq, true, false, Some, [], IfNone, IfSome, length, OnOk};
+ghost use Rattle.std.specs.Prelude.{◌≡◌, ◌+◌, ◌-◌, ◌*◌, ◌/◌, ◌<◌, ◌≤◌, ℕ, Bool, ◌&&◌, ◌||◌, not, nat_eq, true, false, Some, [], IfNone, IfSome, length, OnOk};
 ghost use Rattle.lx_caps.specs.declared.Principal.{Principal};
 ghost use Rattle.lx_caps.specs.declared.Atom.TheVariants.{Byte};
 ghost use Rattle.lx_caps.specs.History.{History, owns, same_principal};
@@ -8,11 +8,11 @@ ghost use Rattle.lx_caps.specs.Regions.{covers, mapped};
 ghost use Rattle.indexmap.specs.IndexMap.{spare};
 ghost use Rattle.lx_cap_nodes.specs.Words.{nodes_at};
 ghost use Rattle.lx_writer_sets.specs.Nodes.{AllNodes, has_nodes, is_ready};
-ghost use Rattle.lx_writer_sets.specs.Sets.{IsNobody, count_in, is_given_at, is_recorded, part_list, writes_part};
+ghost use Rattle.lx_writer_sets.specs.Sets.{IsNobody, IsSomePrincipal, count_in, is_given_at, is_recorded, part_list, writes_part};
 
 use crate::PrincipalTest;
 use crate::bitmap::{add_words, is_marked, mark, mark_anew};
-use crate::chain::{Pool, add, first_writer, forget, is_untouched, writes};
+use crate::chain::{Pool, add, first_writer, forget, is_untouched, some_writer, writes};
 use crate::entry::{Entry, SlotPart};
 use crate::index::{Table, make_keys};
 use crate::piece::{PART, list_of_part, parts_end, piece_bits, piece_of};
@@ -249,7 +249,6 @@ impl PartLists {
         test: &T,
         found: Option<Principal>,
     ) -> Option<Principal>
-        requires { at.slot + 8 ≤ 2 ^ 64 }
         ensures { (t : Principal → Bool) → T.stands test.now t → (p : Principal → Bool) → IsFirstPrincipal p found
             → IsFirstPrincipal (λ q. p q || (t q && writes_part self.now.lists at.part at.slot q)) result }
     {
@@ -259,9 +258,18 @@ impl PartLists {
         }
     }
 
+    /// Some writer of a slot in one part that passes the test.
+    pub(crate) fn some_writer<T: PrincipalTest>(&self, at: SlotPart, test: &T) -> Option<Principal>
+        ensures { (t : Principal → Bool) → T.stands test.now t → IsSomePrincipal (λ q. t q && writes_part self.now.lists at.part at.slot q) result }
+    {
+        match self.list_at(at.part) {
+            Some(list) => some_writer(&self.pool, list, at, test),
+            None => None,
+        }
+    }
+
     /// Whether the principal is a writer of a slot in one part.
     pub(crate) fn writes(&self, at: SlotPart, who: Principal) -> bool
-        requires { at.slot + 8 ≤ 2 ^ 64 }
         ensures { result ≡ writes_part self.now.lists at.part at.slot who }
     {
         match self.list_at(at.part) {
@@ -272,7 +280,6 @@ impl PartLists {
 
     /// Whether a slot has no writer in one part. The part's bit is a step, and so is each node that is looked at.
     pub(crate) fn is_untouched<L: Ledger>(&self, at: SlotPart, steps: &mut Steps<L>) -> bool
-        requires { at.slot + 8 ≤ 2 ^ 64 }
         ensures nobody { IsNobody result (writes_part self.now.lists at.part at.slot) }
         ensures cost { steps.new ≤ steps.old + (1 + count_in self.now.lists (part_list at.part)) }
         ensures nodes { AllNodes self.now.lists }

@@ -5,7 +5,7 @@ ghost use Rattle.lx_caps.specs.declared.Principal.{Principal};
 ghost use Rattle.lx_caps.specs.History.{History, without_zeros};
 ghost use Rattle.lx_caps.specs.Regions.{mapped};
 ghost use Rattle.lx_caps.specs.Writers.{is_slot_writer};
-ghost use Rattle.lx_writer_sets.specs.Sets.{IsFirstWriter, IsNextWriter};
+ghost use Rattle.lx_writer_sets.specs.Sets.{IsFirstWriter, IsNextWriter, IsSomeWriter};
 
 use crate::noted::note_cap;
 use crate::{PrincipalTest, WriterSets, writer_set_laws};
@@ -163,6 +163,16 @@ impl<C: CapStore + Drop> Recorded<C> {
         ensures { (h : History) → ⟦<Recorded<C> as CapStore>⟧.stands self.now h → (t : Principal → Bool) → T.stands test.now t → IsFirstWriter h slot t result }
     {
         self.sets.first_writer(slot, test)
+    }
+
+    /// Gives some writer of a slot that passes the test, and asks nobody behind the one that is given. There is none exactly
+    /// where no principal passes that owned one of the slot's eight bytes at some moment since that byte was last zeroed,
+    /// that moment included.
+    pub fn some_writer<T: PrincipalTest>(&self, slot: u64, test: &T) -> Option<Principal>
+        requires { slot + 8 ≤ 2 ^ 64 }
+        ensures { (h : History) → ⟦<Recorded<C> as CapStore>⟧.stands self.now h → (t : Principal → Bool) → T.stands test.now t → IsSomeWriter h slot t result }
+    {
+        self.sets.some_writer(slot, test)
     }
 
     /// Gives the next writer of a slot, in the order of principals, behind `after`: the next principal that owned one of the
