@@ -1,6 +1,7 @@
--- What the first writers of a slot tell of all of them.
-use Rattle.std.proofs.Common.{◌≡◌, ◌∙◌, ℕ, Bool, true, false, not, ◌&&◌, Option, Some, None, List, [], ◌∷◌, refl, ap, if◌then◌else◌}
+-- What the writers of a slot that are found tell of all of them.
+use Rattle.std.proofs.Common.{◌≡◌, ◌∙◌, ℕ, Bool, true, false, not, ◌&&◌, Option, Some, None, List, [], ◌∷◌, refl, ap, subst, if◌then◌else◌}
 use Rattle.std.specs.Prelude.{filter, option_map}
+use Rattle.std.proofs.lemmas.Bool.{both_ways}
 use Rattle.std.specs.List.{find, flat_map, list_any}
 use Rattle.lx_caps.specs.declared.Principal.{Principal}
 use Rattle.lx_caps.specs.declared.Cap.TheVariants.{Call}
@@ -15,7 +16,7 @@ use Rattle.lx_model.specs.Act.{or_else, unless}
 use Rattle.lx_model.specs.Enter.{writer_refusal}
 use Rattle.lx_model.specs.State.{State, module_principals}
 use Rattle.lx_slot_types.specs.Gets.{below}
-use Rattle.lx_writer_sets.specs.Sets.{IsFirstWriter}
+use Rattle.lx_writer_sets.specs.Sets.{IsFirstWriter, IsSomeWriter}
 use Rattle.lx_call_targets.specs.Writers.{AreTold, is_known, lacks}
 use Rattle.lx_call_targets.specs.declared.writers.SlotWriters.TheVariants.{Nobody, AllHold, Lacks}
 use Rattle.lx_call_targets.proofs.Listings.{first_in_order, known_listed}
@@ -72,30 +73,34 @@ module _ (s : State) (slot a : ℕ) where
     abbrev all : List Principal
     all = flat_map (module_principals names) (below n)
 
-    -- the first that there is and that passes is the first of all that there are
-    is_found : (p : Principal → Bool) (first : Option Principal) → IsFirstPrincipal (λ q. is_known n names q && p q) first → find p all ≡ first
-    is_found p first is =
+    -- the first that is found is the first that there is and that passes
+    found_first : (p : Principal → Bool) → IsFirstPrincipal (λ q. is_known n names q && p q) (find p all)
+    found_first p =
         let listed = known_listed names n in
-        one_first_principal (λ q. is_known n names q && p q) (find p all) first
-        (same_first (λ q. list_any (same_principal q) all && p q) (λ q. is_known n names q && p q) (λ q. ap (λ t. t && p q) (listed.each q)) (find p all) (first_in_order p all listed.ordered))
-        is
+        same_first (λ q. list_any (same_principal q) all && p q) (λ q. is_known n names q && p q) (λ q. ap (λ t. t && p q) (listed.each q)) (find p all) (first_in_order p all listed.ordered)
 
-    writer_found : (first : Option Principal) → IsFirstWriter s.history slot (is_known n names) first → find writes all ≡ first
-    writer_found first is = is_found writes first is
+    is_found : (p : Principal → Bool) (first : Option Principal) → IsFirstPrincipal (λ q. is_known n names q && p q) first → find p all ≡ first
+    is_found p first is = one_first_principal (λ q. is_known n names q && p q) (find p all) first (found_first p) is
+
+    -- where there is some writer, a first one is found
+    writer_found : (w : Principal) → IsSomeWriter s.history slot (is_known n names) (Some w) → (first : Option Principal) → find writes all ≡ first → (v : Principal) × (find writes all ≡ Some v)
+    writer_found w is (Some v) found = (v, found)
+    writer_found w is None none = absurd (both_ways (is_known n names w && writes w) (subst (IsFirstPrincipal (λ q. is_known n names q && writes q)) none (found_first writes) w) is)
 
     lacking_found : (first : Option Principal) → IsFirstWriter s.history slot (lacks n names s.history a) first → find (λ q. writes q && not (has_call q)) all ≡ first
     lacking_found first is =
         is_found (λ q. writes q && not (has_call q)) first
         (same_first (λ q. lacks n names s.history a q && writes q) (λ q. is_known n names q && (writes q && not (has_call q))) (λ q. turned (is_known n names q) (has_call q) (writes q)) first is)
 
-    pub nobody : IsFirstWriter s.history slot (is_known n names) None → AreTold s slot a (filter writes all) Nobody
-    nobody is = none_left writes all (writer_found None is)
+    pub nobody : IsSomeWriter s.history slot (is_known n names) None → AreTold s slot a (filter writes all) Nobody
+    nobody none = none_left writes all (is_found writes None none)
 
     pub lacking : (q : Principal) → IsFirstWriter s.history slot (lacks n names s.history a) (Some q) → AreTold s slot a (filter writes all) (Lacks q)
     lacking q is = refused_by all ∙ ap (option_map refused) (lacking_found (Some q) is)
 
-    pub all_hold : (w : Principal) → IsFirstWriter s.history slot (is_known n names) (Some w) → IsFirstWriter s.history slot (lacks n names s.history a) None
+    pub all_hold : (w : Principal) → IsSomeWriter s.history slot (is_known n names) (Some w) → IsFirstWriter s.history slot (lacks n names s.history a) None
         → AreTold s slot a (filter writes all) AllHold
     all_hold w some none =
-        let first = some_left writes all w (writer_found (Some w) some) in
-        (w, first.0, first.1, refused_by all ∙ ap (option_map refused) (lacking_found None none))
+        let found = writer_found w some (find writes all) refl in
+        let first = some_left writes all found.0 found.1 in
+        (found.0, first.0, first.1, refused_by all ∙ ap (option_map refused) (lacking_found None none))

@@ -6,7 +6,7 @@ ghost use Rattle.lx_caps.specs.Writers.{is_slot_writer};
 ghost use Rattle.lx_model.specs.State.{State, module_principals};
 ghost use Rattle.lx_slot_types.specs.Gets.{below};
 ghost use Rattle.lx_call_targets.specs.Writers.{AreTold, is_known, lacks};
-ghost use Rattle.lx_writer_sets.specs.Sets.{IsFirstWriter};
+ghost use Rattle.lx_writer_sets.specs.Sets.{IsFirstWriter, IsSomeWriter};
 ghost use Rattle.lx_writer_sets.specs.RecordedStands.{StandsRecorded};
 
 use lx_caps::{Cap, CapStore, Principal};
@@ -73,16 +73,16 @@ impl<C: CapStore + Drop> PrincipalTest for Lacking<'_, C> {
     }
 }
 
-/// The first writer of a slot that there is.
-fn first_known<C: CapStore + Drop>(
+/// Some writer of a slot that there is.
+fn some_known<C: CapStore + Drop>(
     caps: &Recorded<C>,
     names: &Principals,
     slot: u64,
 ) -> Option<Principal>
     requires { slot + 8 ≤ 2 ^ 64 }
-    ensures { (h : History) → StandsRecorded C.stands caps.now h → IsFirstWriter h slot (is_known names.now.modules names.now.names) result }
+    ensures { (h : History) → StandsRecorded C.stands caps.now h → IsSomeWriter h slot (is_known names.now.modules names.now.names) result }
 {
-    caps.first_writer(slot, &Known { names })
+    caps.some_writer(slot, &Known { names })
 }
 
 /// The first writer of a slot that there is and that does not hold the call.
@@ -100,7 +100,8 @@ fn first_lacking<C: CapStore + Drop>(
 
 /// Whether the writers of a slot hold the call of the function at an address: the principals that owned one of the slot's
 /// eight bytes at some moment since it was last zeroed. It takes no memory. Each writer is asked at most once for each of
-/// the parts of 64 bytes that the slot lies in, and once more whether it is one of the principals that there are.
+/// the parts of 64 bytes that the slot lies in; before that they are asked, until one is met, whether they are among the
+/// principals that there are.
 pub fn slot_writers<C: CapStore + Drop>(
     caps: &Recorded<C>,
     names: &Principals,
@@ -111,7 +112,7 @@ pub fn slot_writers<C: CapStore + Drop>(
     ensures { (s : State) → StandsRecorded C.stands caps.now s.history
         → AreTold s slot at (filter (is_slot_writer s.history slot) (flat_map (module_principals names.now.names) (below names.now.modules))) result }
 {
-    match first_known(caps, names, slot) {
+    match some_known(caps, names, slot) {
         None => SlotWriters::Nobody,
         Some(_) => match first_lacking(caps, names, slot, at) {
             Some(writer) => SlotWriters::Lacks(writer),
