@@ -1,10 +1,28 @@
 //! Writers of slots, as ranges are noted and zeroed.
 use crate::common::{FIRST, SECOND, SHARED, STRANGER, Step, goes_so};
-use lx_caps::{Cap, PlainCaps, Principal, cells, mapped};
+use lx_caps::{Cap, PlainCaps, Principal, cells, is_same, mapped};
 use lx_words::Memory;
-use lx_writer_sets::WriterSets;
+use lx_writer_sets::{PrincipalTest, WriterSets};
 use std::process::Abort;
 use std::test::Fail;
+
+/// The test that one principal alone passes.
+#[derive(Clone, Copy)]
+struct Only {
+    who: Principal,
+}
+
+impl PrincipalTest for Only {
+    ghost use Rattle.std.specs.Prelude.{◌≡◌};
+    ghost use Rattle.lx_caps.specs.declared.Principal.{Principal};
+    ghost use Rattle.lx_caps.specs.History.{same_principal};
+
+    ghost stands = { λ only p. (q : Principal) → p q ≡ same_principal q only.who };
+
+    fn passes(&self, who: Principal) -> bool {
+        is_same(who, self.who)
+    }
+}
 
 /// Notes a principal as a writer of bytes that lie in memory, and says whether they do.
 fn note(sets: &mut WriterSets, who: Principal, at: u64, size: u64) -> Result<bool, Memory> {
@@ -39,8 +57,16 @@ fn are_listed(sets: &WriterSets, slot: u64, wanted: &[Principal]) -> bool {
         if writer != Some(*want) || !sets.is_writer(slot, *want) {
             return false;
         }
+        if sets.some_writer(slot, &Only { who: *want }) != writer {
+            return false;
+        }
     }
     sets.next_writer(slot, writer).is_none()
+}
+
+/// Whether nobody is found by a test that this principal alone passes.
+fn is_none_found(sets: &WriterSets, slot: u64, who: Principal) -> bool {
+    slot < 0x3100000 && sets.some_writer(slot, &Only { who }).is_none()
 }
 
 /// Whether a slot has these writers and no other.
@@ -48,6 +74,7 @@ fn are_writers(sets: &WriterSets, slot: u64, wanted: &[Principal]) -> bool {
     are_listed(sets, slot, wanted)
         && slot < 0x3100000
         && !sets.is_writer(slot, Principal::Global(0))
+        && is_none_found(sets, slot, Principal::Global(0))
         && sets.is_clean(slot) == wanted.is_empty()
 }
 
