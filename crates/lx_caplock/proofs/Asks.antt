@@ -23,9 +23,6 @@ module _ {T : Type 0} (legal : std.Option T → List Entry → Type 0) (v : View
   abbrev pub after_answer : View T
   after_answer = released (serving (waiting v t0) t history) (e ∷ [])
 
-  abbrev pub after_refusal : View T
-  after_refusal = released (serving (waiting v t0) t history) []
-
   pub counted : Learns v history → entries_of v.number (history ++ e ∷ []) ≡ v.mine ++ e ∷ []
   counted l = entries_of-append v.number history (e ∷ []) ∙ (λ i. l.1 i ++ entries_of-own v.number e refl i)
 
@@ -41,15 +38,18 @@ module _ {T : Type 0} (legal : std.Option T → List Entry → Type 0) (v : View
     mine = refl;
   }
 
-  pub refuses : legal v.opened_part (history ++ []) → Learns v history → Refuses legal v after_refusal
-  refuses k l = record {
+module _ {T : Type 0} (leaves : std.Option T → T → List Entry → Type 0) (legal : std.Option T → List Entry → Type 0) (lacks : T → ℕ → Request → Type 0) (v : View T) (t0 t : ℕ) (history : List Entry) (thread : ℕ) (request : Request) where
+  pub refuses : (x : T) → leaves v.opened_part x history → legal v.opened_part history → Learns v history → lacks x thread request
+      → Refuses leaves legal lacks thread request v (released (serving (waiting v t0) t history) [])
+  refuses x left k l lack = record {
     sees = record {
-      is_legal = k;
+      is_legal = subst (legal v.opened_part) (sym (append-nil history)) k;
       begins = begins_more v.seen history [] l.0;
       own = counted_none v.number history v.mine l.1;
       ended = λ n h. let f = l.2 n h in ap (entries_of n) (append-nil history) ∙ f.1;
     };
     mine = append-nil v.mine;
+    lacking = (x, subst (leaves v.opened_part x) (sym (append-nil history)) left, lack);
   }
 
 module _ {T : Type 0} where

@@ -33,10 +33,11 @@ pub record Answers {T : Type 0} (legal : std.Option T → List Entry → Type 0)
   pub last : (between : List Entry) × (w.seen ≡ (v.seen ++ between) ++ entry v.number thread request reply ∷ [])
   pub mine : w.mine ≡ v.mine ++ entry v.number thread request reply ∷ []
 
--- there was no memory: the seat may have seen more
-pub record Refuses {T : Type 0} (legal : std.Option T → List Entry → Type 0) (v w : View T) : Type 0 where
+-- there was no memory: the seat may have seen more, and what that history leaves of the part may lack the memory for the request
+pub record Refuses {T : Type 0} (leaves : std.Option T → T → List Entry → Type 0) (legal : std.Option T → List Entry → Type 0) (lacks : T → ℕ → Request → Type 0) (thread : ℕ) (request : Request) (v w : View T) : Type 0 where
   pub sees : Sees legal v w
   pub mine : w.mine ≡ v.mine
+  pub lacking : (x : T) × leaves v.opened_part x w.seen × lacks x thread request
 
 -- the new seat (the third view) has a number of the lock that was not out when the dividing seat last looked, is neither that seat's
 -- own nor one that ended in it, and has no entry; it knows what the dividing seat has seen, and that seat knows that the number is out

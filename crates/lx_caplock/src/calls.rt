@@ -52,7 +52,8 @@ impl<T: Part + Drop> CapLock<T> {
     /// its own entry.
     ///
     /// # Errors
-    /// Want of memory: the request was not served, and the history has no entry of it.
+    /// Want of memory: the request was not served, and the history has no entry of it. It comes only from the part, where what
+    /// the history that the seat has seen leaves of it may lack the memory.
     pub fn ask<R: Wait>(
         &self,
         rt: &R,
@@ -64,7 +65,7 @@ impl<T: Part + Drop> CapLock<T> {
         requires fits { MayAsk T.program T.takes (opened_with seat.old) thread request.now }
         ensures of { IsSeatOf self.now seat.new }
         ensures same { IsSameSeat (view_of seat.old) (view_of seat.new) }
-        ensures answer { MatchResult result (λ reply. Answers (LegalFrom T.program T.stands) thread request.now (view_of seat.old) reply (view_of seat.new)) (λ e. Refuses (LegalFrom T.program T.stands) (view_of seat.old) (view_of seat.new)) }
+        ensures answer { MatchResult result (λ reply. Answers (LegalFrom T.program T.stands) thread request.now (view_of seat.old) reply (view_of seat.new)) (λ e. Refuses (Leaves T.program T.stands) (LegalFrom T.program T.stands) T.lacks thread request.now (view_of seat.old) (view_of seat.new)) }
     {
         self.ask_at(rt, &mut seat.place, thread, request)
     }

@@ -1,6 +1,6 @@
 //! The lock over a table of three words and one slot. Word 0 counts the numbers that are out, word 1 the tickets that were
 //! given and word 2 the turns that are over. The slot has the part.
-ghost use Rattle.std.specs.Prelude.{◌≡◌, ◌≢◌, ◌≤◌, ◌^◌, ◌%◌, ℕ, [], ◌∷◌, ◌++◌, false, IfOk, IfSome, IfNone, List, MatchResult, Some};
+ghost use Rattle.std.specs.Prelude.{◌≡◌, ◌≢◌, ◌≤◌, ◌^◌, ◌%◌, ℕ, [], ◌∷◌, ◌++◌, false, IfOk, IfSome, IfNone, List, MatchResult, OnErr, Some};
 ghost use Rattle.lx_caplock.specs.declared.knowledge.Entry.{Entry};
 ghost use Rattle.lx_model.specs.Serve.{serve};
 ghost use Rattle.lx_model.specs.State.{State};
@@ -158,6 +158,7 @@ impl<T: Part + Drop> CapLock<T> {
         requires held { (x : T) × (place.old.me.1 ≡ (0, x) ∷ []) × T.takes (T.program x) thread request.now }
         ensures own { (place.new.table_id ≡ place.old.table_id) × (place.new.id ≡ place.old.id) × (place.new.me.0 ≡ place.old.me.0) }
         ensures serves { (x : T) × (y : T) × (place.old.me.1 ≡ (0, x) ∷ []) × (place.new.me.1 ≡ (0, y) ∷ []) × (T.program y ≡ T.program x) × MatchResult result (λ reply. (s : State) → T.stands x s → IsServed T.stands y reply (serve (T.program x) s thread request.now)) (λ e. (s : State) → T.stands x s → T.stands y s) }
+        ensures lacks { OnErr result ((x : T) × (place.old.me.1 ≡ (0, x) ∷ []) × T.lacks x thread request.now) }
     {
         let part = place.slot_mut(&self.table.shared, 0);
         part.serve(thread, request)
@@ -205,7 +206,7 @@ impl<T: Part + Drop> CapLock<T> {
         ensures own { place.new.table_id ≡ place.old.table_id }
         ensures rest { IsAtRest place.new }
         ensures seat { IsSameSeat place.old.me.0 place.new.me.0 }
-        ensures answer { MatchResult result (λ reply. Answers (LegalFrom T.program T.stands) thread request.now place.old.me.0 reply place.new.me.0) (λ e. Refuses (LegalFrom T.program T.stands) place.old.me.0 place.new.me.0) }
+        ensures answer { MatchResult result (λ reply. Answers (LegalFrom T.program T.stands) thread request.now place.old.me.0 reply place.new.me.0) (λ e. Refuses (Leaves T.program T.stands) (LegalFrom T.program T.stands) T.lacks thread request.now place.old.me.0 place.new.me.0) }
     {
         self.come_in(rt, thread);
         let ticket = self.table.shared.fetch_add::<TakeTicket>(place, 1, 1);

@@ -4,10 +4,10 @@ use Rattle.lx_caplock.specs.Serving.{LegalFrom, Leaves}
 use Rattle.lx_caplock.specs.History.{entry}
 use Rattle.lx_caplock.specs.Views.{waiting, serving, released}
 use Rattle.lx_caplock.specs.Telling.{TurnHasCome}
-use Rattle.lx_caplock.specs.Calls.{Answers}
+use Rattle.lx_caplock.specs.Calls.{Answers, Refuses}
 use Rattle.lx_caplock.proofs.Steps.{tickets}
 use Rattle.lx_caplock.proofs.Histories.{leaves_one, legal_one, takes_left}
-use Rattle.lx_caplock.proofs.Asks.{counted, counted_none, answers}
+use Rattle.lx_caplock.proofs.Asks.{counted, counted_none, answers, refuses}
 use Rattle.lx_caplock.proofs.Rests.{rests_asked}
 use Rattle.lx_caplock.proofs.lock.CapLock.ask_at.Goals as goal
 
@@ -77,3 +77,16 @@ returns-in-Err-clause-rest g c = let q = c.fetch_add-ticket.ensures.2 in let v :
     rests_asked c.args.place.now c.release.new.place c.requires.rest q.0 come.0 come.1 []
     (c.release.ensures.2 ∙ ap (λ (u : View g.row.T.Denot). (released u [], [])) is)
     (counted_none v.number come.1 v.mine come.6.1)
+
+pub returns-in-Err-clause-answer : goal.returns-in-Err-clause-answer
+returns-in-Err-clause-answer g c = let q = c.fetch_add-ticket.ensures.2 in let v : View g.row.T.Denot = c.args.place.now.me.0 in
+    let come = subst (λ m. TurnHasCome (Leaves g.T.Part.program g.T.Part.stands) (LegalFrom g.T.Part.program g.T.Part.stands) m c.wait.new.place.me) (q.2 ∙ ap (λ l. (waiting v q.0, l)) c.requires.rest.no_slots) c.wait.ensures.come in
+    let is : c.serve_held.new.place.me.0 ≡ serving (waiting v q.0) come.0 come.1 = c.serve_held.ensures.own.2 ∙ ap (λ m. m.0) come.3 in
+    let lacked = c.in-Err.ensures.lacks in
+    let same : lacked.0 ≡ come.2 = ap (λ (l : List (ℕ × g.row.T.Denot)). (get_or l 0 (0, come.2)).1) (sym lacked.1 ∙ ap (λ m. m.1) come.3) in
+    let leaves = Leaves g.T.Part.program g.T.Part.stands in
+    let legal = LegalFrom g.T.Part.program g.T.Part.stands in
+    let now : c.release.new.place.me ≡ (released (serving (waiting v q.0) come.0 come.1) [], []) =
+    c.release.ensures.2 ∙ ap (λ (u : View g.row.T.Denot). (released u [], [])) is in
+    subst (λ (u : View g.row.T.Denot). Refuses leaves legal g.T.Part.lacks c.args.thread c.args.request.now v u) (sym (ap (λ m. m.0) now))
+    (refuses leaves legal g.T.Part.lacks v q.0 come.0 come.1 c.args.thread c.args.request.now come.2 come.4 come.5 come.6 (subst (λ (x : g.row.T.Denot). g.T.Part.lacks x c.args.thread c.args.request.now) same lacked.2))
