@@ -4,6 +4,7 @@ pub mod Filled
 pub mod FirstPlaces
 pub mod Firsts
 pub mod JoinedNames
+pub mod Large
 pub mod Placed
 pub mod Sized
 pub mod TablesCrossing

@@ -1,5 +1,5 @@
 //! The tables of a function.
-ghost use Rattle.std.specs.Prelude.{◌≡◌, ℕ, true, Some, List, position, IfOk, IfSome, IsTrue};
+ghost use Rattle.std.specs.Prelude.{◌≡◌, ℕ, true, Some, List, position, IfOk, IfSome, IsSome, IsTrue};
 ghost use Rattle.std.specs.List.{list_all};
 ghost use Rattle.lx_ir.specs.declared.instr.Argument.{Argument};
 ghost use Rattle.lx_ir.specs.declared.instr.Edge.{Edge};
@@ -12,7 +12,7 @@ ghost use Rattle.lx_ir.specs.declared.types.Scalar.{Scalar};
 ghost use Rattle.lx_ir.specs.IrType.{IrType};
 ghost use Rattle.lx_ir.specs.Layout.{layout, layout_of};
 ghost use Rattle.lx_code.specs.Firsts.{is_case, is_fixed, is_from, is_named, Numbers};
-ghost use Rattle.lx_code.specs.Fits.{op_at, AreTablesOf};
+ghost use Rattle.lx_code.specs.Fits.{op_at, wants_table, AreTablesOf};
 ghost use Rattle.lx_code.specs.Routes.{IsRoute};
 ghost use Rattle.lx_code.specs.Sized.{are_sized};
 
@@ -68,10 +68,11 @@ impl CodeTables {
     }
 
     /// The place of the first case with a number, if a case has it, in the switch at a place of a block. None, where that
-    /// has no table; then its cases have to be searched.
+    /// has no table; then its cases have to be searched. A switch of more than eight cases, each of which is a constant, has one.
     pub fn case(&self, block: usize, place: usize, number: u64) -> Option<Option<usize>>
         ensures fixed { IfSome result (λ found. (types : List NamedType) → (numbers : Numbers) → (blocks : List Block) → (ty : Scalar) → (v : Value) → (otherwise : List ℕ) → (cases : List SwitchCase) → AreTablesOf types numbers blocks self.now → op_at blocks block place ≡ Some (op.Switch ty v otherwise cases) → list_all is_fixed cases ≡ true) }
         ensures first { IfSome result (λ found. (types : List NamedType) → (numbers : Numbers) → (blocks : List Block) → (ty : Scalar) → (v : Value) → (otherwise : List ℕ) → (cases : List SwitchCase) → AreTablesOf types numbers blocks self.now → op_at blocks block place ≡ Some (op.Switch ty v otherwise cases) → found ≡ position (is_case numbers number) cases) }
+        ensures quick { (types : List NamedType) → (numbers : Numbers) → (blocks : List Block) → (ty : Scalar) → (v : Value) → (otherwise : List ℕ) → (cases : List SwitchCase) → AreTablesOf types numbers blocks self.now → op_at blocks block place ≡ Some (op.Switch ty v otherwise cases) → wants_table (op.Switch ty v otherwise cases) ≡ true → IsSome result }
     {
         match self.tables.get(&(block, place)) {
             Some(Table::Cases(numbers)) => Some(numbers.get(&number).copied()),
@@ -80,9 +81,10 @@ impl CodeTables {
     }
 
     /// The place of the first edge with a label, if an edge has it, in the phi at a place of a block. None, where that has
-    /// no table; then its edges have to be searched.
+    /// no table; then its edges have to be searched. A phi of more than eight edges has one.
     pub fn edge(&self, block: usize, place: usize, label: &[u8]) -> Option<Option<usize>>
-        ensures { IfSome result (λ found. (types : List NamedType) → (numbers : Numbers) → (blocks : List Block) → (to : ℕ) → (ty : Scalar) → (edges : List Edge) → AreTablesOf types numbers blocks self.now → op_at blocks block place ≡ Some (op.Phi to ty edges) → found ≡ position (is_from label.now) edges) }
+        ensures first { IfSome result (λ found. (types : List NamedType) → (numbers : Numbers) → (blocks : List Block) → (to : ℕ) → (ty : Scalar) → (edges : List Edge) → AreTablesOf types numbers blocks self.now → op_at blocks block place ≡ Some (op.Phi to ty edges) → found ≡ position (is_from label.now) edges) }
+        ensures quick { (types : List NamedType) → (numbers : Numbers) → (blocks : List Block) → (to : ℕ) → (ty : Scalar) → (edges : List Edge) → AreTablesOf types numbers blocks self.now → op_at blocks block place ≡ Some (op.Phi to ty edges) → wants_table (op.Phi to ty edges) ≡ true → IsSome result }
     {
         match self.tables.get(&(block, place)) {
             Some(Table::Edges(labels)) => Some(labels.get(label).copied()),

@@ -1,5 +1,5 @@
 //! The tables of instructions, by where these stand.
-ghost use Rattle.std.specs.Prelude.{◌≡◌, ℕ, Some, List, slice_get, IfOk, IfSome, IsTrue, OnOk};
+ghost use Rattle.std.specs.Prelude.{◌≡◌, ℕ, Some, List, option_map, slice_get, true, IfOk, IfSome, IsSome, IsTrue, OnOk};
 ghost use Rattle.lx_ir.specs.declared.instr.Op.{Op};
 ghost use Rattle.lx_ir.specs.declared.instr.Op.TheVariants as op;
 ghost use Rattle.lx_ir.specs.declared.module.Block.{Block};
@@ -8,7 +8,7 @@ ghost use Rattle.lx_ir.specs.declared.types.Scalar.{Scalar};
 ghost use Rattle.lx_ir.specs.declared.types.NamedType.{NamedType};
 ghost use Rattle.lx_ir.specs.Layout.{is_lawful_type};
 ghost use Rattle.lx_code.specs.Firsts.{Numbers};
-ghost use Rattle.lx_code.specs.Fits.{op_at, FitsAt, FitsOp, HasTables};
+ghost use Rattle.lx_code.specs.Fits.{at_place, op_at, wants_table, FitsAt, FitsOp, HasEachLarge, HasIfLarge, HasTables, KeepsEach};
 ghost use Rattle.lx_code.specs.Sized.{is_sized, are_sized, are_sized_instrs};
 
 use crate::names::edges_of;
@@ -38,13 +38,14 @@ pub(crate) enum Table {
     Route(Route),
 }
 
-// The table of a switch, if it has more than a few cases and each is a constant.
+// The table of a switch, which is made if it has more than a few cases and each is a constant.
 fn table_of_cases<C: PlacedText>(
     alloc: Global,
     text: &C,
     cases: &[SwitchCase],
 ) -> Result<Option<Table>, Memory>
-    ensures { IfOk result (λ found. IfSome found (λ table. (types : List NamedType) → (ty : Scalar) → (v : Value) → (otherwise : List ℕ) → FitsOp types (C.comes_to text.now) (op.Switch ty v otherwise cases.now) table)) }
+    ensures fits { IfOk result (λ found. IfSome found (λ table. (types : List NamedType) → (ty : Scalar) → (v : Value) → (otherwise : List ℕ) → FitsOp types (C.comes_to text.now) (op.Switch ty v otherwise cases.now) table)) }
+    ensures large { IfOk result (λ found. (ty : Scalar) → (v : Value) → (otherwise : List ℕ) → wants_table (op.Switch ty v otherwise cases.now) ≡ true → IsSome found) }
 {
     if cases.len() <= FEW || !are_fixed(cases) {
         return Ok(None);
@@ -53,9 +54,10 @@ fn table_of_cases<C: PlacedText>(
     Ok(Some(Table::Cases(numbers)))
 }
 
-// The table of a phi, if it has more than a few edges.
+// The table of a phi, which is made if it has more than a few edges.
 fn table_of_edges(alloc: Global, edges: &[Edge]) -> Result<Option<Table>, Memory>
-    ensures { IfOk result (λ found. IfSome found (λ table. (types : List NamedType) → (numbers : Numbers) → (to : ℕ) → (ty : Scalar) → FitsOp types numbers (op.Phi to ty edges.now) table)) }
+    ensures fits { IfOk result (λ found. IfSome found (λ table. (types : List NamedType) → (numbers : Numbers) → (to : ℕ) → (ty : Scalar) → FitsOp types numbers (op.Phi to ty edges.now) table)) }
+    ensures large { IfOk result (λ found. (to : ℕ) → (ty : Scalar) → wants_table (op.Phi to ty edges.now) ≡ true → IsSome found) }
 {
     if edges.len() <= FEW {
         return Ok(None);
@@ -94,7 +96,8 @@ fn table_of_route(
 // The table of an instruction, if it is given one.
 fn table_of<C: PlacedText>(alloc: Global, text: &C, op: &Op) -> Result<Option<Table>, Memory>
     requires { IsTrue (is_sized (C.has text.now).types op.now) }
-    ensures { IfOk result (λ found. FitsAt (C.has text.now).types (C.comes_to text.now) (Some op.now) found) }
+    ensures fits { IfOk result (λ found. FitsAt (C.has text.now).types (C.comes_to text.now) (Some op.now) found) }
+    ensures large { IfOk result (λ found. wants_table op.now ≡ true → IsSome found) }
 {
     match op {
         Op::Switch { cases, .. } => {
@@ -123,7 +126,9 @@ fn put_op<C: PlacedText>(
     op: &Op,
 ) -> Result<(), Memory>
     requires { IsTrue (is_sized (C.has text.now).types op.now) }
-    ensures { OnOk result ((blocks : List Block) → op_at blocks at.0 at.1 ≡ Some op.now → HasTables (C.has text.now).types (C.comes_to text.now) blocks tables.old.entries → HasTables (C.has text.now).types (C.comes_to text.now) blocks tables.new.entries) }
+    ensures large { OnOk result (wants_table op.now ≡ true → IsSome (at_place tables.new.entries at.0 at.1)) }
+    ensures kept { OnOk result (KeepsEach tables.old.entries tables.new.entries) }
+    ensures fits { OnOk result ((blocks : List Block) → op_at blocks at.0 at.1 ≡ Some op.now → HasTables (C.has text.now).types (C.comes_to text.now) blocks tables.old.entries → HasTables (C.has text.now).types (C.comes_to text.now) blocks tables.new.entries) }
 {
     let found = table_of(alloc, text, op)?;
     match found {
@@ -144,7 +149,9 @@ fn put_block<C: PlacedText>(
     instrs: &[Instr],
 ) -> Result<(), Memory>
     requires { IsTrue (are_sized_instrs (C.has text.now).types instrs.now) }
-    ensures { OnOk result ((blocks : List Block) → (b : Block) → slice_get blocks number ≡ Some b → b.instrs ≡ instrs.now → HasTables (C.has text.now).types (C.comes_to text.now) blocks tables.old.entries → HasTables (C.has text.now).types (C.comes_to text.now) blocks tables.new.entries) }
+    ensures large { OnOk result ((k : ℕ) → HasIfLarge (option_map (λ i. i.op) (slice_get instrs.now k)) (at_place tables.new.entries number k)) }
+    ensures kept { OnOk result (KeepsEach tables.old.entries tables.new.entries) }
+    ensures fits { OnOk result ((blocks : List Block) → (b : Block) → slice_get blocks number ≡ Some b → b.instrs ≡ instrs.now → HasTables (C.has text.now).types (C.comes_to text.now) blocks tables.old.entries → HasTables (C.has text.now).types (C.comes_to text.now) blocks tables.new.entries) }
 {
     for place in 0..instrs.len() {
         put_op(alloc, text, tables, (number, place), &instrs[place].op)?;
@@ -159,7 +166,8 @@ pub(crate) fn tables_of<C: PlacedText>(
     blocks: &[Block],
 ) -> Result<IndexMap<Place, Table>, Memory>
     requires { IsTrue (are_sized (C.has text.now).types blocks.now) }
-    ensures { IfOk result (λ tables. HasTables (C.has text.now).types (C.comes_to text.now) blocks.now tables.entries) }
+    ensures fits { IfOk result (λ tables. HasTables (C.has text.now).types (C.comes_to text.now) blocks.now tables.entries) }
+    ensures large { IfOk result (λ tables. HasEachLarge blocks.now tables.entries) }
 {
     let mut tables = IndexMap::new(alloc);
     for number in 0..blocks.len() {

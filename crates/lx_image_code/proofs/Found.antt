@@ -1,5 +1,5 @@
 -- What tables find, in the blocks that run.
-use Rattle.std.proofs.Common.{◌≡◌, ◌∙◌, refl, sym, ap, subst, ℕ, zero, suc, ◌+◌, ◌<◌, true, not, cond, Option, Some, None, List, [], ◌∷◌, length, map, get_or, nat_eq, nat_lt, arith}
+use Rattle.std.proofs.Common.{◌≡◌, ◌∙◌, refl, sym, ap, subst, ℕ, zero, suc, ◌+◌, ◌<◌, true, not, cond, Option, Some, None, IsSome, List, [], ◌∷◌, length, map, get_or, nat_eq, nat_lt, arith}
 use Rattle.std.specs.Prelude.{IfSome, bytes_eq, position, slice_get}
 use Rattle.std.specs.Borrow.{Bor}
 use Rattle.std.specs.List.{list_all, position_or_len}
@@ -28,11 +28,11 @@ use Rattle.lx_model.specs.Effect.{bits, indices_of, operand}
 use Rattle.lx_images.specs.Image.{Code, image_of_entry, image_function, image_routine}
 use Rattle.lx_code.specs.declared.code_tables.CodeTables.{CodeTables}
 use Rattle.lx_code.specs.Firsts.{Numbers, is_case, is_constant, is_fixed, is_from, is_named, is_number, number_of}
-use Rattle.lx_code.specs.Fits.{AreTablesOf, op_at as op_in}
+use Rattle.lx_code.specs.Fits.{wants_table, AreTablesOf, op_at as op_in}
 use Rattle.lx_code.specs.Routes.{word_of, AreIndices, IsIndex, IsRoute}
 use Rattle.lx_code.specs.declared.routes.Room.{Room}
 use Rattle.lx_code.specs.declared.routes.Route.{Route}
-use Rattle.lx_image_code.specs.Jumps.{blocks_or_none, home_in_entry, image_blocks, numbers_at, op_at, text_of_entry, types_in, IsCaseAt, IsEdgeAt, IsRoomAt, IsRouteAt}
+use Rattle.lx_image_code.specs.Jumps.{blocks_or_none, home_in_entry, image_blocks, numbers_at, op_at, text_of_entry, types_in, IsCaseAt, IsEdgeAt, IsPhiDecided, IsRoomAt, IsRouteAt, IsSwitchDecided}
 use Rattle.lx_model.proofs.Tests.{false_true}
 use Rattle.lx_model.proofs.Items.{none_past}
 
@@ -76,6 +76,15 @@ no_block c n label tables count none =
     let far = none_past tables n none in
     let nothing : slice_get c.program.functions n ≡ None = slice_get_past c.program.functions n (omega (arith, far, count)) in
     sym (ap (λ (e : Option ProgramFunction). position (λ (b : CodeBlock). bytes_eq b.label label) (routine_or_none (image_of_entry c e)).blocks) nothing)
+
+-- nor instructions
+pub no_op : (c : Code) (n b k : ℕ) (tables : List CodeTables) → length tables ≡ length c.program.functions → slice_get tables n ≡ None
+    → {A : Type 0} (o : Op) → op_at (image_routine c n).blocks b k ≡ Some o → A
+no_op c n b k tables count none o at =
+    let far = none_past tables n none in
+    let nothing : slice_get c.program.functions n ≡ None = slice_get_past c.program.functions n (omega (arith, far, count)) in
+    let here : None ≡ Some o = sym (ap (λ (e : Option ProgramFunction). op_at (routine_or_none (image_of_entry c e)).blocks b k) nothing) ∙ at in
+    absurd (cc)
 
 -- the instruction at a place
 
@@ -150,6 +159,19 @@ module _ (c : Code) (t : CodeTables) (n b k : ℕ) (tables : AreTablesOf (types_
   edge_at label None first = _
   edge_at label (Some found) first = λ to ty edges at.
       first types_here comes_to (image_blocks c n) to ty edges tables (op_is c n b k (op.Phi to ty edges) at)
+
+  pub case_decided : (r : Option (Option ℕ))
+      → ((types : List NamedType) → (numbers : Numbers) → (blocks : List Block) → (ty : Scalar) → (v : Value) → (otherwise : List ℕ) → (cases : List SwitchCase)
+      → AreTablesOf types numbers blocks t → op_in blocks b k ≡ Some (op.Switch ty v otherwise cases) → wants_table (op.Switch ty v otherwise cases) ≡ true → IsSome r)
+      → IsSwitchDecided (op_at (image_routine c n).blocks b k) r
+  case_decided r quick = λ ty v otherwise cases at.
+      quick types_here comes_to (image_blocks c n) ty v otherwise cases tables (op_is c n b k (op.Switch ty v otherwise cases) at)
+
+  pub edge_decided : (r : Option (Option ℕ))
+      → ((types : List NamedType) → (numbers : Numbers) → (blocks : List Block) → (to : ℕ) → (ty : Scalar) → (edges : List Edge)
+      → AreTablesOf types numbers blocks t → op_in blocks b k ≡ Some (op.Phi to ty edges) → wants_table (op.Phi to ty edges) ≡ true → IsSome r)
+      → IsPhiDecided (op_at (image_routine c n).blocks b k) r
+  edge_decided r quick = λ to ty edges at. quick types_here comes_to (image_blocks c n) to ty edges tables (op_is c n b k (op.Phi to ty edges) at)
 
   pub room_found : (r : Option Room) → IfSome r (λ room. (types : List NamedType) → (numbers : Numbers) → (blocks : List Block) → (to : ℕ) → (ty : IrType) → AreTablesOf types numbers blocks t
       → op_in blocks b k ≡ Some (op.Alloca to ty) → layout room.size room.align ≡ layout_of types ty)

@@ -1,5 +1,5 @@
 -- What is known of the instructions of the functions that run, by tables.
-use Rattle.std.specs.Prelude.{◌≡◌, ℕ, Option, Some, None, List, [], length, nat_eq, bytes_eq, position, slice_get, option_and_then, unwrap_or}
+use Rattle.std.specs.Prelude.{◌≡◌, ℕ, true, Option, Some, None, IsSome, List, [], length, nat_eq, bytes_eq, position, slice_get, option_and_then, unwrap_or}
 use Rattle.lx_ir.specs.declared.types.NamedType.{NamedType}
 use Rattle.lx_ir.specs.declared.types.Scalar.{Scalar}
 use Rattle.lx_ir.specs.declared.module.Module.{Module}
@@ -23,7 +23,7 @@ use Rattle.lx_images.specs.Image.{Code, image_function}
 use Rattle.lx_code.specs.declared.code_tables.CodeTables.{CodeTables}
 use Rattle.lx_code.specs.declared.routes.Room.{Room}
 use Rattle.lx_code.specs.declared.routes.Route.{Route}
-use Rattle.lx_code.specs.Fits.{AreTablesOf}
+use Rattle.lx_code.specs.Fits.{wants_table, AreTablesOf}
 use Rattle.lx_code.specs.Routes.{route_offset}
 use Rattle.lx_code.specs.Firsts.{Numbers}
 
@@ -60,6 +60,14 @@ IsCaseAt p f o n found =
 -- where it is a phi, this is the place of its first edge from a label
 abbrev pub IsEdgeAt : Option Op → List ℕ → Option ℕ → Type 0
 IsEdgeAt o label found = (to : ℕ) → (ty : Scalar) → (edges : List Edge) → o ≡ Some (op.Phi to ty edges) → found ≡ position (λ e. bytes_eq e.label label) edges
+
+-- where it is a switch of more than eight cases, each of which is a constant, a table decides it; its cases are not searched
+abbrev pub IsSwitchDecided : Option Op → Option (Option ℕ) → Type 0
+IsSwitchDecided o decided = (ty : Scalar) → (v : Value) → (otherwise : List ℕ) → (cases : List SwitchCase) → o ≡ Some (op.Switch ty v otherwise cases) → wants_table (op.Switch ty v otherwise cases) ≡ true → IsSome decided
+
+-- where it is a phi of more than eight edges, a table decides it
+abbrev pub IsPhiDecided : Option Op → Option (Option ℕ) → Type 0
+IsPhiDecided o decided = (to : ℕ) → (ty : Scalar) → (edges : List Edge) → o ≡ Some (op.Phi to ty edges) → wants_table (op.Phi to ty edges) ≡ true → IsSome decided
 
 -- where it is an `alloca` of a function, this is the room of its type
 abbrev pub IsRoomAt : Program → ℕ → Option Op → Room → Type 0

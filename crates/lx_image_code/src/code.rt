@@ -7,7 +7,7 @@ ghost use Rattle.lx_images.specs.WrapperForm.{have_formed_wrappers};
 ghost use Rattle.lx_images.specs.Wrappers.{in_lines};
 ghost use Rattle.lx_image_code.specs.Code.{code_of};
 ghost use Rattle.lx_image_code.specs.Form.{Tells};
-ghost use Rattle.lx_image_code.specs.Jumps.{op_at, IsCaseAt, IsEdgeAt, IsRoomAt, IsRouteAt};
+ghost use Rattle.lx_image_code.specs.Jumps.{op_at, IsCaseAt, IsEdgeAt, IsPhiDecided, IsRoomAt, IsRouteAt, IsSwitchDecided};
 ghost use Rattle.lx_image_code.specs.Reach.{AreSized, AreWithinReach};
 ghost use Rattle.lx_image_code.specs.Tables.{HasLocals};
 ghost use Rattle.lx_image_code.specs.Wrappers.{first_op, line_of, wrapper_lines};
@@ -183,15 +183,17 @@ impl Code {
     }
 
     /// The place of the first case that is equal to a number, if one is, in the switch at a place of a function's block.
-    /// None, where that has no table; then its cases have to be searched.
+    /// None, where that has no table; then its cases have to be searched. A switch of more than eight cases, each of which is a constant,
+    /// has one.
     pub fn case(&self, number: u32, block: usize, place: usize, bits: u64) -> Option<Option<usize>>
-        ensures { IfSome result (λ found. IsCaseAt self.now.program number (op_at (image_routine self.now number).blocks block place) bits found) }
+        ensures quick { IsSwitchDecided (op_at (image_routine self.now number).blocks block place) result }
+        ensures first { IfSome result (λ found. IsCaseAt self.now.program number (op_at (image_routine self.now number).blocks block place) bits found) }
     {
         first_case(self.tables.jumps.as_slice(), number, block, place, bits)
     }
 
     /// The place of the first edge from a label, if one is, in the phi at a place of a function's block. None, where that
-    /// has no table; then its edges have to be searched.
+    /// has no table; then its edges have to be searched. A phi of more than eight edges has one.
     pub fn edge(
         &self,
         number: u32,
@@ -199,7 +201,8 @@ impl Code {
         place: usize,
         label: &[u8],
     ) -> Option<Option<usize>>
-        ensures { IfSome result (λ found. IsEdgeAt (op_at (image_routine self.now number).blocks block place) label.now found) }
+        ensures quick { IsPhiDecided (op_at (image_routine self.now number).blocks block place) result }
+        ensures first { IfSome result (λ found. IsEdgeAt (op_at (image_routine self.now number).blocks block place) label.now found) }
     {
         first_edge(self.tables.jumps.as_slice(), number, block, place, label)
     }

@@ -3,7 +3,7 @@ ghost use Rattle.std.specs.Prelude.{◌≡◌, Some, bytes_eq, option_copied, po
 ghost use Rattle.lx_code.specs.Fits.{AreTablesOf};
 ghost use Rattle.lx_model.specs.Program.{module_of};
 ghost use Rattle.lx_images.specs.Image.{Code, image_of_entry, image_routine};
-ghost use Rattle.lx_image_code.specs.Jumps.{blocks_or_none, home_in_entry, numbers_at, op_at, text_of_entry, HasJumps, IsCaseAt, IsEdgeAt, IsRoomAt, IsRouteAt};
+ghost use Rattle.lx_image_code.specs.Jumps.{blocks_or_none, home_in_entry, numbers_at, op_at, text_of_entry, HasJumps, IsCaseAt, IsEdgeAt, IsPhiDecided, IsRoomAt, IsRouteAt, IsSwitchDecided};
 ghost use Rattle.lx_image_code.specs.Reach.{AreWithinReach};
 ghost use Rattle.lx_image_code.specs.Code.{code_of};
 
@@ -112,7 +112,8 @@ pub(crate) fn first_case(
     place: usize,
     bits: u64,
 ) -> Option<Option<usize>>
-    ensures { (c : Code) → HasJumps c jumps.now → IfSome result (λ found. IsCaseAt c.program number (op_at (image_routine c number).blocks block place) bits found) }
+    ensures quick { (c : Code) → HasJumps c jumps.now → IsSwitchDecided (op_at (image_routine c number).blocks block place) result }
+    ensures first { (c : Code) → HasJumps c jumps.now → IfSome result (λ found. IsCaseAt c.program number (op_at (image_routine c number).blocks block place) bits found) }
 {
     match tables_at(jumps, number) {
         Some(tables) => tables.case(block, place, bits),
@@ -128,7 +129,8 @@ pub(crate) fn first_edge(
     place: usize,
     label: &[u8],
 ) -> Option<Option<usize>>
-    ensures { (c : Code) → HasJumps c jumps.now → IfSome result (λ found. IsEdgeAt (op_at (image_routine c number).blocks block place) label.now found) }
+    ensures quick { (c : Code) → HasJumps c jumps.now → IsPhiDecided (op_at (image_routine c number).blocks block place) result }
+    ensures first { (c : Code) → HasJumps c jumps.now → IfSome result (λ found. IsEdgeAt (op_at (image_routine c number).blocks block place) label.now found) }
 {
     match tables_at(jumps, number) {
         Some(tables) => tables.edge(block, place, label),

@@ -1,5 +1,10 @@
 //! Instructions that end a block.
-ghost use Rattle.std.specs.Prelude.{◌≡◌, Some, nat_eq, IfSome};
+ghost use Rattle.std.specs.Prelude.{◌≡◌, ℕ, true, Some, List, nat_eq, IfSome, IsSome};
+ghost use Rattle.lx_ir.specs.declared.instr.Op.TheVariants as op_is;
+ghost use Rattle.lx_ir.specs.declared.instr.SwitchCase.{SwitchCase};
+ghost use Rattle.lx_ir.specs.declared.module.Value.{Value};
+ghost use Rattle.lx_ir.specs.declared.types.Scalar.{Scalar};
+ghost use Rattle.lx_code.specs.Fits.{wants_table};
 ghost use Rattle.lx_image_code.specs.Jumps.{op_at};
 ghost use Rattle.lx_model.specs.Effect.{effect, jump_effect, chosen_label, bits, choice};
 ghost use Rattle.lx_images.specs.Image.{image_routine};
@@ -93,7 +98,8 @@ fn label_at<'a>(cases: &'a [SwitchCase], place: Option<usize>, otherwise: &'a Na
     }
 }
 
-/// What a switch at a place of the block that runs does, by the table of its cases; none, where it has no table.
+/// What a switch at a place of the block that runs does, by the table of its cases; none, where it has no table. A switch of more than
+/// eight cases, each of which is a constant, has one.
 pub(crate) fn switch_by_table(
     code: &Code,
     run: &Activation,
@@ -101,7 +107,8 @@ pub(crate) fn switch_by_table(
     op: &Op,
 ) -> Option<Effect>
     requires { op_at (image_routine code.now run.now.function).blocks run.now.block place ≡ Some op.now }
-    ensures { IfSome result (λ e. effect_of code.now.program (run_of code.now run.now) e ≡ effect code.now.program (run_of code.now run.now) op.now) }
+    ensures quick { (ty : Scalar) → (v : Value) → (otherwise : List ℕ) → (cases : List SwitchCase) → op.now ≡ op_is.Switch ty v otherwise cases → wants_table op.now ≡ true → IsSome result }
+    ensures does { IfSome result (λ e. effect_of code.now.program (run_of code.now run.now) e ≡ effect code.now.program (run_of code.now run.now) op.now) }
 {
     match op {
         Op::Switch {
