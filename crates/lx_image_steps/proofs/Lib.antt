@@ -10,3 +10,4 @@ pub mod Moduli
 pub mod Parts
 pub mod Phis
 pub mod Marking
+pub mod Giving

@@ -4,3 +4,4 @@ pub mod Parts
 pub mod Phis
 pub mod Marks
 pub mod Next
+pub mod Given

@@ -14,6 +14,7 @@ mod askers;
 mod calls;
 mod effect;
 mod elements;
+mod given;
 mod jumps;
 mod marks;
 mod memory;

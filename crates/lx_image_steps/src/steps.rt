@@ -318,16 +318,24 @@ impl Activation {
         }
     }
 
+    // The function goes past the instruction at a place, which is the next one, with a value or none.
+    pub(crate) fn pass_at(&mut self, instrs: &[Instr], place: usize, value: &Option<Word>)
+        requires { rest_from self.old.arrived self.old.place (map (λ i. i.op) instrs.now) ≡ front_at self.old.arrived place (map (λ i. i.op) instrs.now) }
+        ensures { (c : Images) → map (λ i. i.op) instrs.now ≡ (block_at (image_routine c self.old.function).blocks self.old.block).code → run_of c self.new ≡ activation_behind value.now (run_of c self.old) }
+    {
+        if let Some(instr) = instrs.get(place) {
+            set_register(&mut self.registers, given_by(&instr.op), value);
+            self.place = place + 1;
+        }
+    }
+
     /// The function goes past its instruction, with a value or none.
     pub fn pass(&mut self, code: &Code, value: &Option<Word>)
         ensures { run_of code.now self.new ≡ activation_behind value.now (run_of code.now self.old) }
     {
         let instrs = instrs_of(code, self);
         let place = next_place(instrs, self.arrived, self.place);
-        if let Some(instr) = instrs.get(place) {
-            set_register(&mut self.registers, given_by(&instr.op), value);
-            self.place = place + 1;
-        }
+        self.pass_at(instrs, place, value);
     }
 
     /// The function goes to the block with a number, and its phis are evaluated together; `false`, where there is no
