@@ -1,11 +1,11 @@
 //! Frames of a thread: functions that run, and the wrappers round those that calls cross into.
-ghost use Rattle.std.specs.Prelude.{◌≡◌, ◌+◌, ◌≤◌, ◌∷◌, IfOk, IfSome, IsNone, IsSome, IsTrue, List, None, OnErr, OnOk, Some, option_copied, slice_get, true};
+ghost use Rattle.std.specs.Prelude.{◌≡◌, ◌+◌, ◌≤◌, ◌∷◌, IfOk, IfSome, IsNone, IsSome, IsTrue, List, None, OnErr, OnOk, Some, false, option_copied, slice_get, true};
 ghost use Rattle.lx_words.specs.declared.word.Width.TheVariants.{W64};
 ghost use Rattle.lx_words.specs.Word.{word};
 ghost use Rattle.lx_model.specs.Thread.{activation_behind};
 ghost use Rattle.lx_model.specs.Effect.{arrival};
 ghost use Rattle.lx_model.specs.Next.{with_alloca};
-ghost use Rattle.lx_images.specs.Image.{Code as Images, ImageFrame, ImageThread};
+ghost use Rattle.lx_images.specs.Image.{Code as Images, Goes, ImageFrame, ImageThread, frame_step, if_paid, with_frames};
 ghost use Rattle.lx_image_steps.specs.declared.activation.Activation.{Activation as Running};
 ghost use Rattle.lx_image_steps.specs.Standing.{run_of};
 ghost use Rattle.lx_frames.specs.Frames.{Counts, HasSpace, arrival_in, changed, frame_of, line_at, line_behind, marked_frame_step, past_line, resumed, runs, wrapped_args, wrapped_function, wrapped_value};
@@ -114,6 +114,18 @@ impl Frame {
         match self {
             Frame::Runs(run) => run.pass(code, value),
             Frame::Wraps { .. } => {}
+        }
+    }
+
+    /// A running function goes past its next instruction, where that gives a value of its operands alone, for a unit of fuel. `false`,
+    /// where it does not and in a wrapper; nothing changes then.
+    pub fn give_next(&mut self, code: &Code) -> bool
+        ensures gives { IsTrue result → (v : ImageThread) → (fs : List ImageFrame) → frame_step code.now v (frame_of code.now self.old ∷ fs) ≡ if_paid v (λ w. Goes (with_frames (frame_of code.now self.new ∷ fs) w)) }
+        ensures stays { result ≡ false → self.new ≡ self.old }
+    {
+        match self {
+            Frame::Runs(run) => run.give_next(code),
+            Frame::Wraps { .. } => false,
         }
     }
 

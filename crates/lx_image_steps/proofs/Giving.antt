@@ -6,7 +6,7 @@ use Rattle.lx_ir.specs.declared.instr.Op.{Op}
 use Rattle.lx_ir.specs.declared.instr.Op.TheVariants as op
 use Rattle.lx_model.specs.Thread.{Activation, activation_behind, behind_head}
 use Rattle.lx_model.specs.Effect.{Effect, effect, value_effect}
-use Rattle.lx_images.specs.Image.{Code, ImageFrame, ImageStep, ImageThread, Goes, Runs, effect_step, if_paid, instruction_step, no_marks, with_frames}
+use Rattle.lx_images.specs.Image.{Code, ImageFrame, ImageThread, Goes, Runs, effect_step, if_paid, instruction_step, no_marks, with_frames}
 use Rattle.lx_image_steps.specs.Effects.{effect_of}
 use Rattle.lx_image_steps.specs.Given.{GivesWord, GoesTo}
 use Rattle.lx_image_steps.specs.Standing.{head_of}

@@ -8,7 +8,7 @@ use Rattle.lx_images.specs.Image.{Code, ImageStep, ImageThread, Goes, Asks, Mark
 use Rattle.lx_interp.specs.declared.runner.Runner.{Runner}
 use Rattle.lx_interp.specs.declared.standing.Standing.{Standing}
 use Rattle.lx_interp.specs.Places.{AsksFrom, stand_in}
-use Rattle.lx_interp.specs.Runner.{HasTaken, IsAt, StepsAlike, calls_left, marked_step, taken, thread_of}
+use Rattle.lx_interp.specs.Runner.{HasTaken, IsAt, calls_left, marked_step, taken, thread_of}
 use Rattle.lx_interp.proofs.Falling.{Falls, step_falls, steps_left}
 
 -- who asks, where this is the next step of a thread
@@ -70,12 +70,11 @@ stepped c first r new (Some q) at same e marks place =
     place ∙ ap (λ (x : ImageThread). option_map code_place (acting x.frames)) (asks_here c (thread_of c r) (thread_of c new) q e ∙ same)
 
 -- a step taken: the thread still is to ask where it was to ask, or it has asked where it stood
-pub asks_on : (c : Code) (first : ImageThread) (r mid new : Runner) (before at : Option Standing) → r.request ≡ None → AsksFrom c first r r.request before →
-    option_map (stand_in c) at ≡ option_map code_place (acting (thread_of c r).frames) → StepsAlike c r mid →
-    HasTaken c mid new (marked_step c mid.marks (thread_of c mid)) → AsksFrom c first new new.request at
-asks_on c first r mid new before at idle from place passed h =
+pub asks_on : (c : Code) (first : ImageThread) (r new : Runner) (before at : Option Standing) → r.request ≡ None → AsksFrom c first r r.request before →
+    option_map (stand_in c) at ≡ option_map code_place (acting (thread_of c r).frames) → HasTaken c r new (marked_step c r.marks (thread_of c r)) → AsksFrom c first new new.request at
+asks_on c first r new before at idle from place h =
     let under = subst (λ (q : Option Request). AsksFrom c first r q before) idle from in
-    stepped c first r new new.request at under.1 (ap (λ (m : Option Marks). marked_step c m (thread_of c r)) (sym under.0) ∙ sym passed.step ∙ h.is) h.marks place
+    stepped c first r new new.request at under.1 (ap (λ (m : Option Marks). marked_step c m (thread_of c r)) (sym under.0) ∙ h.is) h.marks place
 
 -- at first nothing is asked
 pub asks_first : (c : Code) (r : Runner) (at : Option Standing) → r.request ≡ None → r.marks ≡ None → AsksFrom c (thread_of c r) r r.request at

@@ -5,8 +5,10 @@ use Rattle.lx_model.specs.declared.request.Request.{Request}
 use Rattle.lx_model.specs.Thread.{has_call}
 use Rattle.lx_images.specs.Image.{Code, ImageStep, ImageThread, Goes, Asks, Marks, image_next, image_next_within, image_step}
 use Rattle.lx_interp.specs.declared.runner.Runner.{Runner}
-use Rattle.lx_interp.specs.Runner.{GoesOn, HasCallIf, HasTaken, StandsFor, asking_behind, asking_or, calls_left, marked_step, steps_before, taken, thread_of}
+use Rattle.lx_frames.specs.Stack.{IsReadyIf}
+use Rattle.lx_interp.specs.Runner.{GoesOn, HasCallIf, HasStayed, HasTaken, StandsFor, StepsAlike, asking_behind, asking_or, calls_left, marked_step, steps_before, taken, thread_of}
 use Rattle.lx_interp.proofs.Falling.{Falls, next_stays, step_falls, steps_left}
+use Rattle.lx_interp.proofs.Takings.{retaken}
 
 -- more steps than are left change nothing
 further : (c : Code) (v : ImageThread) (k n : ℕ) → steps_left v < n → image_next_within (k + n) c v ≡ image_next_within n c v
@@ -64,6 +66,31 @@ goes_further c first old new a b =
       asks = b.asks ∙ a.asks;
       ready = b.ready;
     }
+
+-- a step behind the marks is the step before them
+pub behind_marks : (c : Code) (old same mid new : Runner) → same ≡ old → GoesOn c same mid → StepsAlike c same mid → HasTaken c mid new (marked_step c mid.marks (thread_of c mid)) →
+    HasTaken c old new (marked_step c old.marks (thread_of c old))
+behind_marks c old same mid new e on alike h =
+    subst (λ (r : Runner). HasTaken c r new (marked_step c r.marks (thread_of c r))) e (retaken c same mid new _ _ on.number on.calls on.ended (sym alike.step) h)
+
+stayed : (c : Code) (mid new : Runner) → mid.request ≡ None → HasStayed c mid new → GoesOn c mid new
+stayed c mid new idle h =
+    record {
+      number = h.number;
+      calls = h.calls;
+      ended = h.ended;
+      asks =
+          ap (asking_or c new.marks (thread_of c new)) h.idle
+          ∙ ap (λ (m : Option Marks). asking_or c m (thread_of c new) None) h.marks
+          ∙ ap (λ (v : ImageThread). asking_or c mid.marks v None) h.state
+          ∙ ap (asking_or c mid.marks (thread_of c mid)) (sym idle);
+      ready = subst (IsReadyIf c new.stack) (sym h.idle) tt;
+    }
+
+-- and where the step wants memory, the runner goes on behind the marks
+pub stays_behind : (c : Code) (old same mid new : Runner) → same ≡ old → GoesOn c same mid → mid.request ≡ None → HasStayed c mid new → GoesOn c old new
+stays_behind c old same mid new e on idle h =
+    subst (λ (r : Runner). GoesOn c r new) e (goes_further c same mid new on (stayed c mid new idle h))
 
 -- fewer steps are left
 falls_if : (c : Code) (v : ImageThread) (m : Option Marks) (new : Runner) (q : Option Request) → marked_step c m v ≡ taken (thread_of c new) q → steps_before c new q < suc (steps_left v)

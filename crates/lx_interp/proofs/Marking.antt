@@ -1,6 +1,6 @@
 -- The marks of the next instruction are taken, and nothing else changes.
 use Rattle.std.specs.Prelude.{IfSome, IsNone, is_some}
-use Rattle.std.proofs.Common.{◌≡◌, ℕ, zero, suc, Bool, true, false, Option, Some, None, IsSome, List, [], ◌∷◌, map, refl, sym, ap, ◌∙◌, subst}
+use Rattle.std.proofs.Common.{◌≡◌, ℕ, zero, suc, ◌-◌, ◌<◌, Bool, true, false, Option, Some, None, IsSome, List, [], ◌∷◌, map, refl, sym, ap, ◌∙◌, subst}
 use Rattle.lx_words.specs.Word.{Word}
 use Rattle.lx_ir.specs.declared.instr.Op.{Op}
 use Rattle.lx_ir.specs.declared.instr.Op.TheVariants as op
@@ -8,7 +8,7 @@ use Rattle.lx_model.specs.declared.request.Outcome.TheVariants.{Trapped}
 use Rattle.lx_model.specs.declared.request.Trap.TheVariants.{Unreachable}
 use Rattle.lx_model.specs.Thread.{Activation}
 use Rattle.lx_model.specs.Effect.{Effect, Moves, Wants, Enters, Calls, Traps, effect, text_of}
-use Rattle.lx_images.specs.Image.{Code, ImageFrame, ImageThread, ImageStep, Goes, Asks, Runs, Wraps, Marks, comes_to, costly_step, due_or, effect_step, has_room, if_paid, if_room, first_line, with_frames, wrapped_import, wrapper_args, wrapper_call}
+use Rattle.lx_images.specs.Image.{Code, ImageFrame, ImageThread, ImageStep, Goes, Asks, Runs, Wraps, Marks, comes_to, costly_step, due_or, effect_step, frame_step, has_room, if_paid, if_room, first_line, with_frames, wrapped_import, wrapper_args, wrapper_call}
 use Rattle.lx_images.specs.Wrappers.{called_lines}
 use Rattle.lx_image_steps.specs.Marks.{plain_step}
 use Rattle.lx_image_steps.specs.Standing.{head_of}
@@ -17,7 +17,8 @@ use Rattle.lx_frames.specs.declared.frame.Frame.TheVariants as kept
 use Rattle.lx_interp.specs.declared.runner.Runner.{Runner}
 use Rattle.lx_frames.specs.Frames.{Stack, frame_of, frames_of, marked_frame_step, runs}
 use Rattle.lx_frames.specs.Stack.{IsReadyIf}
-use Rattle.lx_interp.specs.Runner.{GoesOn, StepsAlike, asking_behind, asking_or, marked_step, thread_of}
+use Rattle.lx_interp.specs.Runner.{GoesOn, HasTaken, StepsAlike, asking_behind, asking_or, marked_step, poorer, taken, thread_of}
+use Rattle.lx_interp.proofs.Lines.{paid_step}
 use Rattle.lx_interp.proofs.Takings.{left_same, thread_is}
 
 -- what a function on top comes to has nothing of the frames that the thread had
@@ -169,3 +170,34 @@ taken_marks c f g (Some m) step there stays = (there, step)
 pub no_value : {A : Type 0} (o : Option A) → is_some o ≡ false → o ≡ None
 no_value None e = refl
 no_value (Some x) e = absurd (cc)
+
+-- a function that goes past an instruction of its own has taken the step of the thread
+
+-- a frame whose step asks nothing, and the frame that it leads to
+abbrev pub FrameGoes : Code → KeptFrame → KeptFrame → Type 0
+FrameGoes c f g = (v : ImageThread) → (fs : List ImageFrame) → frame_step c v (frame_of c f ∷ fs) ≡ if_paid v (λ w. Goes (with_frames (frame_of c g ∷ fs) w))
+
+pub given_taken : (c : Code) (old new : Runner) (f g : KeptFrame) → 0 < old.fuel → old.request ≡ None → old.due ≡ None → old.marks ≡ None → old.stack.top ≡ Some f → FrameGoes c f g →
+    new.thread ≡ old.thread → new.calls ≡ old.calls → new.endings ≡ old.endings → new.fuel ≡ old.fuel - 1 → new.due ≡ old.due → new.stack.top ≡ Some g → new.stack.below ≡ old.stack.below → new.stack.shadow ≡ old.stack.shadow → new.marks ≡ old.marks → new.request ≡ old.request →
+    HasTaken c old new (marked_step c old.marks (thread_of c old))
+given_taken c old new f g paid idle due marks top step e0 e1 e2 e3 e4 e5 e6 e7 e8 e9 =
+    let fs = map (frame_of c) old.stack.below.frames in
+    let v = thread_of c old in
+    let state : thread_of c new ≡ with_frames (frame_of c g ∷ fs) (poorer v) =
+    thread_is c new _ _ _ _ _ _ (left_same old new e1 e2) (ap (λ x. x.items) e2) e3 e4
+    (ap (λ (o : Option KeptFrame). frames_of c o new.stack.below) e5 ∙ ap (λ (s : Stack). frame_of c g ∷ map (frame_of c) s.frames) e6) (ap (λ s. s.principals) e7) in
+    record {
+      number = e0;
+      calls = e1;
+      ended = e2;
+      marks = e8 ∙ marks;
+      is =
+          ap (λ (m : Option Marks). marked_step c m v) marks
+          ∙ undue c None v due
+          ∙ ap (λ (o : Option KeptFrame). frame_step c v (frames_of c o old.stack.below)) top
+          ∙ step v fs
+          ∙ paid_step v (λ w. Goes (with_frames (frame_of c g ∷ fs) w)) paid
+          ∙ ap Goes (sym state)
+          ∙ ap (taken (thread_of c new)) (sym (e9 ∙ idle));
+      ready = subst (IsReadyIf c new.stack) (sym (e9 ∙ idle)) tt;
+    }

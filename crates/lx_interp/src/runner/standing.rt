@@ -36,8 +36,7 @@ impl Runner {
         let mut at = None;
         while self.request.is_none() {
             at = self.standing();
-            self.pass_marks(code);
-            self.take_step(code)?;
+            self.take_next(code)?;
         }
         Ok(at)
     }

@@ -214,7 +214,7 @@ impl Runner {
     }
 
     // A step of a thread that has a call left and asks nothing.
-    pub(super) fn take_step(&mut self, code: &Code) -> Result<(), Memory>
+    fn take_step(&mut self, code: &Code) -> Result<(), Memory>
         requires request { self.old.request ≡ None }
         requires marked { IsMarked self.old }
         requires work { IsTrue (has_call (calls_left self.old)) }
@@ -231,7 +231,7 @@ impl Runner {
     }
 
     // Goes past the guards and checks before the next instruction, unless that was done before a want of memory.
-    pub(super) fn pass_marks(&mut self, code: &Code)
+    fn pass_marks(&mut self, code: &Code)
         requires { self.old.request ≡ None }
         ensures goes_on { GoesOn code.now self.old self.new }
         ensures marked { IsMarked self.new }
@@ -248,6 +248,46 @@ impl Runner {
         }
     }
 
+    // The function on top goes past its next instruction, where that gives a value of its operands alone. `false`, where it does not, and
+    // without fuel, where an outcome is due and where marks have been taken; nothing changes then.
+    #[tactic(auto, using(crate::proofs::Marking::given_taken, crate::proofs::Marking::no_value))]
+    fn give_next(&mut self, code: &Code) -> bool
+        requires { self.old.request ≡ None }
+        ensures steps { IsTrue result → HasTaken code.now self.old self.new (marked_step code.now self.old.marks (thread_of code.now self.old)) }
+        ensures stays { result ≡ false → self.new ≡ self.old }
+        ensures spares { events_left self.new ≤ events_left self.old }
+    {
+        if self.fuel == 0 || self.due.is_some() || self.marks.is_some() {
+            return false;
+        }
+        if let Some(frame) = &mut self.stack.top {
+            if frame.give_next(code) {
+                self.fuel -= 1; // an instruction costs a unit
+                return true;
+            }
+        }
+        false
+    }
+
+    // The next step of a thread that has a call left and asks nothing: past an instruction that gives a value, or past the marks before another
+    // one, and that.
+    #[tactic(auto, using(crate::proofs::Goings::behind_marks, crate::proofs::Goings::stays_behind))]
+    pub(super) fn take_next(&mut self, code: &Code) -> Result<(), Memory>
+        requires request { self.old.request ≡ None }
+        requires work { IsTrue (has_call (calls_left self.old)) }
+        ensures steps { OnOk result (HasTaken code.now self.old self.new (marked_step code.now self.old.marks (thread_of code.now self.old))) }
+        ensures stays { OnErr result (GoesOn code.now self.old self.new) }
+        ensures asks_nothing { OnErr result (self.new.request ≡ None) }
+        ensures spares { events_left self.new ≤ events_left self.old }
+    {
+        if self.give_next(code) {
+            return Ok(());
+        }
+        self.pass_marks(code);
+        self.take_step(code)?;
+        Ok(())
+    }
+
     // Steps up to the next request.
     fn go(&mut self, code: &Code) -> Result<(), Memory>
         requires work { IsTrue (has_call (calls_left self.old)) }
@@ -258,8 +298,7 @@ impl Runner {
         ensures spares { events_left self.new ≤ events_left self.old }
     {
         while self.request.is_none() {
-            self.pass_marks(code);
-            self.take_step(code)?;
+            self.take_next(code)?;
         }
         Ok(())
     }

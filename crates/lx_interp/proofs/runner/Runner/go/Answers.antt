@@ -20,15 +20,13 @@ pub loop-self-preserved : goal.loop-self-preserved
 loop-self-preserved c =
     let p = c.args.code.now in
     let r = c.loop-self.self in
-    let mid = c.pass_marks.new.self in
-    let new = c.take_step.new.self in
-    let passed = c.pass_marks.ensures.goes_on in
-    let h = c.in_ok-take_step.ensures.steps in
-    let took = taken_on p mid new c.pass_marks.ensures.idle h in
+    let new = c.take_next.new.self in
+    let h = c.in_ok-take_next.ensures.steps in
+    let idle = none_is r.request (c.is_none.ensures ∙ ap not c.loop-self-test.true) in
     record {
-      goes = goes_further p c.args.self.now r new c.loop-self.invariant.goes (goes_further p r mid new passed took);
-      events = omega (arith, c.loop-self.invariant.events, c.pass_marks.ensures.spares, c.take_step.ensures.spares);
-      work = ap has_call (left_same mid new h.calls h.ended) ∙ ap has_call (left_same r mid passed.calls passed.ended) ∙ c.loop-self.invariant.work;
+      goes = goes_further p c.args.self.now r new c.loop-self.invariant.goes (taken_on p r new idle h);
+      events = omega (arith, c.loop-self.invariant.events, c.take_next.ensures.spares);
+      work = ap has_call (left_same r new h.calls h.ended) ∙ c.loop-self.invariant.work;
     }
 
 pub loop-self-smaller : goal.loop-self-smaller
@@ -37,4 +35,4 @@ loop-self-smaller c =
     let r = c.loop-self.self in
     let idle = none_is r.request (c.is_none.ensures ∙ ap not c.loop-self-test.true) in
     let same = ap (steps_before p r) idle in
-    omega (arith, same, c.pass_marks.ensures.before, fewer_steps p c.pass_marks.new.self c.take_step.new.self c.in_ok-take_step.ensures.steps)
+    omega (arith, same, fewer_steps p r c.take_next.new.self c.in_ok-take_next.ensures.steps)

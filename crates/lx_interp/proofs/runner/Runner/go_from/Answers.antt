@@ -24,19 +24,16 @@ loop-at-preserved c =
     let p = c.args.code.now in
     let first = c.args.self.now in
     let r = c.loop-at.self in
-    let mid = c.pass_marks.new.self in
-    let new = c.take_step.new.self in
+    let new = c.take_next.new.self in
     let before = c.loop-at.invariant.0 in
-    let passed = c.pass_marks.ensures.goes_on in
-    let h = c.in_ok-take_step.ensures.steps in
-    let took = taken_on p mid new c.pass_marks.ensures.idle h in
+    let h = c.in_ok-take_next.ensures.steps in
     let idle = none_is r.request (c.is_none.ensures ∙ ap not c.loop-at-test.true) in (
       record {
-        goes = goes_further p first r new before.goes (goes_further p r mid new passed took);
-        events = omega (arith, before.events, c.pass_marks.ensures.spares, c.take_step.ensures.spares);
-        work = ap has_call (left_same mid new h.calls h.ended) ∙ ap has_call (left_same r mid passed.calls passed.ended) ∙ before.work;
+        goes = goes_further p first r new before.goes (taken_on p r new idle h);
+        events = omega (arith, before.events, c.take_next.ensures.spares);
+        work = ap has_call (left_same r new h.calls h.ended) ∙ before.work;
       },
-      λ marks. asks_on p (thread_of p first) r mid new c.loop-at.at c.standing-at.result idle (c.loop-at.invariant.1 marks) (c.standing-at.ensures p) c.pass_marks.ensures.step h,
+      λ marks. asks_on p (thread_of p first) r new c.loop-at.at c.standing-at.result idle (c.loop-at.invariant.1 marks) (c.standing-at.ensures p) h,
     )
 
 pub loop-at-smaller : goal.loop-at-smaller
@@ -45,7 +42,7 @@ loop-at-smaller c =
     let r = c.loop-at.self in
     let idle = none_is r.request (c.is_none.ensures ∙ ap not c.loop-at-test.true) in
     let same = ap (steps_before p r) idle in
-    omega (arith, same, c.pass_marks.ensures.before, fewer_steps p c.pass_marks.new.self c.take_step.new.self c.in_ok-take_step.ensures.steps)
+    omega (arith, same, fewer_steps p r c.take_next.new.self c.in_ok-take_next.ensures.steps)
 
 pub returns-clause-from : goal.returns-clause-from
 returns-clause-from c = λ marks.
