@@ -1,26 +1,32 @@
 -- Workers' seats are taken in one after the other.
-use Rattle.std.proofs.Common.{◌≡◌, ◌∙◌, ◌⊎◌, inl, inr, ⊎_elim, refl, sym, ap, subst, ℕ, suc, ◌+◌, ◌<◌, ◌≤◌, arith, List, [], ◌∷◌, ◌++◌, length, length-append, append-nil}
+use Rattle.std.proofs.Common.{◌≡◌, ◌∙◌, ◌⊎◌, inl, inr, ⊎_elim, refl, sym, ap, subst, ℕ, suc, ◌+◌, ◌<◌, ◌≤◌, arith, List, [], ◌∷◌, ◌++◌, length, length-append, append_assoc, append-nil}
+use Rattle.lx_caplock.specs.declared.knowledge.Entry.{Entry}
 use Rattle.lx_caplock.specs.declared.knowledge.View.{View}
 use Rattle.lx_caplock.specs.declared.lock.CapLock.{CapLock}
 use Rattle.lx_caplock.specs.declared.seat.Seat.{Seat}
-use Rattle.lx_caplock.specs.History.{entries_of, In}
-use Rattle.lx_caplock.specs.Seats.{view_of, number_of}
+use Rattle.lx_caplock.specs.History.{entries_of, Begins, In}
+use Rattle.lx_caplock.specs.Seats.{view_of, number_of, seen_of}
 use Rattle.lx_caplock.specs.Calls.{HasJoined}
 use Rattle.lx_caplock.proofs.Histories.{in_either, in_right}
 use Rattle.lx_threads.specs.declared.worker.Worker.{Worker}
 use Rattle.lx_threads.specs.Gathered.{IsSeated, HasEnded, HaveEnded, HasGathered}
+
+pub begins_trans : (xs ys zs : List Entry) → Begins xs ys → Begins ys zs → Begins xs zs
+begins_trans xs ys zs a b = (a.0 ++ b.0, b.1 ∙ (ap (λ l. l ++ b.0) a.1 ∙ append_assoc xs a.0 b.0))
 
 module _ {T : Type 0} where
   ended_on : (t : ℕ) (s : Seat T) (u : View T) (w : View T) (u' : View T) → HasJoined u w u' → HasEnded t s u → HasEnded t s u'
   ended_on t s u w u' j h = record {
     ended = subst (In (t + 1)) (sym j.ended) (in_right (t + 1) (w.number ∷ w.ended) u.ended h.ended);
     mine = j.own_ended (t + 1) h.ended ∙ h.mine;
+    seen = begins_trans (seen_of s) u.seen u'.seen h.seen j.begins;
   }
 
   ended_here : (lock : CapLock T) (t : ℕ) (s : Seat T) (u u' : View T) → IsSeated lock t s → HasJoined u (view_of s) u' → HasEnded t s u'
   ended_here lock t s u u' seated j = record {
     ended = subst (In (t + 1)) (sym j.ended) (inl (sym seated.number));
     mine = ap (λ (n : ℕ). entries_of n u'.seen) (sym seated.number) ∙ j.theirs;
+    seen = j.takes_in;
   }
 
 module _ {T N : Type 0} (lock : CapLock T) where

@@ -11,19 +11,20 @@ use Rattle.lx_model.specs.State.{State}
 use Rattle.lx_caplock.specs.declared.knowledge.Entry.{Entry}
 use Rattle.lx_caplock.specs.declared.knowledge.View.{View}
 use Rattle.lx_caplock.specs.declared.lock.CapLock.{CapLock}
-use Rattle.lx_caplock.specs.History.{entries_of, In}
-use Rattle.lx_caplock.specs.Seats.{IsSeatOf, opened_with, mine_of}
+use Rattle.lx_caplock.specs.History.{Begins, entries_of, In}
+use Rattle.lx_caplock.specs.Seats.{IsSeatOf, opened_with, seen_of, mine_of}
 use Rattle.lx_caplock.specs.Serving.{state_after, IsLegal, LegalFrom, Leaves}
 use Rattle.lx_caplock.specs.Calls.{HasClosed, IsAlone}
 use Rattle.lx_threads.specs.declared.worker.Worker.{Worker}
 use Rattle.lx_threads.specs.Machines.{Machine, Made, AllMade}
 use Rattle.lx_threads.specs.Dealt.{AreDealt}
 use Rattle.lx_threads.specs.Gathered.{AreSeated, HaveEnded, HasGathered}
-use Rattle.lx_threads.specs.Working.{StandsFrom, Opens, MayWork, AfterWork, AllStand, HasRun}
+use Rattle.lx_threads.specs.Working.{StandsFrom, Opens, MayWork, AfterWork, AllStand, HasRun, LacksIfLeft, LacksWithin}
+use Rattle.lx_threads.proofs.Gathering.{begins_trans}
 use Rattle.lx_threads.proofs.Runs.{runs, NoneElse}
 
-module _ {T K N X : Type 0} (program : T → Program) (part : T → State → Type 0) (takes : Program → ℕ → Request → Type 0) (text : K → Program) (run : K → ℕ → N → X → Type 0) (fits : Program → ℕ → Request → Type 0) (machine : Machine X)
-    (code : K) (lock : CapLock T) (v : View T) (o : T) (opened_part : v.opened_part ≡ Some o) (same : program o ≡ text code) where
+module _ {T K N X : Type 0} (program : T → Program) (part : T → State → Type 0) (takes : Program → ℕ → Request → Type 0) (lacks : T → ℕ → Request → Type 0) (text : K → Program) (run : K → ℕ → N → X → Type 0) (fits : Program → ℕ → Request → Type 0)
+    (wants : K → N → Type 0) (machine : Machine X) (code : K) (lock : CapLock T) (v : View T) (o : T) (opened_part : v.opened_part ≡ Some o) (same : program o ≡ text code) where
   abbrev W : Type 0
   W = Worker T N
 
@@ -53,9 +54,9 @@ module _ {T K N X : Type 0} (program : T → Program) (part : T → State → Ty
   AllAfter [] [] = Unit {0}
   AllAfter [] (z ∷ zs) = ⊥
   AllAfter (w ∷ ws) [] = ⊥
-  AllAfter (w ∷ ws) (z ∷ zs) = AfterWork part run machine code lock w z × AllAfter ws zs
+  AllAfter (w ∷ ws) (z ∷ zs) = AfterWork program part lacks run wants machine code lock w z × AllAfter ws zs
 
-  pub all_after : (ws zs : List W) → length zs ≡ length ws → ((i : ℕ) (d w : W) → i < length ws → w ≡ slice_index_or ws i w → AfterWork part run machine code lock w (slice_index_or zs i d)) → AllAfter ws zs
+  pub all_after : (ws zs : List W) → length zs ≡ length ws → ((i : ℕ) (d w : W) → i < length ws → w ≡ slice_index_or ws i w → AfterWork program part lacks run wants machine code lock w (slice_index_or zs i d)) → AllAfter ws zs
   all_after [] [] many each = tt
   all_after [] (z ∷ zs) many each = absurd (omega arith)
   all_after (w ∷ ws) [] many each = absurd (omega arith)
@@ -75,25 +76,36 @@ module _ {T K N X : Type 0} (program : T → Program) (part : T → State → Ty
     seated (suc t) ws zs dealt.1 all.1,
   )
 
-  -- what each made stands in the history
-  together : (s : State) (history : List Entry) (u : View T) → part o s → ((k : ℕ) → In k u.ended → entries_of k history ≡ entries_of k u.seen) → (t : ℕ) (ws zs : List W) (xs : List X) → AreDealt lock v t ws → AllAfter ws zs → HaveEnded t zs u
-      → AllStand run code t (map (λ w. w.runner) ws) xs → (ys : List X) × AllMade machine t xs history ys × AllStand run code t (map (λ w. w.runner) zs) ys
-  together s history u st closed t [] [] [] dealt all ended stand = ([], tt, tt)
-  together s history u st closed t [] [] (x ∷ xs) dealt all ended stand = absurd stand
-  together s history u st closed t [] (z ∷ zs) xs dealt all ended stand = absurd all
-  together s history u st closed t (w ∷ ws) [] xs dealt all ended stand = absurd all
-  together s history u st closed t (w ∷ ws) (z ∷ zs) [] dealt all ended stand = absurd stand
-  together s history u st closed t (w ∷ ws) (z ∷ zs) (x ∷ xs) dealt all ended stand =
-      let rest = together s history u st closed (suc t) ws zs xs dealt.1 all.1 ended.1 stand.1 in
+  abbrev Within : List Entry → K → ℕ → N → X → Type 0
+  Within = LacksWithin program part lacks wants machine o
+
+  abbrev IfLeft : std.Option T → List Entry → K → ℕ → N → X → Type 0
+  IfLeft = LacksIfLeft program part lacks wants machine
+
+  -- what each made stands in the history, and each has work left only for want of memory
+  together : (s : State) (history : List Entry) (u : View T) → part o s → ((k : ℕ) → In k u.ended → entries_of k history ≡ entries_of k u.seen) → Begins u.seen history → (t : ℕ) (ws zs : List W) (xs : List X) → AreDealt lock v t ws → AllAfter ws zs → HaveEnded t zs u
+      → AllStand run code t (map (λ w. w.runner) ws) xs → (ys : List X) × AllMade machine t xs history ys × AllStand run code t (map (λ w. w.runner) zs) ys × AllStand (Within history) code t (map (λ w. w.runner) zs) ys
+  together s history u st closed begins t [] [] [] dealt all ended stand = ([], tt, tt, tt)
+  together s history u st closed begins t [] [] (x ∷ xs) dealt all ended stand = absurd stand
+  together s history u st closed begins t [] (z ∷ zs) xs dealt all ended stand = absurd all
+  together s history u st closed begins t (w ∷ ws) [] xs dealt all ended stand = absurd all
+  together s history u st closed begins t (w ∷ ws) (z ∷ zs) [] dealt all ended stand = absurd stand
+  together s history u st closed begins t (w ∷ ws) (z ∷ zs) (x ∷ xs) dealt all ended stand =
+      let rest = together s history u st closed begins (suc t) ws zs xs dealt.1 all.1 ended.1 stand.1 in
       let opened : opened_with w.seat ≡ Some o = ap (λ (q : View T). q.opened_part) dealt.0.view ∙ opened_part in
-      let h = all.0.worked in
-      let c = h.comes s x (subst (λ (q : std.Option T). StandsFrom part q s) (sym opened) st) (subst (λ (n : ℕ). run code n w.runner x) (sym dealt.0.thread) stand.0) in
+      let h = all.0.worked.worked in
+      let from = subst (λ (q : std.Option T). StandsFrom part q s) (sym opened) st in
+      let runner = subst (λ (n : ℕ). run code n w.runner x) (sym dealt.0.thread) stand.0 in
+      let c = h.comes s x from runner in
       let y : X = c.0 in
       let none : mine_of w.seat ≡ [] = ap (λ (q : View T). q.mine) dealt.0.view in
+      let left = subst (λ (n : ℕ). IfLeft (Some o) (seen_of z.seat) code n z.runner y) dealt.0.thread
+      (subst (λ (q : std.Option T). IfLeft q (seen_of z.seat) code w.thread z.runner y) opened (all.0.worked.left s x from runner)) in
       let made : entries_of (t + 1) history ≡ h.made = closed (t + 1) ended.0.ended ∙ (ended.0.mine ∙ (h.mine ∙ ap (λ (l : List Entry). l ++ h.made) none)) in (
         y ∷ rest.0,
         (subst (λ (l : List Entry). Made machine t x l y) (sym made) (subst (λ (n : ℕ). Made machine n x h.made y) dealt.0.thread c.1.calls), rest.1),
         (subst (λ (n : ℕ). run code n z.runner y) dealt.0.thread c.1.stands, rest.2),
+        ((seen_of z.seat, begins_trans (seen_of z.seat) u.seen history ended.0.seen begins, left), rest.3),
       )
 
   as_many : (t : ℕ) (ws : List W) (xs : List X) → AllStand run code t (map (λ w. w.runner) ws) xs → length xs ≡ length ws
@@ -111,14 +123,15 @@ module _ {T K N X : Type 0} (program : T → Program) (part : T → State → Ty
   -- the caller's seat, before and behind the others
   pub ran : (ws zs : List W) (first u : View T) (closed : T) (history : List Entry) → v.number ≡ 0 → v.mine ≡ [] → v.ended ≡ [] → first.opened_part ≡ v.opened_part → first.number ≡ v.number → first.mine ≡ v.mine → first.ended ≡ v.ended
       → AreDealt lock v 0 ws → AllAfter ws zs → HasGathered first zs u → HasClosed (Leaves program part) (LegalFrom program part) u closed history
-      → HasRun program part run machine code o closed (map (λ w. w.runner) ws) (map (λ w. w.runner) zs)
+      → HasRun program part lacks run wants machine code o closed (map (λ w. w.runner) ws) (map (λ w. w.runner) zs)
   ran ws zs first u closed history zero_is mine_is ended_is from_is number_is same_mine same_ended dealt all gathered closes = record {
     history = history;
     same = left.0;
     many = length-map zs (λ w. w.runner) ∙ (same_many ws zs all ∙ sym (length-map ws (λ w. w.runner)));
     comes = λ s xs st stand.
-        let t = together s history u st closes.ended 0 ws zs xs dealt all gathered.all stand in
+        let t = together s history u st closes.ended closes.begins 0 ws zs xs dealt all gathered.all stand in
         (t.0, record { events = runs machine (program o) s xs t.0 history (legal s st) t.1 (none (length xs) (as_many 0 ws xs stand)); state = left.1 s st; threads = t.2 });
+    left = λ s xs st stand. (together s history u st closes.ended closes.begins 0 ws zs xs dealt all gathered.all stand).3;
   }
     where
       opened : u.opened_part ≡ Some o

@@ -1,5 +1,5 @@
 -- What a worker has done, turn by turn.
-use Rattle.std.proofs.Common.{◌≡◌, ◌∙◌, refl, sym, ap, subst, ℕ, List, [], ◌∷◌, ◌++◌, append_assoc, append-nil, IsTrue, Bool, true, false, not}
+use Rattle.std.proofs.Common.{◌≡◌, ◌∙◌, refl, sym, ap, subst, ℕ, List, [], ◌∷◌, ◌++◌, append_assoc, append-nil, inr, IsTrue, Bool, true, false, not}
 use Rattle.std.specs.Prelude.{Option, Some, None}
 use Rattle.lx_model.specs.declared.program.Program.{Program}
 use Rattle.lx_model.specs.declared.request.Reply.{Reply}
@@ -8,13 +8,13 @@ use Rattle.lx_model.specs.Serve.{serve}
 use Rattle.lx_model.specs.State.{State}
 use Rattle.lx_caplock.specs.declared.knowledge.Entry.{Entry}
 use Rattle.lx_caplock.specs.declared.knowledge.View.{View}
-use Rattle.lx_caplock.specs.Seats.{view_of, number_of, mine_of, opened_with}
-use Rattle.lx_caplock.specs.Serving.{served_by, IsLegal, LegalFrom, MayAsk}
+use Rattle.lx_caplock.specs.Seats.{view_of, number_of, seen_of, mine_of, opened_with}
+use Rattle.lx_caplock.specs.Serving.{served_by, IsLegal, LegalFrom, Leaves, MayAsk}
 use Rattle.lx_caplock.specs.History.{entry}
-use Rattle.lx_caplock.specs.Calls.{Answers, IsSameSeat}
+use Rattle.lx_caplock.specs.Calls.{Answers, Refuses, IsSameSeat}
 use Rattle.lx_threads.specs.declared.worker.Worker.{Worker}
 use Rattle.lx_threads.specs.Machines.{Machine}
-use Rattle.lx_threads.specs.Working.{StandsFrom, Opens, ComesTo, HasWorked}
+use Rattle.lx_threads.specs.Working.{StandsFrom, Opens, ComesTo, HasWorked, HasStopped}
 use Rattle.lx_threads.proofs.Runs.{made_more}
 
 legal_last : (p : Program) (s : State) (xs : List Entry) (e : Entry) → IsLegal p s (xs ++ e ∷ []) → (z : State) × (e.reply ≡ (served_by p z e).reply)
@@ -90,3 +90,17 @@ module _ {T K N X : Type 0} (part : T → State → Type 0) (runs : K → ℕ �
                 stands = absorbs y z.0 a.2 served;
               },
             )
+
+module _ {T K N X : Type 0} (program : T → Program) (part : T → State → Type 0) (lacks : T → ℕ → Request → Type 0) (runs : K → ℕ → N → X → Type 0) (wants : K → N → Type 0) (machine : Machine X) (code : K) where
+  -- the part lacks memory
+  pub stopped_asking : (old now next : Worker T N) (request : Request) → HasWorked part runs machine code old now → Refuses (Leaves program part) (LegalFrom program part) lacks old.thread request (view_of now.seat) (view_of next.seat)
+      → opened_with now.seat ≡ opened_with old.seat → ((x : X) → runs code old.thread now.runner x → runs code old.thread next.runner x) → ((x : X) → runs code old.thread now.runner x → request ≡ machine.asks old.thread x)
+      → HasStopped program part lacks runs wants machine code old next
+  unfolding worked_still
+  stopped_asking old now next request h refuses opened still asked = record {
+    worked = worked_still part runs machine code old now next h refuses.mine still;
+    left = λ s x st r work.
+        let c = h.comes s x st r in
+        let q = refuses.lacking in
+        inr (q.0, subst (λ (o : Option T). Leaves program part o q.0 (seen_of next.seat)) opened q.1, subst (λ (a : Request). lacks q.0 old.thread a) (asked c.0 c.1.stands) q.2);
+  }

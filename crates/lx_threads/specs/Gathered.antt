@@ -3,8 +3,8 @@ use Rattle.std.specs.Prelude.{◌≡◌, ◌⊎◌, ◌≤◌, ◌<◌, ◌+◌,
 use Rattle.lx_caplock.specs.declared.knowledge.View.{View}
 use Rattle.lx_caplock.specs.declared.lock.CapLock.{CapLock}
 use Rattle.lx_caplock.specs.declared.seat.Seat.{Seat}
-use Rattle.lx_caplock.specs.History.{entries_of, In}
-use Rattle.lx_caplock.specs.Seats.{IsSeatOf, number_of, ended_of, mine_of}
+use Rattle.lx_caplock.specs.History.{entries_of, Begins, In}
+use Rattle.lx_caplock.specs.Seats.{IsSeatOf, number_of, ended_of, seen_of, mine_of}
 use Rattle.lx_threads.specs.declared.worker.Worker.{Worker}
 
 -- the seat of the thread of this number, to which no other was joined
@@ -13,10 +13,11 @@ pub record IsSeated {T : Type 0} (lock : CapLock T) (t : ℕ) (seat : Seat T) : 
   pub number : number_of seat ≡ t + 1
   pub ended : ended_of seat ≡ []
 
--- the seat of the thread has ended, and all its entries are seen
+-- the seat of the thread has ended, and all its entries are seen, and all that it had seen
 pub record HasEnded {T : Type 0} (t : ℕ) (seat : Seat T) (u : View T) : Type 0 where
   pub ended : In (t + 1) u.ended
   pub mine : entries_of (t + 1) u.seen ≡ mine_of seat
+  pub seen : Begins (seen_of seat) u.seen
 
 module _ {T N : Type 0} where
   abbrev pub AreSeated : CapLock T → ℕ → List (Worker T N) → Type 0

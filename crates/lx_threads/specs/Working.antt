@@ -1,12 +1,13 @@
 -- What a worker may do and has done.
-use Rattle.std.specs.Prelude.{◌≡◌, ◌<◌, ℕ, suc, List, [], ◌∷◌, ◌++◌, Option, Some, None, length}
+use Rattle.std.specs.Prelude.{◌≡◌, ◌⊎◌, ◌<◌, ℕ, suc, IsTrue, List, [], ◌∷◌, ◌++◌, Option, Some, None, length}
 use Rattle.lx_model.specs.declared.program.Program.{Program}
 use Rattle.lx_model.specs.declared.request.Request.{Request}
 use Rattle.lx_model.specs.State.{State}
 use Rattle.lx_caplock.specs.declared.knowledge.Entry.{Entry}
 use Rattle.lx_caplock.specs.declared.lock.CapLock.{CapLock}
-use Rattle.lx_caplock.specs.Seats.{IsSeatOf, view_of, opened_with, mine_of}
-use Rattle.lx_caplock.specs.Serving.{state_after}
+use Rattle.lx_caplock.specs.History.{Begins}
+use Rattle.lx_caplock.specs.Seats.{IsSeatOf, view_of, opened_with, seen_of, mine_of}
+use Rattle.lx_caplock.specs.Serving.{Leaves, state_after}
 use Rattle.lx_caplock.specs.Calls.{IsSameSeat}
 use Rattle.lx_threads.specs.declared.worker.Worker.{Worker}
 use Rattle.lx_threads.specs.Machines.{Machine, Made, AreEvents}
@@ -42,12 +43,28 @@ pub record HasWorked {T K N X : Type 0} (part : T → State → Type 0) (runs : 
   pub mine : mine_of new.seat ≡ mine_of old.seat ++ made
   pub comes : (s : State) (x : X) → StandsFrom part (opened_with old.seat) s → runs code old.thread old.runner x → (y : X) × ComesTo runs machine code old.thread new.runner x made y
 
+module _ {T K N X : Type 0} (program : T → Program) (part : T → State → Type 0) (lacks : T → ℕ → Request → Type 0) (wants : K → N → Type 0) (machine : Machine X) where
+  -- where the thread has work left, what runs with it lacks memory for its own steps, or what this history leaves of the part lacks it for
+  -- what the thread asks next
+  abbrev pub LacksIfLeft : Option T → List Entry → K → ℕ → N → X → Type 0
+  LacksIfLeft opened seen code t runner x = IsTrue (machine.works x) → wants code runner ⊎ ((q : T) × Leaves program part opened q seen × lacks q t (machine.asks t x))
+
+  -- the same of some beginning of the history
+  abbrev pub LacksWithin : T → List Entry → K → ℕ → N → X → Type 0
+  LacksWithin opened history code t runner x = (seen : List Entry) × Begins seen history × LacksIfLeft (Some opened) seen code t runner x
+
+-- the worker has stopped: no work is left, or memory was lacking behind what its seat has seen
+pub record HasStopped {T K N X : Type 0} (program : T → Program) (part : T → State → Type 0) (lacks : T → ℕ → Request → Type 0) (runs : K → ℕ → N → X → Type 0) (wants : K → N → Type 0) (machine : Machine X) (code : K) (old new : Worker T N) : Type 0 where
+  pub worked : HasWorked part runs machine code old new
+  pub left : (s : State) (x : X) (stands : StandsFrom part (opened_with old.seat) s) (runner : runs code old.thread old.runner x)
+      → LacksIfLeft program part lacks wants machine (opened_with old.seat) (seen_of new.seat) code old.thread new.runner (worked.comes s x stands runner).0
+
 -- the worker has asked, with the seat of its lock
-pub record AfterWork {T K N X : Type 0} (part : T → State → Type 0) (runs : K → ℕ → N → X → Type 0) (machine : Machine X) (code : K) (lock : CapLock T) (old new : Worker T N) : Type 0 where
+pub record AfterWork {T K N X : Type 0} (program : T → Program) (part : T → State → Type 0) (lacks : T → ℕ → Request → Type 0) (runs : K → ℕ → N → X → Type 0) (wants : K → N → Type 0) (machine : Machine X) (code : K) (lock : CapLock T) (old new : Worker T N) : Type 0 where
   pub of : IsSeatOf lock new.seat
   pub thread : new.thread ≡ old.thread
   pub same : IsSameSeat (view_of old.seat) (view_of new.seat)
-  pub worked : HasWorked part runs machine code old new
+  pub worked : HasStopped program part lacks runs wants machine code old new
 
 -- what runs with the threads stands for states of them, the first of which has this number
 abbrev pub AllStand : {K N X : Type 0} → (K → ℕ → N → X → Type 0) → K → ℕ → List N → List X → Type 0
@@ -72,9 +89,10 @@ pub record ComesToAll {T K N X : Type 0} (part : T → State → Type 0) (runs :
   pub threads : AllStand runs code 0 runners ys
 
 -- the threads have run: there is one history of them all, and part and runners come to what it leaves, for each state of the part and
--- each list of threads for which they stood
-pub record HasRun {T K N X : Type 0} (program : T → Program) (part : T → State → Type 0) (runs : K → ℕ → N → X → Type 0) (machine : Machine X) (code : K) (opened closed : T) (old new : List N) : Type 0 where
+-- each list of threads for which they stood. A thread has work left only for want of memory
+pub record HasRun {T K N X : Type 0} (program : T → Program) (part : T → State → Type 0) (lacks : T → ℕ → Request → Type 0) (runs : K → ℕ → N → X → Type 0) (wants : K → N → Type 0) (machine : Machine X) (code : K) (opened closed : T) (old new : List N) : Type 0 where
   pub history : List Entry
   pub same : program closed ≡ program opened
   pub many : length new ≡ length old
   pub comes : (s : State) (xs : List X) → part opened s → AllStand runs code 0 old xs → (ys : List X) × ComesToAll part runs machine (program opened) code closed new history s xs ys
+  pub left : (s : State) (xs : List X) (stands : part opened s) (runners : AllStand runs code 0 old xs) → AllStand (LacksWithin program part lacks wants machine opened history) code 0 new (comes s xs stands runners).0

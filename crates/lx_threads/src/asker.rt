@@ -25,10 +25,13 @@ pub trait Asker<K> {
     /// It asks what the thread in this state asks.
     ghost asks: { K → ℕ → Self → Thread → Type 0 };
 
+    /// It may lack memory for its steps where it has come to.
+    ghost lacks: { K → Self → Type 0 };
+
     /// Threads ask only such requests.
     ghost fits: { Program → ℕ → Request → Type 0 };
 
-    ghost use Rattle.std.specs.Prelude.{◌≡◌, ◌<◌, IsTrue, IfSome, IsSome, not, OnOk};
+    ghost use Rattle.std.specs.Prelude.{◌≡◌, ◌<◌, IsTrue, IfSome, IsSome, not, OnErr, OnOk};
     ghost use Rattle.lx_model.specs.Serve.{serve};
     ghost use Rattle.lx_model.specs.State.{State};
 
@@ -39,10 +42,11 @@ pub trait Asker<K> {
     /// Takes register steps up to the next request.
     ///
     /// # Errors
-    /// Want of memory. A further call goes on from there.
+    /// Want of memory, where it may lack it. A further call goes on from there.
     fn local(&mut self, code: &K) -> Result<(), Memory>
         ensures stands { (t : ℕ) (x : Thread) → stands code.now t self.old x → stands code.now t self.new x }
-        ensures asks { OnOk result ((t : ℕ) (x : Thread) → t < 16 → stands code.now t self.old x → IsTrue ((machine code.now).works x) → asks code.now t self.new x) };
+        ensures asks { OnOk result ((t : ℕ) (x : Thread) → t < 16 → stands code.now t self.old x → IsTrue ((machine code.now).works x) → asks code.now t self.new x) }
+        ensures lacks { OnErr result (lacks code.now self.new) };
 
     /// What it asks, where it has come to a request.
     fn request(&self) -> Option<&Request>

@@ -11,9 +11,11 @@ pub(crate) struct ThreadCode {
     pub(crate) code: Code,
 }
 
+// A runner may lack memory only while it asks nothing. Which of its steps it is that lacks it is not said of them together.
 impl Asker<ThreadCode> for Runner {
-    ghost use Rattle.std.specs.Prelude.{◌≡◌, true};
+    ghost use Rattle.std.specs.Prelude.{◌≡◌, true, None};
     ghost use Rattle.lx_images.specs.Image.{ImageThread};
+    ghost use Rattle.lx_interp.specs.Runner.{request_of};
     ghost use Rattle.lx_run_laws.specs.Servable.{is_servable};
     ghost use Rattle.lx_world.specs.Worlds.{StandsFor};
     ghost use Rattle.lx_threads.specs.Imaged.{imaged};
@@ -28,6 +30,8 @@ impl Asker<ThreadCode> for Runner {
     ghost stands = { λ text t r v. StandsFor text.code t r v };
 
     ghost asks = { λ text t r v. AsksOf text.code t r v };
+
+    ghost lacks = { λ text r. request_of r ≡ None };
 
     ghost fits = { λ p t r. is_servable p t r ≡ true };
 

@@ -32,14 +32,14 @@ fn work_all<
 ) -> Result<Vec<Worker<T, N>>, AllocError>
     requires { (i : ℕ) (w : _) → i < length workers.items → w ≡ slice_index_or workers.items i w → IsSeatOf lock.now w.seat × MayWork T.program T.stands T.takes N.program N.stands N.fits code.now w }
     ensures many { IfOk result (λ done. length done.items ≡ length workers.items) }
-    ensures each { IfOk result (λ done. (i : ℕ) (d : _) (w : _) → i < length workers.items → w ≡ slice_index_or workers.items i w → AfterWork T.stands N.stands (N.machine code.now) code.now lock.now w (slice_index_or done.items i d)) }
+    ensures each { IfOk result (λ done. (i : ℕ) (d : _) (w : _) → i < length workers.items → w ≡ slice_index_or workers.items i w → AfterWork T.program T.stands T.lacks N.stands N.lacks (N.machine code.now) code.now lock.now w (slice_index_or done.items i d)) }
 {
     thread::map_vec(
         rt,
         workers,
         &|worker| -> Worker<T, N>
             requires { IsSeatOf lock.now worker.seat × MayWork T.program T.stands T.takes N.program N.stands N.fits code.now worker }
-            ensures { AfterWork T.stands N.stands (N.machine code.entry.now) code.entry.now lock.entry.now worker result }
+            ensures { AfterWork T.program T.stands T.lacks N.stands N.lacks (N.machine code.entry.now) code.entry.now lock.entry.now worker result }
         { work(rt, lock, code, gate, worker) },
     )
 }
@@ -49,7 +49,8 @@ fn work_all<
 /// there is room for what may still come, holds of what comes back too.
 ///
 /// A worker stops where its thread has no work left, or where serving or its own steps meet want of memory: its runner then
-/// comes back with work. Where no thread can be made for a worker, the caller runs it.
+/// comes back with work. It does so only where the runner lacks memory for its steps, or where the part, as a beginning of the
+/// history leaves it, may lack it for what the thread asks. Where no thread can be made for a worker, the caller runs it.
 ///
 /// # Errors
 /// Want of memory for the lock, its seats or the lists: the part and the runners are given up.
@@ -69,7 +70,7 @@ pub fn run_workers<
 ) -> Result<(T, Vec<N>), Memory>
     requires few { length runners.items ≤ 16 }
     requires may { MayRun T.program T.stands T.takes N.program N.stands N.fits code.now part runners.items }
-    ensures { IfOk result (λ r. HasRun T.program T.stands N.stands (N.machine code.now) code.now part r.0 runners.items r.1.items) }
+    ensures { IfOk result (λ r. HasRun T.program T.stands T.lacks N.stands N.lacks (N.machine code.now) code.now part r.0 runners.items r.1.items) }
 {
     let seats = runners.len() as u32 + 1;
     let (lock, mut seat) = CapLock::open(alloc, part, seats)?;

@@ -2,7 +2,7 @@
 ghost use Rattle.std.specs.Prelude.{◌≡◌};
 ghost use Rattle.lx_caplock.specs.Seats.{IsSeatOf, view_of};
 ghost use Rattle.lx_caplock.specs.Calls.{IsSameSeat};
-ghost use Rattle.lx_threads.specs.Working.{MayWork, HasWorked};
+ghost use Rattle.lx_threads.specs.Working.{MayWork, HasStopped};
 
 use crate::asker::Asker;
 use crate::worker::Worker;
@@ -10,7 +10,7 @@ use lx_caplock::{CapLock, Part};
 use lx_outside::{Gate, GatePlace};
 use std::sync::Wait;
 
-/// Runs one thread until it has no work left or there is no memory. It passes the gate without the lock, before its
+/// Runs one thread until it has no work left, or it or the part lacks memory. It passes the gate without the lock, before its
 /// register steps and before each request.
 pub(crate) fn work<T: Part + Drop, K, N: Asker<K> + Drop, G: Gate, R: Wait>(
     rt: &R,
@@ -24,7 +24,7 @@ pub(crate) fn work<T: Part + Drop, K, N: Asker<K> + Drop, G: Gate, R: Wait>(
     ensures of { IsSeatOf lock.now result.seat }
     ensures thread { result.thread ≡ worker.thread }
     ensures same { IsSameSeat (view_of worker.seat) (view_of result.seat) }
-    ensures worked { HasWorked T.stands N.stands (N.machine code.now) code.now worker result }
+    ensures worked { HasStopped T.program T.stands T.lacks N.stands N.lacks (N.machine code.now) code.now worker result }
 {
     let Worker {
         thread,

@@ -2,7 +2,7 @@ use Rattle.std.proofs.Common.{ℕ, refl, sym, subst}
 use Rattle.lx_caplock.specs.Seats.{view_of, opened_with}
 use Rattle.lx_threads.specs.declared.worker.Worker.{Worker}
 use Rattle.lx_threads.specs.Working.{Opens}
-use Rattle.lx_threads.proofs.Turning.{works_on, same_trans, may_ask, worked_none, worked_more, comes_now}
+use Rattle.lx_threads.proofs.Turning.{works_on, same_trans, may_ask, worked_none, worked_more, comes_now, stopped_asking}
 use Rattle.lx_threads.proofs.work.work.Goals as goal
 
 pub loop-init : goal.loop-init
@@ -43,3 +43,16 @@ loop-preserved g c =
           (work, c.in-Some-request.ensures.asked code t x asks, asks))
           (λ x s asks is. c.absorb.ensures t x s asks is);
     }
+
+pub returns-in_default-ask-clause-worked : goal.returns-in_default-ask-clause-worked
+returns-in_default-ask-clause-worked g c =
+    let code = c.args.code.now in
+    let t : ℕ = c.args.worker.thread in
+    let i = c.loop.invariant in
+    let now : Worker g.row.T.Denot g.row.N.Denot = record { thread = t; seat = c.loop.seat; runner = c.loop.runner } in
+    let next : Worker g.row.T.Denot g.row.N.Denot = record { thread = t; seat = c.ask.new.seat; runner = c.local.new.self } in
+    stopped_asking g.T.Part.program g.T.Part.stands g.T.Part.lacks g.N.Asker.stands g.N.Asker.lacks (g.N.Asker.machine code) code c.args.worker now next c.in-Some-request.request.now
+    i.worked c.in_default-ask.ensures.answer i.same.opened_part (λ x st. c.local.ensures.stands t x st)
+    (λ x st.
+    let work = works_on c.done.result _ (c.done.ensures code t x st) c.if-done.false in
+    c.in-Some-request.ensures.asked code t x (c.in-Ok.ensures.asks t x c.requires.may.thread st work))
