@@ -28,6 +28,8 @@ impl Part for Counter {
 
     ghost takes = { λ p t r. ⊤ };
 
+    ghost lacks = { λ part t r. ⊤ };
+
     fn serve(&mut self, _thread: u32, request: &Request) -> Result<Reply, Memory> {
         let What::Finish { outcome } = &request.what else {
             return Err(Memory);
@@ -63,6 +65,8 @@ impl Asker<()> for Caller {
     ghost stands = { λ code t caller x. (x.left ≡ caller.left) × (x.request ≡ caller.request) };
 
     ghost asks = { λ code t caller x. (x.left ≡ caller.left) × (x.request ≡ caller.request) };
+
+    ghost lacks = { λ code caller. ⊥ };
 
     ghost fits = { λ p t r. ⊤ };
 
