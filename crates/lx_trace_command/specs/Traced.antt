@@ -1,5 +1,5 @@
 -- What the tracing program answers, and what it writes.
-use Rattle.std.specs.Prelude.{◌≡◌, ℕ, ◌<◌, ◌&&◌, List, [], ◌∷◌, ◌++◌, codes, length, take, Option, Some, None, option_copied, Result, Ok, Err, if◌then◌else◌}
+use Rattle.std.specs.Prelude.{◌≡◌, ℕ, Bool, ◌<◌, ◌&&◌, List, [], ◌∷◌, ◌++◌, codes, length, take, Option, Some, None, option_copied, Result, Ok, Err, if◌then◌else◌}
 use Rattle.std.specs.List.{Contains}
 use Rattle.lx_input.specs.Files.InputStop.{InputStop}
 use Rattle.lx_input.specs.Files.InputStop.TheVariants as stops
@@ -91,3 +91,8 @@ pub record HasWrittenPart (asked : Option Command) (turn : Result Input InputSto
 -- no name that is new among the shelf's faults is a file that is asked for
 abbrev pub NoNewFault : List (List ℕ) → List (List ℕ) → (Result Input InputStop → Type 0) → Type 0
 NoNewFault before now turn = (more : List (List ℕ)) (name : List ℕ) → now ≡ before ++ more → Contains more name → turn (Err (stops.Unread name)) → ⊥
+
+-- what is traced where a schedule is named: the run under that schedule, or which of its entries is the first without work
+pub record TraceCommandLaws : Type 0 where
+  pub named : (i : Input) (s text : List ℕ) (returned : Bool) → i.besides.schedule ≡ Some s → TellsTraceOf i (answer.Report text returned) → IsTrace i.program i.script s returned text
+  pub broken : (i : Input) (s : List ℕ) (entry : ℕ) → i.besides.schedule ≡ Some s → TellsTraceOf i (answer.Broken entry) → broken_at i.program s (opening i.program i.script) ≡ Some entry

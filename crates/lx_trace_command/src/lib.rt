@@ -9,7 +9,9 @@
 #![tactic(auto)]
 
 mod answer;
+mod laws;
 mod top;
 mod words;
 
+pub use laws::trace_command_laws;
 pub use top::lxfi_trace;
