@@ -1,3 +1,4 @@
 pub mod Pairs
 pub mod Listings
 pub mod Told
+pub mod Sharing

@@ -1,5 +1,5 @@
 -- What is known of the writers of a slot.
-use Rattle.std.specs.Prelude.{◌≡◌, ℕ, Bool, false, not, ◌&&◌, nat_lt, Some, None, List, [], ◌∷◌}
+use Rattle.std.specs.Prelude.{◌≡◌, ℕ, Bool, true, false, not, ◌&&◌, nat_lt, Option, Some, None, List, [], ◌∷◌}
 use Rattle.lx_caps.specs.declared.Principal.{Principal}
 use Rattle.lx_caps.specs.declared.Cap.TheVariants.{Call}
 use Rattle.lx_caps.specs.History.{History, holds}
@@ -22,6 +22,10 @@ is_known modules names (Inst m k) = nat_lt m modules && nat_lt k (instance_count
 -- it is one, and does not hold the call
 abbrev pub lacks : ℕ → Namings → History → ℕ → Principal → Bool
 lacks modules names h a q = is_known modules names q && not (holds h q (Call a))
+
+-- the shared principal of this module, if it is one, holds the call in each history that the store stands for
+abbrev pub IsShared : (History → Type 0) → Option ℕ → ℕ → Type 0
+IsShared stands home a = (m : ℕ) → home ≡ Some m → (h : History) → stands h → holds h (Shared m) (Call a) ≡ true
 
 -- there is no writer; each of them holds the call; or this is the first that does not
 abbrev pub AreTold : State → ℕ → ℕ → List Principal → SlotWriters → Type 0

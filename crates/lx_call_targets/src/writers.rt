@@ -1,11 +1,13 @@
 //! What the writers of a slot hold.
-ghost use Rattle.std.specs.Prelude.{◌≡◌, ◌+◌, ◌≤◌, ◌^◌, ℕ, filter};
+ghost use Rattle.std.specs.Prelude.{◌≡◌, ◌+◌, ◌≤◌, ◌^◌, ℕ, IsTrue, filter, true};
 ghost use Rattle.std.specs.List.{flat_map};
-ghost use Rattle.lx_caps.specs.History.{History};
+ghost use Rattle.lx_caps.specs.declared.Cap.TheVariants.{Call};
+ghost use Rattle.lx_caps.specs.declared.Principal.TheVariants.{Shared};
+ghost use Rattle.lx_caps.specs.History.{History, holds};
 ghost use Rattle.lx_caps.specs.Writers.{is_slot_writer};
 ghost use Rattle.lx_model.specs.State.{State, module_principals};
 ghost use Rattle.lx_slot_types.specs.Gets.{below};
-ghost use Rattle.lx_call_targets.specs.Writers.{AreTold, is_known, lacks};
+ghost use Rattle.lx_call_targets.specs.Writers.{AreTold, IsShared, is_known, lacks};
 ghost use Rattle.lx_writer_sets.specs.Sets.{IsFirstWriter, IsSomeWriter};
 ghost use Rattle.lx_writer_sets.specs.RecordedStands.{StandsRecorded};
 
@@ -53,12 +55,39 @@ impl PrincipalTest for Known<'_> {
     }
 }
 
+/// Whether the principal is the shared one of a module or one of its instances: it holds what the shared one holds.
+#[tactic(auto, using(crate::proofs::Sharing::shared_itself, crate::proofs::Sharing::instance_holds))]
+fn is_under(home: u32, who: Principal) -> bool
+    ensures { IsTrue result → (h : History) → (a : ℕ) → holds h (Shared home) (Call a) ≡ true → holds h who (Call a) ≡ true }
+{
+    match who {
+        Principal::Shared(of) => of == home,
+        Principal::Inst(of, _) => of == home,
+        Principal::Kernel | Principal::Global(_) => false,
+    }
+}
+
 /// The principals that there are and that do not hold the call of the function at an address.
 #[derive(Drop)]
 struct Lacking<'a, C: CapStore + Drop> {
     caps: &'a Recorded<C>,
     names: &'a Principals,
     at: u64,
+    // A module whose shared principal holds the call, and with it each of its instances: so these need not be looked up.
+    sharing: Option<u32>,
+    ghost shared: { IsShared (StandsRecorded C.stands caps.now) sharing at },
+}
+
+impl<C: CapStore + Drop> Lacking<'_, C> {
+    /// Whether the principal holds the call since the shared one of its module is known to hold it.
+    fn shares(&self, who: Principal) -> bool
+        ensures { IsTrue result → (h : History) → StandsRecorded C.stands self.now.caps.now h → holds h who (Call self.now.at) ≡ true }
+    {
+        match self.sharing {
+            Some(home) => is_under(home, who),
+            None => false,
+        }
+    }
 }
 
 impl<C: CapStore + Drop> PrincipalTest for Lacking<'_, C> {
@@ -69,7 +98,25 @@ impl<C: CapStore + Drop> PrincipalTest for Lacking<'_, C> {
     ghost stands = { λ lacking p. (h : History) × StandsRecorded C.stands lacking.caps.now h × (p ≡ lacks lacking.names.now.modules lacking.names.now.names h lacking.at) };
 
     fn passes(&self, who: Principal) -> bool {
-        is_known(self.names, who) && !self.caps.holds(who, Cap::Call { at: self.at })
+        is_known(self.names, who)
+            && !self.shares(who)
+            && !self.caps.holds(who, Cap::Call { at: self.at })
+    }
+}
+
+/// The module of a principal, where its shared principal holds the call of the function at an address.
+fn sharing_of<C: CapStore + Drop>(caps: &Recorded<C>, who: Principal, at: u64) -> Option<u32>
+    ensures { IsShared (StandsRecorded C.stands caps.now) result at }
+{
+    match who {
+        Principal::Shared(home) | Principal::Global(home) | Principal::Inst(home, _) => {
+            if caps.holds(Principal::Shared(home), Cap::Call { at }) {
+                Some(home)
+            } else {
+                None
+            }
+        }
+        Principal::Kernel => None,
     }
 }
 
@@ -85,17 +132,28 @@ fn some_known<C: CapStore + Drop>(
     caps.some_writer(slot, &Known { names })
 }
 
-/// The first writer of a slot that there is and that does not hold the call.
+/// The first writer of a slot that there is and that does not hold the call. What the shared principal of one writer's module holds is asked
+/// once.
 fn first_lacking<C: CapStore + Drop>(
     caps: &Recorded<C>,
     names: &Principals,
     slot: u64,
     at: u64,
+    writer: Principal,
 ) -> Option<Principal>
     requires { slot + 8 ≤ 2 ^ 64 }
     ensures { (h : History) → StandsRecorded C.stands caps.now h → IsFirstWriter h slot (lacks names.now.modules names.now.names h at) result }
 {
-    caps.first_writer(slot, &Lacking { caps, names, at })
+    let sharing = sharing_of(caps, writer, at);
+    caps.first_writer(
+        slot,
+        &Lacking {
+            caps,
+            names,
+            at,
+            sharing,
+        },
+    )
 }
 
 /// Whether the writers of a slot hold the call of the function at an address: the principals that owned one of the slot's
@@ -114,7 +172,7 @@ pub fn slot_writers<C: CapStore + Drop>(
 {
     match some_known(caps, names, slot) {
         None => SlotWriters::Nobody,
-        Some(_) => match first_lacking(caps, names, slot, at) {
+        Some(one) => match first_lacking(caps, names, slot, at, one) {
             Some(writer) => SlotWriters::Lacks(writer),
             None => SlotWriters::AllHold,
         },

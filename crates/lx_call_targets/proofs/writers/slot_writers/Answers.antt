@@ -20,6 +20,6 @@ returns-in-Some-first_lacking g c = λ s stands.
 pub returns-in-None-first_lacking : goal.returns-in-None-first_lacking
 returns-in-None-first_lacking g c = λ s stands.
     let names = c.args.names.now in
-    all_hold s c.args.slot c.args.at names.names names.modules c.in-Some.field-0
+    all_hold s c.args.slot c.args.at names.names names.modules c.in-Some.one
     (subst (IsSomeWriter s.history c.args.slot (is_known names.modules names.names)) c.in-Some.is (c.some_known.ensures s.history stands))
     (subst (IsFirstWriter s.history c.args.slot (lacks names.modules names.names s.history c.args.at)) c.in-None-first_lacking.is (c.first_lacking.ensures s.history stands))
