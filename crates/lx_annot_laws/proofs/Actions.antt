@@ -22,7 +22,7 @@ use Rattle.lx_annot_terms.specs.Lists.{Known}
 use Rattle.lx_annot_terms.specs.ItemReading.{scope_of_items}
 use Rattle.lx_annot_terms.specs.Grammar.{IsKnown, is_list_word, IsIterator, IsList, IsItemList, IsDeed, IsAction, IsItemBy, IsItem}
 use Rattle.lx_annot_read.specs.Interfaces.{iterator_names}
-use Rattle.lx_annot_grammar.specs.Parts.{IsFurther, IsItems}
+use Rattle.lx_annot_laws.specs.Parts.{IsFurther, IsItems}
 use Rattle.lx_cproto_print.specs.Printed.{expr_text, list_text, action_text, item_params, item_list_text, condition_text, item_text, items_text, is_end}
 use Rattle.lx_annot_laws.specs.Says.{is_apart, tok, Says, IsWord, AreLexed}
 use Rattle.lx_annot_laws.proofs.Pieces.{a_comma, a_semicolon, an_open, a_close, regroup, beside, same_text, reads_as, nothing, word_token, word_is, space, closed, spaced, comma, called_by, called}

@@ -3,8 +3,8 @@ use Rattle.std.proofs.Common.{◌≡◌, ◌∙◌, ap}
 use Rattle.lx_words.specs.TextLaws.{NumberTexts}
 use Rattle.lx_annot.specs.declared.interface.Interface.{Interface}
 use Rattle.lx_annot_read.specs.Aside.{lines_aside}
-use Rattle.lx_annot_grammar.specs.Laws.{InterfacesAreRead, InterfacesAreFound, OneInterface, NotBoth}
-use Rattle.lx_annot_grammar.specs.Statements.{IsInterface}
+use Rattle.lx_annot_laws.specs.GrammarLaws.{InterfacesAreRead, InterfacesAreFound, OneInterface, NotBoth}
+use Rattle.lx_annot_laws.specs.Statements.{IsInterface}
 use Rattle.lx_cproto_print.specs.Printed.{interface_text}
 use Rattle.lx_annot_laws.specs.RoundTripLaws.{IsReadAgain, SayableAreRead}
 use Rattle.lx_annot_laws.proofs.PrintedWhole.{is_again}

@@ -17,7 +17,7 @@ use Rattle.lx_annot_expressions.specs.Grammar.{◌then◌, IsExpr}
 use Rattle.lx_annot_terms.specs.Lists.{Known}
 use Rattle.lx_annot_terms.specs.Signatures.{Signature}
 use Rattle.lx_annot_terms.specs.Clauses.{scope_before, scope_behind}
-use Rattle.lx_annot_grammar.specs.Parts.{Clause, Principal, Pre, Post, IsWho, IsClause, IsClauses, principals, pres, posts, listed, Say, IsAnnotation}
+use Rattle.lx_annot_laws.specs.Parts.{Clause, Principal, Pre, Post, IsWho, IsClause, IsClauses, principals, pres, posts, listed, Say, IsAnnotation}
 use Rattle.lx_cproto_print.specs.Printed.{action_text, is_end, who_text, principal_text, clause_text, clauses_text}
 use Rattle.lx_annot_laws.specs.Says.{is_apart, Says, IsWord, AreLexed}
 use Rattle.lx_annot_laws.specs.PrintedPartLaws.{AreFree}

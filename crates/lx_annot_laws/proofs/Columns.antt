@@ -13,7 +13,7 @@ use Rattle.lx_annot.specs.Canonical.{Text}
 use Rattle.lx_annot_expressions.specs.Names.{number_among}
 use Rattle.lx_annot_read.specs.declared.head.Version.TheVariants as versions
 use Rattle.lx_annot_read.specs.Interfaces.{empty}
-use Rattle.lx_annot_grammar.specs.Statements.{Statement, IsStatement, with_statement}
+use Rattle.lx_annot_laws.specs.Statements.{Statement, IsStatement, with_statement}
 use Rattle.lx_annot_laws.proofs.Said.{SaysLine, AreSaid, after, said_joined, after_joined}
 
 -- One of a list.

@@ -19,7 +19,7 @@ use Rattle.lx_annot_terms.specs.Lists.{Known}
 use Rattle.lx_annot_read.specs.declared.head.Version.{Version}
 use Rattle.lx_annot_read.specs.declared.head.Version.TheVariants as versions
 use Rattle.lx_annot_read.specs.Interfaces.{iterator_names, slot_names, export_names, known_in, is_typed, with_reftype, with_iterator, with_slot, with_field, with_export, empty}
-use Rattle.lx_annot_grammar.proofs.Lawful.{iterator_name, slot_name, export_name, differs_more}
+use Rattle.lx_annot_laws.proofs.Lawful.{iterator_name, slot_name, export_name, differs_more}
 use Rattle.lx_annot_laws.specs.Says.{IsWord}
 use Rattle.lx_annot_laws.specs.Grows.{Grows}
 use Rattle.lx_annot_laws.specs.Sayable.{IsSayable, IsSayableSlot, IsSayableExport, IsSayableIterator, IsSayableField}

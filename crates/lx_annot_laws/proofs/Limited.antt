@@ -25,7 +25,7 @@ use Rattle.lx_annot_read.specs.declared.fault.Met.{Met}
 use Rattle.lx_annot_read.specs.Faults.{kind_of, fault_of, answered, met_as, last_line, lexical, met_at_end, met_at}
 use Rattle.lx_annot_read.specs.Said.{what_of}
 use Rattle.lx_annot_read.specs.Texts.{window, rest_behind, place_of, fault_in, seen, limited}
-use Rattle.lx_annot_grammar.proofs.TextLaws.{room, further, limited_read, limited_ok, front_found}
+use Rattle.lx_annot_laws.proofs.TextLaws.{room, further, limited_read, limited_ok, front_found}
 use Rattle.lx_annot_laws.specs.RefusedLaws.{is_refused}
 use Rattle.lx_annot_laws.specs.RefusedPartLaws.{is_refusal, is_bound}
 use Rattle.lx_annot_laws.proofs.Local.{Looks, Tidy, Bound, Split, no_longer, same_split, Local}

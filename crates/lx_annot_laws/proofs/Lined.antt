@@ -15,7 +15,7 @@ use Rattle.lx_annot_read.specs.Head.{may_lend}
 use Rattle.lx_annot_read.specs.Interfaces.{known_in, is_field, is_typed}
 use Rattle.lx_annot_read.specs.Aside.{iterator_aside, slot_aside, field_aside, export_aside}
 use Rattle.lx_annot_read.proofs.Aside.{Same, same_reftypes, same_iterators, same_slots, same_exports}
-use Rattle.lx_annot_grammar.specs.Statements.{Statement, OfReftype, OfIterator, OfSlot, OfField, OfExport, IsFresh, IsIteratorBody, IsCallable, IsStruct, IsIndex, IsStatement, IsInLine, with_statement}
+use Rattle.lx_annot_laws.specs.Statements.{Statement, OfReftype, OfIterator, OfSlot, OfField, OfExport, IsFresh, IsIteratorBody, IsCallable, IsStruct, IsIndex, IsStatement, IsInLine, with_statement}
 
 -- a statement in this line
 abbrev pub lined : ℕ → Statement → Statement

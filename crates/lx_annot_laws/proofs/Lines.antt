@@ -33,9 +33,9 @@ use Rattle.lx_annot_terms.specs.ItemReading.{scope_of_items}
 use Rattle.lx_annot_terms.specs.Grammar.{IsKnown, IsItemList, IsItemBy, IsItem}
 use Rattle.lx_annot_read.specs.declared.head.Version.TheVariants as versions
 use Rattle.lx_annot_read.specs.Interfaces.{iterator_names, slot_names, greatest_index}
-use Rattle.lx_annot_grammar.specs.Parts.{IsFurther, IsParamName, IsItems, IsSignature, IsAnnotation}
-use Rattle.lx_annot_grammar.specs.Statements.{Statement, OfReftype, OfIterator, OfSlot, OfField, OfExport, IsFresh, IsIteratorBody, IsCallable, IsStruct, IsIndex, IsField, IsStatement}
-use Rattle.lx_annot_grammar.proofs.Lawful.{iterator_name, slot_name, export_name}
+use Rattle.lx_annot_laws.specs.Parts.{IsFurther, IsParamName, IsItems, IsSignature, IsAnnotation}
+use Rattle.lx_annot_laws.specs.Statements.{Statement, OfReftype, OfIterator, OfSlot, OfField, OfExport, IsFresh, IsIteratorBody, IsCallable, IsStruct, IsIndex, IsField, IsStatement}
+use Rattle.lx_annot_laws.proofs.Lawful.{iterator_name, slot_name, export_name}
 use Rattle.lx_cproto_print.specs.Printed.{type_text, params_text, head_text, enclosed_text, clauses_text, callable_text, name_text, items_text, reftype_line, iterator_line, slot_line, field_line, export_line}
 use Rattle.lx_annot_laws.specs.Says.{tok, Says, IsWord}
 use Rattle.lx_annot_laws.proofs.Pieces.{regroup, beside, same_text, reads_as, token, word_token, word_is, space, closed, mark_is, spaced}

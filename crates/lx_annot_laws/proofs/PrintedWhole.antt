@@ -11,7 +11,7 @@ use Rattle.lx_annot.specs.declared.interface.Interface.{Interface}
 use Rattle.lx_annot_read.specs.declared.head.Version.TheVariants as versions
 use Rattle.lx_annot_read.specs.Interfaces.{empty}
 use Rattle.lx_annot_read.specs.Aside.{lines_aside}
-use Rattle.lx_annot_grammar.specs.Statements.{Statement, IsHead, IsInterface}
+use Rattle.lx_annot_laws.specs.Statements.{Statement, IsHead, IsInterface}
 use Rattle.lx_cproto_print.specs.Printed.{interface_text}
 use Rattle.lx_annot_laws.specs.Says.{text_of, AreLaid, IsWord}
 use Rattle.lx_annot_laws.proofs.Pieces.{texts_joined, laid_joined, spaced, word_is, token, one_token}

@@ -16,9 +16,9 @@ use Rattle.lx_annot_expressions.specs.Tokens.{Tok, toks_of}
 use Rattle.lx_annot_terms.specs.Lists.{Known}
 use Rattle.lx_annot_terms.specs.Signatures.{Signature}
 use Rattle.lx_annot_read.specs.Interfaces.{iterator_names, slot_names, export_names, with_slot, greatest_index, empty}
-use Rattle.lx_annot_grammar.specs.Parts.{IsFurther}
-use Rattle.lx_annot_grammar.proofs.Lawful.{slot_name}
-use Rattle.lx_annot_grammar.proofs.Counts.{scanned_few}
+use Rattle.lx_annot_laws.specs.Parts.{IsFurther}
+use Rattle.lx_annot_laws.proofs.Lawful.{slot_name}
+use Rattle.lx_annot_laws.proofs.Counts.{scanned_few}
 use Rattle.lx_annot_laws.specs.Says.{IsWord, AreLexed}
 use Rattle.lx_annot_laws.specs.Sayable.{AreSayableParams, IsSayableCallable, IsSayable}
 use Rattle.lx_annot_laws.proofs.Lexed.{front_lexed, back_lexed, toks_split}
@@ -26,9 +26,9 @@ use Rattle.lx_annot_laws.proofs.SayableParts.{fresh_word, fresh_new, param_more,
 use Rattle.lx_annot_laws.proofs.Kept.{reftype_kept, iterator_kept, slot_kept, field_kept, export_kept, empty_sayable}
 use Rattle.lx_cproto.specs.Types.{type_at}
 use Rattle.lx_cproto.specs.Statements.{may_use}
-use Rattle.lx_cproto_grammar.specs.Parts.{IsParam, IsParams, IsCallable}
-use Rattle.lx_cproto_grammar.specs.Declarations.{Member, Plain, Holds, Declaration, OfReftype, OfIterator, OfPrototype, OfStruct, name_of, with_member, field_of, IsMember, AreMembers, IsStruct, IsPlain, with_plain, Declares, structs_behind, AreDeclarations, ArePrototypes}
-use Rattle.lx_cproto_grammar.proofs.TypeFronts.{type_steady}
+use Rattle.lx_annot_laws.specs.PrototypeParts.{IsParam, IsParams, IsCallable}
+use Rattle.lx_annot_laws.specs.Declarations.{Member, Plain, Holds, Declaration, OfReftype, OfIterator, OfPrototype, OfStruct, name_of, with_member, field_of, IsMember, AreMembers, IsStruct, IsPlain, with_plain, Declares, structs_behind, AreDeclarations, ArePrototypes}
+use Rattle.lx_annot_laws.proofs.TypeFronts.{type_steady}
 use Rattle.lx_annot_laws.proofs.Lexemes.{scanned_lexed}
 use Rattle.lx_annot_laws.proofs.Structs.{IsOf, IsOfThese, struct_said, no_field, later, old_or_last}
 

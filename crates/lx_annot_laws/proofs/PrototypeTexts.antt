@@ -15,8 +15,8 @@ use Rattle.lx_annot_laws.proofs.Alike.{alike_local}
 use Rattle.lx_annot_laws.proofs.Refused.{stand_nowhere}
 use Rattle.lx_cproto.specs.Statements.{Declared, nothing, step_at}
 use Rattle.lx_cproto.specs.Texts.{head_at, first_at, more_at, body_at, end_by, end_at, interface_at}
-use Rattle.lx_cproto_grammar.specs.Laws.{NotBoth}
-use Rattle.lx_cproto_grammar.specs.Declarations.{ArePrototypes}
+use Rattle.lx_annot_laws.specs.PrototypeGrammarLaws.{NotBoth}
+use Rattle.lx_annot_laws.specs.Declarations.{ArePrototypes}
 use Rattle.lx_annot_laws.specs.PrototypeRefusedLaws.{RefusedPrototypeTokensStandNowhere}
 use Rattle.lx_annot_laws.proofs.PrototypeStatements.{head_plain}
 use Rattle.lx_annot_laws.proofs.Outside.{step_plain, step_hungry}

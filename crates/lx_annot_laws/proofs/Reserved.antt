@@ -15,7 +15,7 @@ use Rattle.lx_annot_expressions.specs.Exprs.{Scope, greatest_number, param_at, n
 use Rattle.lx_annot_expressions.specs.Operators.{levels, prefix_next}
 use Rattle.lx_annot_expressions.specs.Grammar.{Form, Flat, Bracket, Load, Prefix, Joined, IsForm, IsExpr}
 use Rattle.lx_annot_terms.specs.Signatures.{is_reserved}
-use Rattle.lx_annot_grammar.proofs.Named.{known_there}
+use Rattle.lx_annot_laws.proofs.GrammarNames.{known_there}
 use Rattle.lx_annot_laws.specs.Says.{tok}
 use Rattle.lx_annot_laws.specs.PrintedPartLaws.{AreFree}
 use Rattle.lx_annot_laws.proofs.Named.{known_named}

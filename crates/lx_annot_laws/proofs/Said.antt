@@ -9,7 +9,7 @@ use Rattle.lx_words.specs.Cuts.{Piece}
 use Rattle.lx_annot.specs.declared.interface.Interface.{Interface}
 use Rattle.lx_annot_expressions.specs.Grammar.{Part}
 use Rattle.lx_annot_read.specs.declared.head.Version.TheVariants as versions
-use Rattle.lx_annot_grammar.specs.Statements.{Statement, IsStatement, with_statement}
+use Rattle.lx_annot_laws.specs.Statements.{Statement, IsStatement, with_statement}
 use Rattle.lx_annot_laws.specs.Says.{text_of, AreLaid, toks, Says}
 use Rattle.lx_annot_laws.proofs.Pieces.{texts_joined, toks_joined, laid_joined}
 

@@ -7,9 +7,9 @@ use Rattle.lx_annot_expressions.specs.Tokens.{Tok, toks_of}
 use Rattle.lx_annot_terms.specs.Signatures.{Signature}
 use Rattle.lx_annot_read.specs.declared.head.Version.{Version}
 use Rattle.lx_annot_read.specs.Interfaces.{iterator_names, slot_names, export_names, known_in, greatest_index, empty}
-use Rattle.lx_annot_grammar.specs.Statements.{Statement, OfReftype, OfIterator, OfSlot, OfField, OfExport, IsStruct, IsStatement, with_statement, AreStatements, IsInterface}
-use Rattle.lx_annot_grammar.proofs.Lawful.{slot_name}
-use Rattle.lx_annot_grammar.proofs.Named.{known_there}
+use Rattle.lx_annot_laws.specs.Statements.{Statement, OfReftype, OfIterator, OfSlot, OfField, OfExport, IsStruct, IsStatement, with_statement, AreStatements, IsInterface}
+use Rattle.lx_annot_laws.proofs.Lawful.{slot_name}
+use Rattle.lx_annot_laws.proofs.GrammarNames.{known_there}
 use Rattle.lx_annot_laws.specs.Says.{AreLexed}
 use Rattle.lx_annot_laws.proofs.Named.{number_within}
 use Rattle.lx_annot_laws.specs.Sayable.{IsStructName, IsSayable}

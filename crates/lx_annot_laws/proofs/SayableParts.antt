@@ -15,9 +15,9 @@ use Rattle.lx_annot_expressions.specs.Exprs.{names_of_params}
 use Rattle.lx_annot_terms.specs.Lists.{Known}
 use Rattle.lx_annot_terms.specs.Signatures.{Signature, is_reserved}
 use Rattle.lx_annot_terms.specs.ItemReading.{scope_of_items}
-use Rattle.lx_annot_grammar.specs.Parts.{IsFurther, IsParamName, IsParam, IsParams, IsSignature}
-use Rattle.lx_annot_grammar.specs.Statements.{IsFresh, IsIteratorBody, IsCallable}
-use Rattle.lx_annot_grammar.proofs.Lawful.{fresh_differs, param_name, differs_more, none_differ}
+use Rattle.lx_annot_laws.specs.Parts.{IsFurther, IsParamName, IsParam, IsParams, IsSignature}
+use Rattle.lx_annot_laws.specs.Statements.{IsFresh, IsIteratorBody, IsCallable}
+use Rattle.lx_annot_laws.proofs.Lawful.{fresh_differs, param_name, differs_more, none_differ}
 use Rattle.lx_annot_laws.specs.Says.{IsWord, IsLexed, AreLexed}
 use Rattle.lx_annot_laws.specs.Grows.{Grows}
 use Rattle.lx_annot_laws.proofs.Named.{fresh_named}

@@ -20,7 +20,7 @@ use Rattle.lx_annot_expressions.specs.Names.{number_among, fresh_of}
 use Rattle.lx_annot_expressions.specs.Exprs.{names_of_params}
 use Rattle.lx_annot_expressions.specs.Grammar.{Is, ◌then◌}
 use Rattle.lx_annot_terms.specs.Signatures.{Signature, type_of, is_reserved}
-use Rattle.lx_annot_grammar.specs.Parts.{IsFurther, IsType, IsParamName, IsParam, IsParams, IsSignature}
+use Rattle.lx_annot_laws.specs.Parts.{IsFurther, IsType, IsParamName, IsParam, IsParams, IsSignature}
 use Rattle.lx_cproto_print.specs.Printed.{type_text, param_text, params_text}
 use Rattle.lx_annot_laws.specs.Says.{is_apart, tok, Says, IsWord}
 use Rattle.lx_annot_laws.proofs.Pieces.{a_comma, an_open, a_close, beside, nothing, word_token, mark_is, space, closed, spaced}

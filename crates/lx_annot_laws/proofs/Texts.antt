@@ -12,8 +12,8 @@ use Rattle.lx_annot_read.specs.Head.{head_at}
 use Rattle.lx_annot_read.specs.Interfaces.{empty, statement_at}
 use Rattle.lx_annot_read.specs.Texts.{seen, limited, first_at, next_at, ◌and_then◌, body_at, ended, interface_at}
 use Rattle.lx_annot_read.proofs.Aside.{Same as SameAside, statement_same}
-use Rattle.lx_annot_grammar.specs.Laws.{NotBoth}
-use Rattle.lx_annot_grammar.specs.Statements.{IsInterface}
+use Rattle.lx_annot_laws.specs.GrammarLaws.{NotBoth}
+use Rattle.lx_annot_laws.specs.Statements.{IsInterface}
 use Rattle.lx_annot_laws.specs.RefusedLaws.{RefusedTokensStandNowhere}
 use Rattle.lx_annot_laws.proofs.Local.{Local}
 use Rattle.lx_annot_laws.proofs.Alike.{alike_local, interface_alike}

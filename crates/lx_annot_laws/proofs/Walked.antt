@@ -9,7 +9,7 @@ use Rattle.lx_annot_expressions.specs.Tokens.{toks_of, most_tokens}
 use Rattle.lx_annot_expressions.specs.Grammar.{Part, Is, ◌then◌}
 use Rattle.lx_annot_read.specs.declared.head.Version.TheVariants as versions
 use Rattle.lx_annot_read.proofs.Aside.{Same}
-use Rattle.lx_annot_grammar.specs.Statements.{Statement, OfReftype, OfIterator, OfSlot, OfField, OfExport, IsStatement, with_statement, Stands, AreStatements}
+use Rattle.lx_annot_laws.specs.Statements.{Statement, OfReftype, OfIterator, OfSlot, OfField, OfExport, IsStatement, with_statement, Stands, AreStatements}
 use Rattle.lx_annot_laws.specs.Says.{text_of, toks}
 use Rattle.lx_annot_laws.proofs.Pieces.{texts_joined}
 use Rattle.lx_annot_laws.proofs.Scanned.{scanned, toks_there, tokens_joined, place_is, counted}

@@ -11,7 +11,7 @@ use Rattle.lx_annot_read.specs.declared.fault.Kind.TheVariants as kinds
 use Rattle.lx_annot_read.specs.declared.fault.Met.{Met}
 use Rattle.lx_annot_read.specs.Faults.{met_as, last_line}
 use Rattle.lx_annot_read.specs.Texts.{seen, limited, ◌and_then◌}
-use Rattle.lx_annot_grammar.proofs.TextLaws.{further}
+use Rattle.lx_annot_laws.proofs.TextLaws.{further}
 use Rattle.lx_annot_laws.proofs.Local.{first_of, Looks, same_split, Same, Local, Plain}
 use Rattle.lx_annot_laws.proofs.Loops.{Hungry}
 use Rattle.lx_annot_laws.proofs.Limited.{AllTidy, tidy_there, tidy_behind, further_count, count_alike, refused_at, IsSpoken, IsEnded, ok_met, same_met, FailsAt, fails_at, fails_again, Passes, passes}

@@ -6,8 +6,8 @@ use Rattle.lx_annot.specs.declared.interface.Interface.{Interface}
 use Rattle.lx_annot_read.specs.declared.fault.InterfaceFault.{InterfaceFault}
 use Rattle.lx_annot_read.specs.Texts.{FirstInterfaceFault}
 use Rattle.lx_cproto.specs.Texts.{FirstPrototypeFault}
-use Rattle.lx_annot_grammar.specs.Statements.{IsInterface}
-use Rattle.lx_cproto_grammar.specs.Declarations.{ArePrototypes}
+use Rattle.lx_annot_laws.specs.Statements.{IsInterface}
+use Rattle.lx_annot_laws.specs.Declarations.{ArePrototypes}
 use Rattle.lx_annot_laws.specs.RefusedLaws.{is_refused, IsRefused, IsEnd}
 
 -- The first fault of a text that is no interface: what reading forward meets first, by its kind, line and word.

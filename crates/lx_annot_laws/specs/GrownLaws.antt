@@ -6,7 +6,7 @@ use Rattle.lx_annot_expressions.specs.Tokens.{Tok}
 use Rattle.lx_annot_expressions.specs.Exprs.{Scope}
 use Rattle.lx_annot_terms.specs.Lists.{Known}
 use Rattle.lx_annot_terms.specs.Signatures.{Signature}
-use Rattle.lx_annot_grammar.specs.Parts.{IsItems, IsAnnotation}
+use Rattle.lx_annot_laws.specs.Parts.{IsItems, IsAnnotation}
 use Rattle.lx_annot_laws.specs.Grows.{Grows}
 
 -- the tokens of items are these items where more may be used

@@ -16,7 +16,7 @@ use Rattle.lx_annot_terms.specs.ItemReading.{scope_of_items}
 use Rattle.lx_annot_terms.specs.Grammar.{IsAction}
 use Rattle.lx_annot_read.specs.declared.head.Version.{Version}
 use Rattle.lx_annot_read.specs.Interfaces.{known_in}
-use Rattle.lx_annot_grammar.specs.Parts.{IsParams, IsItems, IsAnnotation}
+use Rattle.lx_annot_laws.specs.Parts.{IsParams, IsItems, IsAnnotation}
 use Rattle.lx_cproto_print.specs.Printed.{expr_text, action_text, items_text, params_text, clauses_text}
 use Rattle.lx_annot_laws.specs.Says.{tok, IsWord, AreLexed, Says}
 

@@ -12,7 +12,7 @@ use Rattle.lx_annot_read.specs.declared.fault.InterfaceFault.{InterfaceFault}
 use Rattle.lx_annot_read.specs.declared.fault.InterfaceFault.TheVariants as faults
 use Rattle.lx_annot_read.specs.Faults.{fault_of, last_line}
 use Rattle.lx_annot_read.specs.Texts.{FirstInterfaceFault}
-use Rattle.lx_annot_grammar.specs.Statements.{IsInterface}
+use Rattle.lx_annot_laws.specs.Statements.{IsInterface}
 
 -- The tokens of a text are these up to one of them, whatever stands behind it, in whatever lines, and whether or not a byte follows
 -- that begins none.

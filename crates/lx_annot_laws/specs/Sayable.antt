@@ -19,7 +19,7 @@ use Rattle.lx_annot_terms.specs.ItemReading.{scope_of_items}
 use Rattle.lx_annot_read.specs.declared.head.Version.TheVariants as versions
 use Rattle.lx_annot_read.specs.Said.{unquoted}
 use Rattle.lx_annot_read.specs.Interfaces.{iterator_names, slot_names, export_names, known_in, greatest_index}
-use Rattle.lx_annot_grammar.specs.Parts.{IsItems, IsAnnotation}
+use Rattle.lx_annot_laws.specs.Parts.{IsItems, IsAnnotation}
 use Rattle.lx_annot_laws.specs.Says.{IsWord, Told}
 use Rattle.lx_cproto_print.specs.Printed.{name_text}
 

@@ -1,14 +1,27 @@
-//! Laws of interface texts, as statements and as prototypes of C: a token at which reading stops cannot stand there, whatever follows it, and
-//! what is printed of an interface is read again as the interface, its lines aside.
+//! Laws of interface texts, as statements and as prototypes of C: reading and the grammar agree, a text is one interface at most or has one
+//! first fault, what is read is lawful, a token at which reading stops cannot stand there, whatever follows it, and what is printed of an
+//! interface is read again as the interface, its lines aside.
 //!
 //! ```text
+//! interface_laws();
+//! // `SaysInterface text i` and `IsInterface text i` are the same, and so it is of prototypes (`prototype_laws`).
+//! lawful_laws();
+//! // `SaysInterface text i` gives `IsLawfulInterface i`, where the text has fewer than 2 ^ 32 bytes.
 //! refused_laws();
 //! // Where the first fault of a text is the token `)`, no text that is the same up to that token is an interface.
 //! printed_interface_laws();
 //! // What is printed of an interface that a text says is read as the interface, lines aside, where its statements are short enough.
 //! ```
+//!
+//! What is read of a text of version 1 lends nothing. Canonical texts do not depend on the names of parameters, slots, exports and fields, nor
+//! on the spaces, comments and lines of the interface's text. Rows say which tokens are which type of C.
 #![tactic(auto)]
 
+ghost use Rattle.lx_annot_laws.specs.GrammarLaws.{AnnotationsAreFound, AnnotationsAreRead, InterfacesAreFound, InterfacesAreRead, ItemsAreFound, ItemsAreRead, NotBoth, OneFault, OneInterface, SignaturesAreFound, SignaturesAreRead, StatementsAreFound, StatementsAreRead};
+ghost use Rattle.lx_annot_laws.specs.LawfulLaws.{FirstVersionLendsNothing, ReadIsLawful};
+ghost use Rattle.lx_annot_laws.specs.CanonicalLaws.{NamesSayNothing, OnlyListsAreNamed, ParametersSayNothing, RenamedIsRead, SpacesSayNothing};
+ghost use Rattle.lx_annot_laws.specs.PrototypeGrammarLaws.{NotBoth as PrototypesOrFault, OneFault as OnePrototypeFault, OneInterface as OnePrototypeInterface, PrototypesAreFound, PrototypesAreRead, ReadIsLawful as ReadPrototypesAreLawful};
+ghost use Rattle.lx_annot_laws.specs.TypeRows.{WorkedTypes};
 ghost use Rattle.lx_annot_laws.specs.FaultOfText.{InterfaceFaultsAreTold, PrototypeFaultsAreTold};
 ghost use Rattle.lx_annot_laws.specs.GrownLaws.{AnnotationsGrow, ItemsGrow};
 ghost use Rattle.lx_annot_laws.specs.PrintedPartLaws.{ActionsArePrinted, AnnotationsArePrinted, ExprsArePrinted, ItemsArePrinted, ParamsArePrinted};
@@ -16,7 +29,7 @@ ghost use Rattle.lx_annot_laws.specs.PieceLaws.{LaidAreScanned, PlacesDoNotCount
 ghost use Rattle.lx_annot_laws.specs.PieceRows.{WorkedPieces};
 ghost use Rattle.lx_annot_read.specs.Texts.{SaysInterface};
 ghost use Rattle.lx_annot_laws.specs.RoundTripLaws.{PrintedAreRead, SayableAreRead, TextsAreLines};
-ghost use Rattle.lx_annot_laws.specs.Rows.{WorkedInterface};
+ghost use Rattle.lx_annot_laws.specs.InterfaceRows.{WorkedInterface};
 ghost use Rattle.lx_annot_laws.specs.SayableLaws.{InterfacesAreSayable};
 ghost use Rattle.lx_annot_laws.specs.PrototypeSayableLaws.{PrototypesAreSayable};
 ghost use Rattle.lx_annot_laws.specs.PrototypeRoundTripLaws.{PrintedPrototypesAreRead};
@@ -25,9 +38,85 @@ ghost use Rattle.lx_annot_laws.specs.RefusedRows.{WorkedRefusals};
 ghost use Rattle.lx_annot_laws.specs.RefusedPartLaws.{ClausesAreRefused, ItemsAreRefused, StatementsAreRefused};
 ghost use Rattle.lx_annot_laws.specs.PrototypeRefusedLaws.{RefusedPrototypeTokensStandNowhere};
 
-use lx_annot_grammar::interface_laws;
-use lx_cproto_grammar::prototype_laws;
-use lx_words::number_texts;
+use lx_words::{number_texts, one_way};
+
+/// Reading and the grammar of signatures, items and annotations agree.
+pub fn part_laws()
+    ensures signatures_read { SignaturesAreRead }
+    ensures signatures { SignaturesAreFound }
+    ensures items_read { ItemsAreRead }
+    ensures items { ItemsAreFound }
+    ensures annotations_read { AnnotationsAreRead }
+    ensures annotations { AnnotationsAreFound }
+{}
+
+/// Reading and the grammar of statements agree.
+pub fn interface_statement_laws()
+    ensures read { StatementsAreRead }
+    ensures found { StatementsAreFound }
+{}
+
+/// Reading and the grammar of whole texts agree, and a text is one interface or has one first fault.
+pub fn interface_laws()
+    ensures read { InterfacesAreRead }
+    ensures found { InterfacesAreFound }
+    ensures one { OneInterface }
+    ensures fault { OneFault }
+    ensures apart { NotBoth }
+{
+    one_way();
+}
+
+/// Every interface that is read is lawful.
+pub fn lawful_laws()
+    ensures { ReadIsLawful }
+{
+    interface_laws();
+}
+
+/// No interface of a text of version 1 lends anything.
+pub fn first_version_laws()
+    ensures { FirstVersionLendsNothing }
+{}
+
+/// Of an interface, canonical texts have the names of reference types and iterators alone.
+pub fn canonical_laws()
+    ensures lists { OnlyListsAreNamed }
+    ensures parameters { ParametersSayNothing }
+{}
+
+/// What is read of a text with other names, spaces and comments has the same canonical texts.
+pub fn reading_laws()
+    ensures read { RenamedIsRead }
+    ensures names { NamesSayNothing }
+    ensures spaces { SpacesSayNothing }
+{
+    one_way();
+    interface_laws();
+}
+
+/// Reading and the grammar of whole texts of prototypes agree, and such a text is one interface or has one first fault.
+pub fn prototype_laws()
+    ensures read { PrototypesAreRead }
+    ensures found { PrototypesAreFound }
+    ensures one { OnePrototypeInterface }
+    ensures fault { OnePrototypeFault }
+    ensures apart { PrototypesOrFault }
+{
+    one_way();
+}
+
+/// Every interface that is read of prototypes is lawful.
+pub fn lawful_prototype_laws()
+    ensures { ReadPrototypesAreLawful }
+{
+    prototype_laws();
+}
+
+/// Worked rows of types.
+pub fn worked_types()
+    ensures { WorkedTypes }
+{}
 
 /// A text that is laid out as lexemes is cut into them, and its tokens are those of the pieces.
 pub fn interface_lexeme_laws()

@@ -3,8 +3,8 @@ use Rattle.std.proofs.Common.{◌≡◌, ◌∙◌, sym, subst, ℕ, List, Bool,
 use Rattle.lx_annot.specs.declared.interface.Interface.{Interface}
 use Rattle.lx_annot_read.specs.declared.fault.InterfaceFault.{InterfaceFault}
 use Rattle.lx_cproto.specs.Texts.{is_cproto}
-use Rattle.lx_annot_grammar.specs.Statements.{IsInterface}
-use Rattle.lx_cproto_grammar.specs.Declarations.{ArePrototypes}
+use Rattle.lx_annot_laws.specs.Statements.{IsInterface}
+use Rattle.lx_annot_laws.specs.Declarations.{ArePrototypes}
 use Rattle.lx_annot_laws.specs.FaultOfText.{IsFirstInterfaceFault, IsFirstPrototypeFault}
 use Rattle.lx_files.specs.declared.stop.InputStop.{InputStop}
 use Rattle.lx_files.specs.declared.stop.InputStop.TheVariants as stops

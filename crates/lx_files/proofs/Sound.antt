@@ -11,9 +11,9 @@ use Rattle.lx_ir_lawful.specs.Laws.{ReadIsLawful, ProgramsArePlain}
 use Rattle.lx_annot.specs.declared.interface.Interface.{Interface}
 use Rattle.lx_annot_read.specs.Texts.{SaysInterface}
 use Rattle.lx_annot.specs.Lawful.{IsLawfulInterface}
-use Rattle.lx_annot_grammar.specs.LawfulLaws.{ReadIsLawful as ReadInterfaceIsLawful}
+use Rattle.lx_annot_laws.specs.LawfulLaws.{ReadIsLawful as ReadInterfaceIsLawful}
 use Rattle.lx_cproto.specs.Texts.{SaysPrototypes}
-use Rattle.lx_cproto_grammar.specs.Laws.{ReadIsLawful as ReadPrototypesAreLawful}
+use Rattle.lx_annot_laws.specs.PrototypeGrammarLaws.{ReadIsLawful as ReadPrototypesAreLawful}
 use Rattle.lx_files.specs.Inputs.{no_module, no_interface}
 use Rattle.lx_files.specs.Sound.{IsSoundModule}
 use Rattle.lx_files.specs.Turns.{most_bytes}

@@ -13,8 +13,8 @@ use Rattle.lx_annot_read.specs.declared.fault.InterfaceFault.{InterfaceFault}
 use Rattle.lx_annot_read.specs.declared.fault.InterfaceFault.TheVariants as interfaces
 use Rattle.lx_annot_read.specs.Texts.{InterfaceFails, FirstInterfaceFault}
 use Rattle.lx_cproto.specs.Texts.{PrototypesFail, FirstPrototypeFault}
-use Rattle.lx_annot_grammar.specs.Statements.{IsInterface}
-use Rattle.lx_cproto_grammar.specs.Declarations.{ArePrototypes}
+use Rattle.lx_annot_laws.specs.Statements.{IsInterface}
+use Rattle.lx_annot_laws.specs.Declarations.{ArePrototypes}
 use Rattle.lx_ir_complete.specs.FaultOfText.{FirstFaultsAreTold}
 use Rattle.lx_annot_laws.specs.FaultOfText.{IsFirstInterfaceFault, IsFirstPrototypeFault, InterfaceFaultsAreTold, PrototypeFaultsAreTold}
 use Rattle.lx_files.specs.declared.line.FaultKind.{FaultKind}

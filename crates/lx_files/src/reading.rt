@@ -7,19 +7,19 @@ ghost use Rattle.lx_files.specs.Inputs.{ReadsCase, ReadsImage, ReadsInterface, R
 ghost use Rattle.lx_files.specs.Sound.{IsSoundModule};
 ghost use Rattle.lx_files.specs.Turns.{Reads, Tells, most_bytes};
 ghost use Rattle.lx_files.specs.Faults.{interface_line};
-ghost use Rattle.lx_annot_grammar.specs.Statements.{IsInterface};
+ghost use Rattle.lx_annot_laws.specs.Statements.{IsInterface};
 ghost use Rattle.lx_annot_laws.specs.FaultOfText.{IsFirstInterfaceFault, IsFirstPrototypeFault};
-ghost use Rattle.lx_cproto_grammar.specs.Declarations.{ArePrototypes};
+ghost use Rattle.lx_annot_laws.specs.Declarations.{ArePrototypes};
 ghost use Rattle.lx_annot.specs.Lawful.{IsLawfulInterface};
 
 use crate::line::FaultKind;
 use crate::stop::{InputStop, interface_stop, module_stop, script_stop};
 use lx_annot::interface::Interface;
-use lx_annot_grammar::{interface_laws, lawful_laws};
-use lx_annot_laws::first_interface_fault_laws;
+use lx_annot_laws::{
+    first_interface_fault_laws, interface_laws, lawful_laws, lawful_prototype_laws, prototype_laws,
+};
 use lx_annot_read::read_interface;
 use lx_cproto::{is_cproto, read_cproto};
-use lx_cproto_grammar::{lawful_prototype_laws, prototype_laws};
 use lx_ir::module::Module;
 use lx_ir_complete::first_fault_laws;
 use lx_ir_lawful::whole_laws;

@@ -15,8 +15,7 @@ use crate::turns::{
     word_turn,
 };
 use lx_annot::interface::Interface;
-use lx_annot_grammar::interface_laws;
-use lx_cproto_grammar::prototype_laws;
+use lx_annot_laws::{interface_laws, prototype_laws};
 use lx_ir::module::Module;
 use lx_ir_complete::{first_fault_laws, module_is_read_laws};
 use lx_outside::Shelf;

@@ -10,7 +10,7 @@ use Rattle.lx_ir_complete.specs.Same.{SameModules}
 use Rattle.lx_ir_read.specs.Grammar.{IsModule}
 use Rattle.lx_ir_read.specs.Reading.{SaysModule}
 use Rattle.lx_annot_read.specs.Texts.{SaysInterface}
-use Rattle.lx_annot_grammar.specs.Statements.{IsInterface}
+use Rattle.lx_annot_laws.specs.Statements.{IsInterface}
 use Rattle.lx_worked_programs.specs.Generated.{the_module}
 use Rattle.lx_worked_programs.specs.Kernel.{interface, kernel}
 

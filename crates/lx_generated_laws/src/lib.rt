@@ -15,8 +15,7 @@ ghost use Rattle.lx_generated_laws.specs.Builtin.{InterfaceIsSaid, KernelIsSound
 ghost use Rattle.lx_generated_laws.specs.Cases.{CasesAreSaid};
 ghost use Rattle.lx_generated_laws.specs.Inputs.{GeneratedFilesAreInputs};
 
-use lx_annot_grammar::interface_laws;
-use lx_annot_laws::interface_lexeme_laws;
+use lx_annot_laws::{interface_laws, interface_lexeme_laws};
 use lx_ir_complete::{every_text_laws, lexeme_laws, round_trip_laws};
 use lx_ir_read::module_laws;
 use lx_words::number_texts;

@@ -1,8 +1,8 @@
 use Rattle.lx_words.specs.declared.token.TokenRule.TheVariants as rules
 use Rattle.lx_annot_read.specs.Texts.{FirstInterfaceFault}
 use Rattle.lx_cproto.specs.Texts.{FirstPrototypeFault}
-use Rattle.lx_annot_grammar.specs.Statements.{IsInterface}
-use Rattle.lx_cproto_grammar.specs.Declarations.{ArePrototypes}
+use Rattle.lx_annot_laws.specs.Statements.{IsInterface}
+use Rattle.lx_annot_laws.specs.Declarations.{ArePrototypes}
 use Rattle.lx_annot_laws.proofs.FirstFaults.{is_told}
 use Rattle.lx_annot_laws.proofs.first_interface_fault_laws.Goals as goal
 

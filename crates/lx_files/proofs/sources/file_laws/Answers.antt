@@ -3,8 +3,8 @@ use Rattle.lx_script.specs.Grammar.{SaysCase, FirstCaseFault}
 use Rattle.lx_script.specs.Schedule.{Reads as SaysSchedule, FirstScheduleFault}
 use Rattle.lx_ir_read.specs.Grammar.{IsModule}
 use Rattle.lx_ir_complete.specs.FaultOfText.{IsFirstFault}
-use Rattle.lx_annot_grammar.specs.Statements.{IsInterface}
-use Rattle.lx_cproto_grammar.specs.Declarations.{ArePrototypes}
+use Rattle.lx_annot_laws.specs.Statements.{IsInterface}
+use Rattle.lx_annot_laws.specs.Declarations.{ArePrototypes}
 use Rattle.lx_annot_laws.specs.FaultOfText.{IsFirstInterfaceFault, IsFirstPrototypeFault}
 use Rattle.lx_files.specs.Laws.{IsSure}
 use Rattle.lx_files.proofs.Dialects.{either_sure}

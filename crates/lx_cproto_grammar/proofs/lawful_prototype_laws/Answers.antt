@@ -1,5 +1,0 @@
-use Rattle.lx_cproto_grammar.proofs.Lawful.{lawful}
-use Rattle.lx_cproto_grammar.proofs.lawful_prototype_laws.Goals as goal
-
-pub returns : goal.returns
-returns c text i short says = lawful text i short (c.prototype_laws.ensures.found text i says)

@@ -1,4 +1,0 @@
-pub mod Parts
-pub mod Declarations
-pub mod Laws
-pub mod Rows
