@@ -204,5 +204,5 @@ use Rattle.lx_ir.specs.declared.instr.Callee.TheVariants as callee
 use Rattle.lx_ir.specs.declared.instr.Op.TheVariants as op
 use Rattle.lx_ir.specs.IrType.{One, Array, Struct, Packed, Named, none, also}
 use Rattle.lx_ir.specs.Init.{Plain, Empty, Bytes, Group, no_more, more}
-use Rattle.lx_worked_programs.specs.RowTexts.{i32, i64, reg, line, arg, block, define, declare, global, param}
+use Rattle.lx_generated_laws.specs.RowTexts.{i32, i64, reg, line, arg, block, define, declare, global, param}
 '''

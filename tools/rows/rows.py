@@ -1,11 +1,11 @@
-"""Writes the worked rows of crates/lx_worked_programs over the built-in kernel and interface, from IR and interface texts.
+"""Writes the worked rows of crates/lx_generated_laws over the built-in kernel and interface, from IR and interface texts.
 
-Run it in this folder. The accounts are written out by hand below; `rt check` in crates/lx_worked_programs proves that the
+Run it in this folder. The accounts are written out by hand below; `rt check` in crates/lx_generated_laws proves that the
 definitions evaluate to them."""
 import os, sys
 from ir2antt import *
 from if2antt import I, IHEAD
-C = '../../crates/lx_worked_programs'
+C = '../../crates/lx_generated_laws'
 K = M(open('kernel.ll').read())
 N = I(open('interface.txt').read())
 os.makedirs(C + '/specs', exist_ok=True)
@@ -52,8 +52,8 @@ own_interface =
     {I(open('i5.txt').read()).record()}
 '''
     heads = IHEAD if base == 'refs' else ''
-    if base == 'kernel': heads += 'use Rattle.lx_worked_programs.specs.Kernel.{kernel, interface}\n'
-    if base == 'none': heads += 'use Rattle.lx_worked_programs.specs.RowTexts.{no_interface}\nuse Rattle.lx_model.specs.Program.{empty_module}\n'
+    if base == 'kernel': heads += 'use Rattle.lx_generated_laws.specs.Kernel.{kernel, interface}\n'
+    if base == 'none': heads += 'use Rattle.lx_generated_laws.specs.RowTexts.{no_interface}\nuse Rattle.lx_model.specs.Program.{empty_module}\n'
     defs = m.fnames[imports:]
     num = {f: 6 + k for k, f in enumerate(kn)}
     kn_count = len(kn)
@@ -78,7 +78,7 @@ use Rattle.lx_model.specs.declared.request.Outcome.TheVariants.{{Returned, Refus
 use Rattle.lx_model.specs.declared.request.Refusal.TheVariants as refusal
 use Rattle.lx_model.specs.declared.request.Trap.TheVariants as trap
 use Rattle.lx_model.specs.declared.account.Account.{{Account}}
-use Rattle.lx_worked_programs.specs.Rows.{{natives}}
+use Rattle.lx_generated_laws.specs.ProgramRows.{{natives}}
 use Rattle.lx_model.specs.World.{{World, opening, run, is_whole}}
 use Rattle.lx_model.specs.Account.{{account}}
 {heads}{own_text}
@@ -120,7 +120,7 @@ pub record {cap} : Type 0 where
     os.makedirs(f'{C}/proofs/programs/{name}', exist_ok=True)
     open(f'{C}/proofs/programs/{name}/Answers.antt', 'w').write(f'''-- The row computes.
 use Rattle.std.proofs.Common.{{refl}}
-use Rattle.lx_worked_programs.proofs.programs.{name}.Goals as goal
+use Rattle.lx_generated_laws.proofs.programs.{name}.Goals as goal
 
 pub returns : goal.returns
 returns c = record {{ account_is = refl; is_whole_is = refl }}
@@ -223,12 +223,12 @@ rows.append(row('generated', 'Twenty generated calls on four threads.', 'gen', [
     [('s', 'call', 0x10060), ('s', 'call', 0x10080), ('s', 'call', 0x10130), ('s', 'call', 0x10140)], []))
 os.makedirs(C + '/src', exist_ok=True)
 only = [r for r in rows if r[0] in sys.argv[1:]] if sys.argv[1:] else rows
-# the modules of linking and of images are written by hand, behind those of the programs
-others = ''.join(f'pub mod {c}\n' for c in ('Calls', 'Faults', 'Orders', 'Programs', 'ImageFaults', 'Images', 'Texts', 'Wrappers'))
-open(C + '/specs/Lib.antt', 'w').write('pub mod RowTexts\npub mod Rows\npub mod RowsOfThreads\npub mod Kernel\n' + ''.join(f'pub mod {c}\n' for n, c, t in only) + others)
+# the modules of linking, of images and of the texts that are brought along are written by hand, behind those of the programs
+others = ''.join(f'pub mod {c}\n' for c in ('LinkCalls', 'LinkFaults', 'LinkOrders', 'LinkedPrograms', 'ImageFaults', 'Images', 'ImageTexts', 'Wrappers', 'Builtin', 'Cases', 'Inputs'))
+open(C + '/specs/Lib.antt', 'w').write('pub mod RowTexts\npub mod ProgramRows\npub mod RowsOfThreads\npub mod Kernel\n' + ''.join(f'pub mod {c}\n' for n, c, t in only) + others)
 open(C + '/src/programs.rt', 'w').write('//! Worked rows: programs written out, and the accounts that the monitor gives of their runs.\n'
-    + 'ghost use Rattle.lx_worked_programs.specs.Rows.{WorkedRows};\nghost use Rattle.lx_worked_programs.specs.RowsOfThreads.{WorkedThreads};\n'
-    + ''.join(f'ghost use Rattle.lx_worked_programs.specs.{c}.{{{c}}};\n' for n, c, t in only)
+    + 'ghost use Rattle.lx_generated_laws.specs.ProgramRows.{WorkedRows};\nghost use Rattle.lx_generated_laws.specs.RowsOfThreads.{WorkedThreads};\n'
+    + ''.join(f'ghost use Rattle.lx_generated_laws.specs.{c}.{{{c}}};\n' for n, c, t in only)
     + '\n/// One function: with enough fuel, with too little, and a store past the end of a global.\npub fn worked_rows()\n    ensures { WorkedRows }\n{\n}\n'
     + '\n/// Two threads that race for a block.\npub fn worked_threads()\n    ensures { WorkedThreads }\n{\n}\n'
     + ''.join(f'\n/// {t}\npub fn {n}()\n    ensures {{ {c} }}\n{{\n}}\n' for n, c, t in only))

@@ -2,8 +2,8 @@
 use Rattle.std.proofs.Common.{◌≡◌}
 use Rattle.lx_ir.specs.declared.module.Module.{Module}
 use Rattle.lx_ir_complete.specs.Same.{SameModules}
-use Rattle.lx_worked_programs.specs.Generated.{the_module}
-use Rattle.lx_worked_programs.specs.Kernel.{kernel}
+use Rattle.lx_generated_laws.specs.Generated.{the_module}
+use Rattle.lx_generated_laws.specs.Kernel.{kernel}
 use Rattle.lx_generated_laws.proofs.Lined.{lined, same_lined}
 
 -- Nothing computes them but a proof that unfolds them, so that no other proof goes through them.

@@ -12,7 +12,7 @@ use Rattle.lx_input.specs.Files.Asked.{nothing}
 use Rattle.lx_input.specs.Files.Inputs.{ReadsModule, ReadsInterface, SourcesTurn, builtin, sources}
 use Rattle.lx_input.specs.Files.Sources.{Sources}
 use Rattle.lx_input.specs.Inputs.{CheckTurn, input_of, texts_of}
-use Rattle.lx_worked_programs.specs.Kernel.{interface}
+use Rattle.lx_generated_laws.specs.Kernel.{interface}
 use Rattle.lx_generated_laws.specs.Builtin.{InterfaceIsSaid, KernelIsSound, ModuleIsSound}
 use Rattle.lx_generated_laws.specs.Cases.{CasesAreSaid, generated_case}
 use Rattle.lx_generated_laws.specs.Inputs.{GeneratedFilesAreInputs, generated_files, generated_name}

@@ -19,7 +19,7 @@ use Rattle.lx_annot_laws.specs.PieceLaws.{LaidAreScanned, PlacesDoNotCount}
 use Rattle.lx_annot_laws.specs.Says.{AreLaid, text_of, toks}
 use Rattle.lx_generate.specs.Interface.{interface_text}
 use Rattle.lx_annot_read.specs.Texts.{SaysInterface}
-use Rattle.lx_worked_programs.specs.Kernel.{interface}
+use Rattle.lx_generated_laws.specs.Kernel.{interface}
 use Rattle.lx_generated_laws.proofs.Pieces.{are_laid, chunks_of, laid, piece}
 use Rattle.lx_generated_laws.proofs.Statements.{interface_by, interface_said}
 

@@ -20,8 +20,8 @@ use Rattle.lx_script.specs.declared.case.CaseCall.{CaseCall}
 use Rattle.lx_generate.specs.Generated.{callee}
 use Rattle.lx_link.specs.Answers.{link_fault, named_modules, sources_of}
 use Rattle.lx_link.specs.Calls.{all_fit, call_fault, call_fault_by, function_named, parameters, script_fault, thread_fault}
-use Rattle.lx_worked_programs.specs.Kernel.{interface}
-use Rattle.lx_worked_programs.specs.RowTexts.{i64, param}
+use Rattle.lx_generated_laws.specs.Kernel.{interface}
+use Rattle.lx_generated_laws.specs.RowTexts.{i64, param}
 use Rattle.lx_generated_laws.specs.Cases.{call_of, calls_from, first_row, generated_case, generated_modules, numbers_in, thread_calls}
 use Rattle.lx_generated_laws.proofs.Counts.{AreBelow, numbers_below}
 use Rattle.lx_generated_laws.proofs.Hosted.{guest, host}

@@ -45,7 +45,7 @@ use Rattle.lx_ir_read.specs.Reading.{SaysModule, module_at}
 use Rattle.lx_ir_complete.specs.PieceLaws.{LaidAreScanned}
 use Rattle.lx_ir_complete.specs.Pieces.{AreLaid, ends_before, text_of}
 use Rattle.lx_ir_complete.proofs.Placed.{name_at_number}
-use Rattle.lx_worked_programs.specs.RowTexts.{arg, block, i64, param, reg}
+use Rattle.lx_generated_laws.specs.RowTexts.{arg, block, i64, param, reg}
 
 -- The text in pieces, cut by the first byte of each.
 

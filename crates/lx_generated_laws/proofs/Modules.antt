@@ -16,8 +16,8 @@ use Rattle.lx_ir_complete.specs.Same.{SameModules}
 use Rattle.lx_ir_read.specs.Laws.{ModulesAreFound}
 use Rattle.lx_ir_read.specs.declared.fault.ReadFault.{ReadFault}
 use Rattle.lx_ir_read.specs.Reading.{SaysModule, FirstFault as ReadFails}
-use Rattle.lx_worked_programs.specs.Generated.{the_module}
-use Rattle.lx_worked_programs.specs.Kernel.{kernel}
+use Rattle.lx_generated_laws.specs.Generated.{the_module}
+use Rattle.lx_generated_laws.specs.Kernel.{kernel}
 use Rattle.lx_generated_laws.specs.Builtin.{IsSoundText, KernelIsSound, ModuleIsSound}
 use Rattle.lx_generated_laws.proofs.Lined.{lined, same_lined}
 use Rattle.lx_generated_laws.proofs.ModuleReading.{module_is_said, read_module}

@@ -11,8 +11,8 @@ use Rattle.lx_ir_read.specs.Grammar.{IsModule}
 use Rattle.lx_ir_read.specs.Reading.{SaysModule}
 use Rattle.lx_annot_read.specs.Texts.{SaysInterface}
 use Rattle.lx_annot_laws.specs.Statements.{IsInterface}
-use Rattle.lx_worked_programs.specs.Generated.{the_module}
-use Rattle.lx_worked_programs.specs.Kernel.{interface, kernel}
+use Rattle.lx_generated_laws.specs.Generated.{the_module}
+use Rattle.lx_generated_laws.specs.Kernel.{interface, kernel}
 
 -- The text is by the grammar, and as it is read, a module that differs from this one in lines alone, and no fault stands in it.
 pub record IsSoundText (text : List ℕ) (m : Module) : Type 0 where

@@ -1,5 +1,6 @@
-//! Laws of the texts that the program brings along and generates: in its kernel, its interface and the module of generated cases no fault
-//! stands, each generated text says its case, and each generated case is an input.
+//! Laws of the texts that the program brings along and generates, and worked rows that the definitions evaluate: in the program's kernel, its
+//! interface and the module of generated cases no fault stands, each generated text says its case, and each generated case is an input; programs
+//! are written out with the accounts that the monitor gives of their runs, texts with what linking gives of them or their first fault, and images.
 //!
 //! ```text
 //! builtin_laws();
@@ -8,12 +9,18 @@
 //! // The text of 200 generated calls says a case, and so does that of any number of calls that a case may have.
 //! generated_input_laws();
 //! // The files of 200 generated calls are an input, and so are those of any number of calls that a case may have.
+//! links::worked_faults();
+//! // `WorkedFaults`: a row is a small text, and the first fault that the definition of linking finds in it.
 //! ```
 #![tactic(auto)]
 
 ghost use Rattle.lx_generated_laws.specs.Builtin.{InterfaceIsSaid, KernelIsSound, ModuleIsSound};
 ghost use Rattle.lx_generated_laws.specs.Cases.{CasesAreSaid};
 ghost use Rattle.lx_generated_laws.specs.Inputs.{GeneratedFilesAreInputs};
+
+pub mod images;
+pub mod links;
+pub mod programs;
 
 use lx_annot_laws::{interface_laws, interface_lexeme_laws};
 use lx_ir_complete::{every_text_laws, lexeme_laws, round_trip_laws};

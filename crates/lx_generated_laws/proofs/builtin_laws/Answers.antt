@@ -1,6 +1,6 @@
 use Rattle.lx_annot_read.specs.Texts.{SaysInterface}
 use Rattle.lx_generate.specs.Interface.{interface_text}
-use Rattle.lx_worked_programs.specs.Kernel.{interface}
+use Rattle.lx_generated_laws.specs.Kernel.{interface}
 use Rattle.lx_ir_calls.specs.declared.intrinsics.TextForm.TheVariants.{Program}
 use Rattle.lx_generated_laws.proofs.Interfaces.{interface_is_said}
 use Rattle.lx_generated_laws.proofs.Modules.{kernel_is_sound, module_is_sound}

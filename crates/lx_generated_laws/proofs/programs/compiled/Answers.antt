@@ -1,0 +1,6 @@
+-- The row computes.
+use Rattle.std.proofs.Common.{refl}
+use Rattle.lx_generated_laws.proofs.programs.compiled.Goals as goal
+
+pub returns : goal.returns
+returns c = record { account_is = refl; is_whole_is = refl }

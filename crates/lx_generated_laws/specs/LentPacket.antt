@@ -1,0 +1,73 @@
+-- A packet that is lent to a module for one call.
+use Rattle.std.specs.Prelude.{◌≡◌, ℕ, true, Some, None, List, [], ◌∷◌, ◌++◌, codes, replicate}
+use Rattle.lx_words.specs.declared.word.Width.TheVariants.{W32, W64}
+use Rattle.lx_words.specs.Word.{word}
+use Rattle.lx_ir.specs.declared.types.Scalar.TheVariants.{Ptr}
+use Rattle.lx_ir.specs.declared.module.Brackets.TheVariants as brackets
+use Rattle.lx_ir.specs.declared.module.Symbol.TheVariants as symbol
+use Rattle.lx_ir.specs.declared.module.Pointer.TheVariants as pointer
+use Rattle.lx_ir.specs.declared.module.Constant.TheVariants as constant
+use Rattle.lx_ir.specs.declared.module.Value.TheVariants as value
+use Rattle.lx_ir.specs.declared.module.Module.{Module}
+use Rattle.lx_ir.specs.declared.instr.Callee.TheVariants as callee
+use Rattle.lx_ir.specs.declared.instr.Op.TheVariants as op
+use Rattle.lx_ir.specs.IrType.{One, Struct, Named, none, also}
+use Rattle.lx_ir.specs.Init.{Plain, Group, no_more, more}
+use Rattle.lx_generated_laws.specs.RowTexts.{i32, i64, reg, line, arg, block, define, declare, global, param}
+use Rattle.lx_caps.specs.declared.Principal.TheVariants.{Shared, Inst}
+use Rattle.lx_caps.specs.declared.Cap.TheVariants as caps
+use Rattle.lx_model.specs.declared.program.Program.{Program}
+use Rattle.lx_model.specs.declared.program.ProgramFunction.TheVariants.{Of}
+use Rattle.lx_model.specs.declared.program.ScriptCall.{ScriptCall}
+use Rattle.lx_model.specs.declared.request.Outcome.TheVariants.{Returned, Refused}
+use Rattle.lx_model.specs.declared.request.Refusal.TheVariants as refusal
+use Rattle.lx_model.specs.declared.account.Account.{Account}
+use Rattle.lx_generated_laws.specs.ProgramRows.{natives}
+use Rattle.lx_model.specs.World.{opening, run, is_whole}
+use Rattle.lx_model.specs.Account.{account}
+use Rattle.lx_generated_laws.specs.Kernel.{kernel}
+use Rattle.lx_generated_laws.specs.Lending.{lending_interface}
+
+abbrev pub the_module : Module
+the_module =
+    record {
+      types = (record { name = (codes "struct.dev_ops"); ty = (Struct (also (One Ptr) (also (One Ptr) none))) } ∷ []);
+      globals = (global (codes "ops") (Named 0) (Group brackets.Struct ((One Ptr) ∷ (One Ptr) ∷ []) (more (Plain (constant.Pointer (pointer.Symbol (symbol.Function 2) 0))) (more (Plain (constant.Pointer (pointer.Symbol (symbol.Function 3) 0))) no_more))) ∷ global (codes "keep") (One Ptr) (Plain (constant.Pointer pointer.Null)) ∷ []);
+      functions =
+          declare (codes "dev_register") (param [] Ptr ∷ []) (Some Ptr)
+          ∷ define (codes "init") ([]) ((codes "d") ∷ []) None (block (codes "0") (line (op.Call (Some 0) (Some Ptr) (callee.Symbol (symbol.Function 0)) (arg Ptr (value.Constant (constant.Pointer (pointer.Symbol (symbol.Global 0) 0))) ∷ [])) ∷ line (op.Ret None) ∷ []) ∷ [])
+          ∷ define (codes "probe") (param (codes "d") Ptr ∷ []) ((codes "b") ∷ []) (Some i32) (block (codes "0") (line (op.Load 1 Ptr (value.Constant (constant.Pointer (pointer.Symbol (symbol.Global 1) 0)))) ∷ line (op.Store i64 (value.Constant (constant.Number (word W64 6))) (reg 1)) ∷ line (op.Ret (Some (arg i32 (value.Constant (constant.Number (word W32 0)))))) ∷ []) ∷ [])
+          ∷ define (codes "xmit") (param (codes "s") Ptr ∷ param (codes "d") Ptr ∷ []) ((codes "b") ∷ []) (Some i32) (block (codes "0") (line (op.Load 2 Ptr (reg 0)) ∷ line (op.Store i64 (value.Constant (constant.Number (word W64 5))) (reg 2)) ∷ line (op.Store Ptr (reg 2) (value.Constant (constant.Pointer (pointer.Symbol (symbol.Global 1) 0)))) ∷ line (op.Ret (Some (arg i32 (value.Constant (constant.Number (word W32 0)))))) ∷ []) ∷ [])
+          ∷ [];
+    }
+
+abbrev pub program : Program
+program =
+    record {
+      kernel = kernel;
+      modules = record { name = codes "m"; «module» = the_module } ∷ [];
+      functions = natives ++ (Of None 7 ∷ Of None 8 ∷ Of None 9 ∷ Of None 10 ∷ Of None 11 ∷ Of None 12 ∷ Of None 13 ∷ Of None 14 ∷ Of None 15 ∷ Of None 16 ∷ Of None 17 ∷ Of None 18 ∷ Of None 19 ∷ Of (Some 0) 1 ∷ Of (Some 0) 2 ∷ Of (Some 0) 3 ∷ []);
+      globals = (record { «module» = None; global = 0; at = 0x1000000 } ∷ record { «module» = None; global = 1; at = 0x1000010 } ∷ record { «module» = None; global = 2; at = 0x1000020 } ∷ record { «module» = Some 0; global = 0; at = 0x10000e0 } ∷ record { «module» = Some 0; global = 1; at = 0x10000f0 } ∷ []);
+      interface = lending_interface;
+    }
+
+abbrev pub script : List (List ScriptCall)
+script = ((record { function = 19; args = ([]); fuel = 100 } ∷ record { function = 13; args = ((word W64 8) ∷ []); fuel = 100 } ∷ record { function = 18; args = ((word W64 0) ∷ (word W64 0x2000010) ∷ []); fuel = 100 } ∷ record { function = 17; args = ((word W64 0) ∷ []); fuel = 100 } ∷ []) ∷ [])
+
+abbrev pub schedule : List ℕ
+schedule = replicate 39 0
+
+abbrev pub told : Account
+told =
+    record {
+      schedule = schedule;
+      outcomes = (record { thread = 0; function = 19; outcome = Returned None } ∷ record { thread = 0; function = 13; outcome = Returned (Some (word W64 0x2000010)) } ∷ record { thread = 0; function = 18; outcome = Returned (Some (word W32 0)) } ∷ record { thread = 0; function = 17; outcome = Refused (refusal.Write (Inst 0 0) 0x2000040 8) } ∷ []);
+      notes = ([]);
+      images = record { guards = 3; checks = 0; wrappers = 3 } ∷ [];
+      owners = (record { who = Shared 0; cap = caps.Write 0x10000e0 24 } ∷ record { who = Shared 0; cap = caps.Call 0x10090 } ∷ record { who = Shared 0; cap = caps.Call 0x10130 } ∷ record { who = Shared 0; cap = caps.Call 0x10140 } ∷ record { who = Shared 0; cap = caps.Call 0x10150 } ∷ record { who = Inst 0 0; cap = caps.Ref 0 0x1000020 } ∷ []);
+      names = (record { «module» = 0; instance = 0; value = 0x1000020 } ∷ []);
+    }
+
+pub record LentPacket : Type 0 where
+  pub account_is : account program (run program schedule (opening program script)) ≡ told
+  pub is_whole_is : is_whole program schedule (opening program script) ≡ true

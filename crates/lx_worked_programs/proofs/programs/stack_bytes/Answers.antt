@@ -1,6 +1,0 @@
--- The row computes.
-use Rattle.std.proofs.Common.{refl}
-use Rattle.lx_worked_programs.proofs.programs.stack_bytes.Goals as goal
-
-pub returns : goal.returns
-returns c = record { account_is = refl; is_whole_is = refl }

@@ -1,6 +1,0 @@
--- Each row computes.
-use Rattle.std.proofs.Common.{refl}
-use Rattle.lx_worked_programs.proofs.programs.worked_rows.Goals as goal
-
-pub returns : goal.returns
-returns c = record { stored = refl; stored_whole = refl; budget = refl; budget_whole = refl; past = refl; past_whole = refl; plain_past = refl }

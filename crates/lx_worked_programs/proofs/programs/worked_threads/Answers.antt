@@ -1,6 +1,0 @@
--- Each row computes.
-use Rattle.std.proofs.Common.{refl}
-use Rattle.lx_worked_programs.proofs.programs.worked_threads.Goals as goal
-
-pub returns : goal.returns
-returns c = record { refused = refl; refused_whole = refl; returned = refl; returned_whole = refl }
