@@ -11,7 +11,7 @@ use Rattle.lx_annot.specs.Canonical.{Text}
 use Rattle.lx_model.specs.declared.program.ScriptCall.{ScriptCall}
 use Rattle.lx_why_text.specs.declared.Certified.{Certified}
 use Rattle.lx_why.specs.Certified.{AreCertified, CertifiesNext, acts_so_far, certified, next_needs}
-use Rattle.lx_why.specs.Laws.{Grows}
+use Rattle.lx_why.specs.WhyLaws.{Grows}
 use Rattle.lx_why.specs.Why.{IsWhy, behind, certified_text}
 use Rattle.lx_why.proofs.Growing.{event_grows}
 

@@ -25,7 +25,7 @@ use Rattle.lx_model.specs.Serve.{serve_by, grant_what, history_or, entering, ent
 use Rattle.lx_model.specs.State.{State}
 use Rattle.lx_model.specs.Thread.{Thread, has_work}
 use Rattle.lx_model.specs.World.{World, event, event_if, event_of}
-use Rattle.lx_why.specs.Laws.{Grows}
+use Rattle.lx_why.specs.WhyLaws.{Grows}
 use Rattle.lx_model.proofs.ActKeeps.{Keeps, Any, action_keeps}
 
 -- a history and itself, with an act more, and one behind the other

@@ -1,7 +1,10 @@
 pub mod Allowing
+pub mod Asking
 pub mod Behind
 pub mod Certifying
 pub mod Growing
+pub mod Listing
 pub mod Placed
 pub mod Standing
 pub mod True
+pub mod Writing

@@ -1,7 +1,9 @@
+pub mod AskedNeeds
 pub mod Certified
 pub mod CertifiedLaws
-pub mod Laws
+pub mod ListedNeeds
 pub mod Logged
 pub mod Noted
 pub mod Run
 pub mod Why
+pub mod WhyLaws

@@ -17,6 +17,7 @@ ghost use Rattle.lx_simulation.specs.Images.{AreFullImages};
 ghost use Rattle.lx_why.specs.Noted.{HasNoted};
 
 use crate::logged::Logged;
+use crate::needs_of;
 use crate::noted::Noted;
 use lx_act_index::ActIndex;
 use lx_caps::{Acts, CapStore};
@@ -25,7 +26,6 @@ use lx_image_check::Checked;
 use lx_model::account::InstanceName;
 use lx_model::program::{Calls, Program};
 use lx_model::request::Request;
-use lx_needs::needs_of;
 use lx_opening::{OpenFault, open_world};
 use lx_serve::SharedPart;
 use lx_simulation::simulation_laws;
