@@ -16,7 +16,7 @@ use Rattle.lx_image_code.proofs.Filled.{Each}
 use Rattle.lx_image_steps.specs.Standing.{block_at, block_or_none, rest_from}
 use Rattle.lx_interp.specs.declared.standing.Standing.{Standing}
 use Rattle.lx_interp.specs.Places.{stand_in}
-use Rattle.lx_places.specs.Place.{image_place, instr_at, line_of, with_left}
+use Rattle.lx_code_lines.specs.Place.{image_place, instr_at, line_of, with_left}
 use Rattle.lx_model.proofs.Items.{none_past}
 use Rattle.lx_code_lines.specs.declared.block_lines.BlockLines.{BlockLines}
 use Rattle.lx_code_lines.specs.declared.lines.Lines.{Lines}

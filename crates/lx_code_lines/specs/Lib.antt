@@ -1,1 +1,4 @@
 pub mod Lines
+pub mod Place
+pub mod PlaceLaws
+pub mod PlaceRows

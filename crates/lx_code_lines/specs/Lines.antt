@@ -9,7 +9,7 @@ use Rattle.lx_images.specs.Code.{Code}
 use Rattle.lx_image_steps.specs.Standing.{rest_from}
 use Rattle.lx_interp.specs.declared.standing.Standing.{Standing}
 use Rattle.lx_interp.specs.Places.{stand_in}
-use Rattle.lx_places.specs.Place.{image_place, line_of, with_left}
+use Rattle.lx_code_lines.specs.Place.{image_place, line_of, with_left}
 use Rattle.lx_code_lines.specs.declared.block_lines.BlockLines.{BlockLines}
 use Rattle.lx_code_lines.specs.declared.lines.Lines.{Lines}
 

@@ -6,7 +6,7 @@ ghost use Rattle.lx_images.specs.Code.{Code as Images};
 ghost use Rattle.lx_images.specs.Guarded.{Accepted};
 ghost use Rattle.lx_image_code.specs.Jumps.{blocks_or_none};
 ghost use Rattle.lx_interp.specs.Places.{stand_in};
-ghost use Rattle.lx_places.specs.Place.{image_place, line_of};
+ghost use Rattle.lx_code_lines.specs.Place.{image_place, line_of};
 ghost use Rattle.lx_code_lines.specs.Lines.{AreFunctionLines, AreLinesOf, HasBlockLines, instrs_or_none, line_at, line_among};
 
 use crate::block_lines::BlockLines;

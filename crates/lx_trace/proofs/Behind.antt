@@ -18,8 +18,8 @@ use Rattle.lx_images.specs.Shown.{shown}
 use Rattle.lx_images.specs.Stands.{StandsFor, ThreadStands, ThreadsStand}
 use Rattle.lx_simulation.specs.Simulation.{AllGuarded, SimulationLaws}
 use Rattle.lx_simulation.proofs.Journals.{served-same}
-use Rattle.lx_places.specs.Laws.{PlaceLaws}
-use Rattle.lx_places.specs.Place.{asks_at, image_place}
+use Rattle.lx_code_lines.specs.PlaceLaws.{PlaceLaws}
+use Rattle.lx_code_lines.specs.Place.{asks_at, image_place}
 use Rattle.lx_trace_text.specs.declared.Site.{Site}
 use Rattle.lx_world.specs.InCall.{call_at, call_of}
 use Rattle.lx_world.specs.Wants.{image_asks}

@@ -12,8 +12,8 @@ use Rattle.lx_model.specs.declared.request.Way.TheVariants.{Script}
 use Rattle.lx_model.specs.declared.request.What.TheVariants as what
 use Rattle.lx_model.specs.Next.{Step, Asks, comes_to, due_or, finish, frame_step, has_action, next, post_action, post_step, pre_action, request, stage_step, start_step, undue_step}
 use Rattle.lx_model.specs.Thread.{Activation, Body, Crossing, Frame, Post, Pre, Stage, Thread}
-use Rattle.lx_places.specs.Laws.{PlaceLaws}
-use Rattle.lx_places.specs.Place.{Place, acting, acting_at, acting_in, asker, asks_at, place_of}
+use Rattle.lx_code_lines.specs.PlaceLaws.{PlaceLaws}
+use Rattle.lx_code_lines.specs.Place.{Place, acting, acting_at, acting_in, asker, asks_at, place_of}
 use Rattle.lx_trace.specs.Laws.{is_of_code}
 
 -- what else is asked is no instruction's

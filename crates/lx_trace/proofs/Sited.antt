@@ -5,8 +5,8 @@ use Rattle.lx_link_texts.specs.WellFormed.{FitsCalls, IsWellFormed}
 use Rattle.lx_model.specs.declared.program.Program.{Program}
 use Rattle.lx_model.specs.declared.program.ScriptCall.{ScriptCall}
 use Rattle.lx_model.specs.Thread.{Thread}
-use Rattle.lx_places.specs.Laws.{PlaceLaws}
-use Rattle.lx_places.specs.Place.{Place, asks_at}
+use Rattle.lx_code_lines.specs.PlaceLaws.{PlaceLaws}
+use Rattle.lx_code_lines.specs.Place.{Place, asks_at}
 use Rattle.lx_trace.specs.Laws.{IsNoEnd}
 use Rattle.lx_trace.specs.Trace.{behind, site, site_of, traced}
 

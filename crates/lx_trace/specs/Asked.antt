@@ -5,7 +5,7 @@ use Rattle.lx_model.specs.declared.request.Reply.{Reply}
 use Rattle.lx_model.specs.declared.request.Request.{Request}
 use Rattle.lx_model.specs.Next.{next}
 use Rattle.lx_model.specs.Thread.{Thread}
-use Rattle.lx_places.specs.Place.{asks_at}
+use Rattle.lx_code_lines.specs.Place.{asks_at}
 use Rattle.lx_trace_text.specs.declared.Site.{Site}
 use Rattle.lx_trace_text.specs.declared.Traced.{Traced}
 use Rattle.lx_trace.specs.declared.run.Asked.{Asked}

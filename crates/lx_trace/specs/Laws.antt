@@ -13,7 +13,7 @@ use Rattle.lx_model.specs.declared.request.What.TheVariants as what
 use Rattle.lx_model.specs.Next.{finish, next}
 use Rattle.lx_model.specs.Thread.{Ending, Thread, has_work}
 use Rattle.lx_model.specs.World.{World, event, is_whole, run}
-use Rattle.lx_places.specs.Place.{Place, asks_at}
+use Rattle.lx_code_lines.specs.Place.{Place, asks_at}
 use Rattle.lx_trace_text.specs.declared.Traced.{Traced}
 use Rattle.lx_trace.specs.Trace.{IsTrace, behind, site, trace, traced}
 

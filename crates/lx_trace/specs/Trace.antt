@@ -9,7 +9,7 @@ use Rattle.lx_model.specs.Next.{next}
 use Rattle.lx_model.specs.Serve.{serve}
 use Rattle.lx_model.specs.Thread.{Thread}
 use Rattle.lx_model.specs.World.{World, event, is_whole, opening, run}
-use Rattle.lx_places.specs.Place.{Place, asks_at, line_of}
+use Rattle.lx_code_lines.specs.Place.{Place, asks_at, line_of}
 use Rattle.lx_runs.specs.Reports.{all_returned}
 use Rattle.lx_trace_text.specs.declared.Site.{Site}
 use Rattle.lx_trace_text.specs.declared.Traced.{Traced}

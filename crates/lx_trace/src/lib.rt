@@ -15,7 +15,7 @@ mod input;
 mod run;
 
 pub use input::{trace_input, trace_under};
-use lx_places::place_laws;
+use lx_code_lines::place_laws;
 use lx_run_laws::reached_laws;
 pub use run::TraceRun;
 

@@ -3,7 +3,7 @@ use Rattle.std.specs.Prelude.{option_map}
 use Rattle.lx_images.specs.Asker.{CodePlace}
 use Rattle.lx_interp.specs.Places.{stand_in}
 use Rattle.lx_model.specs.declared.request.Request.{Request}
-use Rattle.lx_places.specs.Place.{image_place}
+use Rattle.lx_code_lines.specs.Place.{image_place}
 use Rattle.lx_simulation.specs.Images.{code_of}
 use Rattle.lx_trace_text.specs.declared.Site.{Site}
 use Rattle.lx_world.specs.InCall.{call_at}

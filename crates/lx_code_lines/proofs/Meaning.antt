@@ -31,8 +31,8 @@ use Rattle.lx_simulation.proofs.Frames.{AllVerified, PassesCode, sound_at, Stood
 use Rattle.lx_simulation.proofs.Imaging.{other_name}
 use Rattle.lx_simulation.proofs.Verifying.{op_of, name_of_block, Sound}
 use Rattle.lx_simulation.proofs.Walking.{Here, here, name_of, no_ops}
-use Rattle.lx_places.specs.Place.{Place, place_of, first_run, acting_at, acting_in, acting, asker_within, with_left, instr_at}
-use Rattle.lx_places.specs.Laws.{Means}
+use Rattle.lx_code_lines.specs.Place.{Place, place_of, first_run, acting_at, acting_in, acting, asker_within, with_left, instr_at}
+use Rattle.lx_code_lines.specs.PlaceLaws.{Means}
 
 -- the function for which frames act is at a place of its text
 

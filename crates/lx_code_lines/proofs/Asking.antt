@@ -20,8 +20,8 @@ use Rattle.lx_images.specs.Image.{Goes as ImageGoes, Asks as ImageAsks}
 use Rattle.lx_images.specs.ImageCode.{Bare, text_op}
 use Rattle.lx_images.specs.Stands.{StandUnder, WaitAs, CrossesAs, StandsAs, FramesStand, ThreadStands, Well, StepsAgree}
 use Rattle.lx_simulation.specs.Simulation.{SimulationLaws}
-use Rattle.lx_places.specs.Place.{Place, place_of, first_run, acting_at, acting_in, acting, asker_within, asker, image_place}
-use Rattle.lx_places.specs.Laws.{AsksThere}
+use Rattle.lx_code_lines.specs.Place.{Place, place_of, first_run, acting_at, acting_in, acting, asker_within, asker, image_place}
+use Rattle.lx_code_lines.specs.PlaceLaws.{AsksThere}
 
 -- marks are not counted
 

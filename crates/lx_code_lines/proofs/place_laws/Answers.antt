@@ -17,12 +17,12 @@ use Rattle.lx_simulation.proofs.Frames.{FramesStood, ThreadStood}
 use Rattle.lx_simulation.proofs.Guarded.{guarded_run_agrees}
 use Rattle.lx_simulation.proofs.Runs.{each_get}
 use Rattle.lx_simulation.proofs.SparedRuns.{runs_on, threads_stood}
-use Rattle.lx_places.specs.Laws.{AllAskThere}
-use Rattle.lx_places.specs.Place.{asker}
-use Rattle.lx_places.proofs.Askers.{step_asks, image_step_asks}
-use Rattle.lx_places.proofs.Asking.{asks_there}
-use Rattle.lx_places.proofs.Meaning.{asker_stood, frames_mean, asked_line}
-use Rattle.lx_places.proofs.place_laws.Goals as goal
+use Rattle.lx_code_lines.specs.PlaceLaws.{AllAskThere}
+use Rattle.lx_code_lines.specs.Place.{asker}
+use Rattle.lx_code_lines.proofs.Askers.{step_asks, image_step_asks}
+use Rattle.lx_code_lines.proofs.Asking.{asks_there}
+use Rattle.lx_code_lines.proofs.Meaning.{asker_stood, frames_mean, asked_line}
+use Rattle.lx_code_lines.proofs.place_laws.Goals as goal
 
 pub returns : goal.returns
 returns c = record {

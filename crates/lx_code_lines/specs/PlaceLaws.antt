@@ -19,8 +19,8 @@ use Rattle.lx_images.specs.Image.{Asks as ImageAsks}
 use Rattle.lx_images.specs.ImageWorld.{image_opening, image_run}
 use Rattle.lx_images.specs.Stands.{Well, ThreadStands}
 use Rattle.lx_simulation.specs.Simulation.{AllGuarded}
-use Rattle.lx_places.specs.Place.{Place, place_of, acting, asker, asks_at, image_place, instr_at, line_of}
-use Rattle.lx_places.specs.Rows.{WorkedPlaces}
+use Rattle.lx_code_lines.specs.Place.{Place, place_of, acting, asker, asks_at, image_place, instr_at, line_of}
+use Rattle.lx_code_lines.specs.PlaceRows.{WorkedPlaces}
 
 -- the image thread asks at the place at which the program's asks
 abbrev pub AsksThere : Code → ℕ → Thread → ImageThread → Type 0

@@ -10,7 +10,7 @@ use Rattle.lx_images.specs.Image.{ImageThread, ImageStep, ImageAsking, image_ste
 use Rattle.lx_images.specs.Image.{Goes as ImageGoes, Asks as ImageAsks}
 use Rattle.lx_simulation.proofs.ImageAsking.{Falls, step_falls}
 use Rattle.lx_simulation.proofs.ImageAsking.{steps_left as image_steps_left}
-use Rattle.lx_places.specs.Place.{asker_within, asker}
+use Rattle.lx_code_lines.specs.Place.{asker_within, asker}
 
 -- the monitor's threads
 

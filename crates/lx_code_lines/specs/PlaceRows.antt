@@ -12,7 +12,7 @@ use Rattle.lx_ir.specs.declared.instr.UnaryOp.TheVariants.{Freeze}
 use Rattle.lx_model.specs.declared.program.Program.{Program}
 use Rattle.lx_model.specs.declared.program.ProgramFunction.TheVariants.{Of}
 use Rattle.lx_model.specs.Thread.{Activation, Stage, Pre, Body, Post, Frame, Thread, activation}
-use Rattle.lx_places.specs.Place.{Place, place_of, acting, asks_at, image_place, line_of}
+use Rattle.lx_code_lines.specs.Place.{Place, place_of, acting, asks_at, image_place, line_of}
 
 -- `define void @f(ptr %x) {` in line 1, `br label %2` in line 2, `2:` in line 3, `%3 = freeze ptr %x` in line 4, `call void %3()` in line 5, and
 -- `ret void` in line 6

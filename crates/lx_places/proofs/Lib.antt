@@ -1,3 +1,0 @@
-mod Askers
-mod Asking
-mod Meaning
