@@ -6,7 +6,7 @@ use Rattle.lx_model.specs.declared.request.Reply.TheVariants.{Ended}
 use Rattle.lx_model.specs.Thread.{Ending, Thread, has_work}
 use Rattle.lx_model.specs.World.{World, event}
 use Rattle.lx_run_laws.specs.ReachedLaws.{ReachedLaws}
-use Rattle.lx_trace.specs.Laws.{ending_by}
+use Rattle.lx_trace.specs.TraceLaws.{ending_by}
 use Rattle.lx_trace.specs.Trace.{first_function, traced}
 
 -- what is put behind others stands at their number

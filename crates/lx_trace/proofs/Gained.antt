@@ -11,7 +11,7 @@ use Rattle.lx_model.specs.Thread.{Thread, has_work}
 use Rattle.lx_model.specs.Next.{next}
 use Rattle.lx_model.specs.World.{World, event, event_of, event_if, works, can_act, run, is_whole}
 use Rattle.lx_run_laws.proofs.Journal.{noted}
-use Rattle.lx_trace.specs.Laws.{entry_of}
+use Rattle.lx_trace.specs.TraceLaws.{entry_of}
 use Rattle.lx_trace.specs.Trace.{trace, traced, traced_at}
 
 gained_by : (p : Program) (t : ℕ) (w : World) (thread : Thread) (b : Bool) → b ≡ true → (event_if b p t w thread).state.journal ≡ w.state.journal ++ entry_of (traced p t w thread) ∷ []

@@ -2,6 +2,9 @@ pub mod Behind
 pub mod Ended
 pub mod Gained
 pub mod Gathering
+pub mod Named
 pub mod Placed
 pub mod Sited
 pub mod Standing
+pub mod Statuses
+pub mod Telling

@@ -14,7 +14,7 @@ use Rattle.lx_model.specs.Next.{Step, Asks, comes_to, due_or, finish, frame_step
 use Rattle.lx_model.specs.Thread.{Activation, Body, Crossing, Frame, Post, Pre, Stage, Thread}
 use Rattle.lx_code_lines.specs.PlaceLaws.{PlaceLaws}
 use Rattle.lx_code_lines.specs.Place.{Place, acting, acting_at, acting_in, asker, asks_at, place_of}
-use Rattle.lx_trace.specs.Laws.{is_of_code}
+use Rattle.lx_trace.specs.TraceLaws.{is_of_code}
 
 -- what else is asked is no instruction's
 

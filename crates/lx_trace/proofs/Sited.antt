@@ -7,7 +7,7 @@ use Rattle.lx_model.specs.declared.program.ScriptCall.{ScriptCall}
 use Rattle.lx_model.specs.Thread.{Thread}
 use Rattle.lx_code_lines.specs.PlaceLaws.{PlaceLaws}
 use Rattle.lx_code_lines.specs.Place.{Place, asks_at}
-use Rattle.lx_trace.specs.Laws.{IsNoEnd}
+use Rattle.lx_trace.specs.TraceLaws.{IsNoEnd}
 use Rattle.lx_trace.specs.Trace.{behind, site, site_of, traced}
 
 pub has_site : PlaceLaws → (p : Program) → IsWellFormed p → (script : List (List ScriptCall)) (schedule : List ℕ) → FitsCalls p script → (t : ℕ) (thread : Thread) → slice_get (behind p script schedule).threads t ≡ Some thread

@@ -1,5 +1,6 @@
 pub mod Asked
-pub mod Laws
 pub mod Run
 pub mod Tells
 pub mod Trace
+pub mod TraceLaws
+pub mod Traced

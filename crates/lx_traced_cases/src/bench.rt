@@ -1,7 +1,7 @@
 //! A bench, on which the program is run over memory.
 
 use lx_outside::{MemShelf, MemSink, OpenGate};
-use lx_trace_command::lxfi_trace;
+use lx_trace::lxfi_trace;
 use lx_words::Memory;
 use std::alloc::Global;
 use std::fmt::Write;

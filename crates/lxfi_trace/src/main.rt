@@ -3,7 +3,7 @@
 
 use lx_cli::WANT_OF_MEMORY;
 use lx_outside::{FileShelf, OpenGate, StdSink, command_words};
-use lx_trace_command::lxfi_trace;
+use lx_trace::lxfi_trace;
 use std::process::ExitCode;
 
 fn main(rt: HostRuntime) -> ExitCode {

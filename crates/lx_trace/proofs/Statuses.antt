@@ -17,7 +17,7 @@ use Rattle.lx_cli.specs.declared.answer.Answer.{Answer}
 use Rattle.lx_cli.specs.declared.answer.Answer.TheVariants as answer
 use Rattle.lx_cli.proofs.Replays.{whole_unbroken}
 use Rattle.lx_cli.proofs.Statuses.{five_or}
-use Rattle.lx_trace_command.specs.Traced.{IsReplayed, NoNewFault, TellsTraceOf, TellsTraced, run_of}
+use Rattle.lx_trace.specs.Traced.{IsReplayed, NoNewFault, TellsTraceOf, TellsTraced, run_of}
 
 -- a trace is of a whole schedule
 trace_is_whole : (i : Input) (text : List ℕ) (returned : Bool) (entry : ℕ) → TellsTraceOf i (answer.Report text returned) → IsBroken i entry → ⊥

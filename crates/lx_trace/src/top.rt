@@ -8,7 +8,7 @@ ghost use Rattle.lx_input.specs.Files.InputStop.TheVariants as stops;
 ghost use Rattle.lx_input.specs.declared.input.Input.{Input};
 ghost use Rattle.lx_cli.specs.Answer.{EndedBy, IsBroken, unread_line};
 ghost use Rattle.lx_cli.specs.Command.{CommandTurn, Run, UntoldTurn, texts};
-ghost use Rattle.lx_trace_command.specs.Traced.{HasWritten, HasWrittenPart, NoNewFault, asked_trace, usage_line};
+ghost use Rattle.lx_trace.specs.Traced.{HasWritten, HasWrittenPart, NoNewFault, asked_trace, usage_line};
 
 use crate::answer::answer_to;
 use crate::words::named_by;

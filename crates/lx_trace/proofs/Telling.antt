@@ -19,7 +19,7 @@ use Rattle.lx_cli.specs.declared.answer.Answer.{Answer}
 use Rattle.lx_cli.specs.declared.answer.Answer.TheVariants as answer
 use Rattle.lx_cli.proofs.Replays.{whole_unbroken}
 use Rattle.lx_trace.specs.Tells.{TellsTrace}
-use Rattle.lx_trace_command.specs.Traced.{IsGiven, IsReplayed, IsTold, TellsTraceOf, TellsTraced, TellsUnder, answer_of_stop, usage_line}
+use Rattle.lx_trace.specs.Traced.{IsGiven, IsReplayed, IsTold, TellsTraceOf, TellsTraced, TellsUnder, answer_of_stop, usage_line}
 
 -- no schedule is asked for where there is none
 free : (o : Option (List ℕ)) (s : List ℕ) → is_some o ≡ false → IsAsked o s

@@ -1,7 +1,7 @@
 //! The words of the program.
 ghost use Rattle.std.specs.Prelude.{◌≡◌, option_map};
 ghost use Rattle.lx_cli.specs.Words.{is_name, texts};
-ghost use Rattle.lx_trace_command.specs.Traced.{asked_trace, traced_by};
+ghost use Rattle.lx_trace.specs.Traced.{asked_trace, traced_by};
 
 /// What is traced: a case, and the schedule of its run where that is named, by the names of their files.
 #[derive(Clone, Copy)]

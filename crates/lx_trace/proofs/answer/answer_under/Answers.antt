@@ -3,9 +3,9 @@ use Rattle.lx_cli.specs.Command.{CommandTurn, UntoldTurn, Run}
 use Rattle.lx_cli.specs.declared.answer.Answer.{Answer}
 use Rattle.lx_cli.specs.declared.answer.Answer.TheVariants as answer
 use Rattle.lx_cli.proofs.Telling.{if_ok, if_ok_at}
-use Rattle.lx_trace_command.specs.Traced.{TellsUnder, answer_of_stop}
-use Rattle.lx_trace_command.proofs.Telling.{given_broken, given_stop, names_none, noted_stop, told_input, told_run, told_stop}
-use Rattle.lx_trace_command.proofs.answer.answer_under.Goals as goal
+use Rattle.lx_trace.specs.Traced.{TellsUnder, answer_of_stop}
+use Rattle.lx_trace.proofs.Telling.{given_broken, given_stop, names_none, noted_stop, told_input, told_run, told_stop}
+use Rattle.lx_trace.proofs.answer.answer_under.Goals as goal
 
 pub returns-in-Ok-clause-answer : goal.returns-in-Ok-clause-answer
 returns-in-Ok-clause-answer g c =

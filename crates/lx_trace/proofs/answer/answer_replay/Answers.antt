@@ -3,9 +3,9 @@ use Rattle.lx_cli.specs.Command.{CommandTurn, UntoldTurn, Replay}
 use Rattle.lx_cli.specs.declared.answer.Answer.{Answer}
 use Rattle.lx_cli.specs.declared.answer.Answer.TheVariants as answer
 use Rattle.lx_cli.proofs.Telling.{if_ok, if_ok_at}
-use Rattle.lx_trace_command.specs.Traced.{TellsUnder, answer_of_stop}
-use Rattle.lx_trace_command.proofs.Telling.{names_none, noted_stop, replayed_broken, replayed_stop, told_input, told_replay, told_stop}
-use Rattle.lx_trace_command.proofs.answer.answer_replay.Goals as goal
+use Rattle.lx_trace.specs.Traced.{TellsUnder, answer_of_stop}
+use Rattle.lx_trace.proofs.Telling.{names_none, noted_stop, replayed_broken, replayed_stop, told_input, told_replay, told_stop}
+use Rattle.lx_trace.proofs.answer.answer_replay.Goals as goal
 
 pub answer_input-requires-clause-asked : goal.answer_input-requires-clause-asked
 answer_input-requires-clause-asked g c = c.in-Ok.ensures.there.schedule

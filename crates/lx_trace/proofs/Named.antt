@@ -5,7 +5,7 @@ use Rattle.lx_input.specs.declared.input.Input.{Input}
 use Rattle.lx_runs.specs.Reports.{IsAsked, broken_at}
 use Rattle.lx_cli.specs.declared.answer.Answer.TheVariants as answer
 use Rattle.lx_trace.specs.Trace.{IsTrace}
-use Rattle.lx_trace_command.specs.Traced.{TellsTraceOf, TraceCommandLaws}
+use Rattle.lx_trace.specs.Traced.{TellsTraceOf, TraceCommandLaws}
 
 named_trace : (i : Input) (s text : List ℕ) (returned : Bool) → i.besides.schedule ≡ Some s → TellsTraceOf i (answer.Report text returned) → IsTrace i.program i.script s returned text
 named_trace i s text returned named told =

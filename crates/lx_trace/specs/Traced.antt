@@ -16,7 +16,7 @@ use Rattle.lx_cli.specs.declared.answer.Answer.{Answer}
 use Rattle.lx_cli.specs.declared.answer.Answer.TheVariants as answer
 use Rattle.lx_trace.specs.Tells.{TellsTrace}
 use Rattle.lx_trace.specs.Trace.{IsTrace}
-use Rattle.lx_trace_command.specs.declared.words.Named.{Named}
+use Rattle.lx_trace.specs.declared.words.Named.{Named}
 
 -- the command whose run is traced: a case is run, or replayed where a schedule is named
 

@@ -3,9 +3,9 @@ use Rattle.lx_cli.specs.Command.{CommandTurn, UntoldTurn, Run, asked_of, case_of
 use Rattle.lx_cli.specs.declared.answer.Answer.{Answer}
 use Rattle.lx_cli.specs.declared.answer.Answer.TheVariants as answer
 use Rattle.lx_cli.proofs.Telling.{if_ok, if_ok_at}
-use Rattle.lx_trace_command.specs.Traced.{answer_of_stop}
-use Rattle.lx_trace_command.proofs.Telling.{arose_whole, noted_stop, replayed_stop, told_stop}
-use Rattle.lx_trace_command.proofs.answer.answer_run.Goals as goal
+use Rattle.lx_trace.specs.Traced.{answer_of_stop}
+use Rattle.lx_trace.proofs.Telling.{arose_whole, noted_stop, replayed_stop, told_stop}
+use Rattle.lx_trace.proofs.answer.answer_run.Goals as goal
 
 pub returns-in-Err-clause-answer : goal.returns-in-Err-clause-answer
 returns-in-Err-clause-answer g c =

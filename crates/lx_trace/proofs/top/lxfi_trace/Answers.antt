@@ -7,10 +7,10 @@ use Rattle.lx_cli.specs.Answer.{EndedBy, IsBroken}
 use Rattle.lx_cli.specs.Command.{Command, CommandTurn, Run, UntoldTurn, texts}
 use Rattle.lx_cli.specs.Rows.{status_of}
 use Rattle.lx_cli.proofs.Statuses.{five_or, no_two, status_is, unread_of, unread_written}
-use Rattle.lx_trace_command.specs.Traced.{IsReplayed, NoNewFault, asked_trace, traced_by, usage_line}
-use Rattle.lx_trace_command.proofs.Statuses.{all_comes, broken_comes, broken_told, fault_comes, fault_told, few_statuses, missing_comes, one_turn, turn_ends, unread_told, whole_told}
-use Rattle.lx_trace_command.proofs.Telling.{is_told, none_asked, none_told}
-use Rattle.lx_trace_command.proofs.top.lxfi_trace.Goals as goal
+use Rattle.lx_trace.specs.Traced.{IsReplayed, NoNewFault, asked_trace, traced_by, usage_line}
+use Rattle.lx_trace.proofs.Statuses.{all_comes, broken_comes, broken_told, fault_comes, fault_told, few_statuses, missing_comes, one_turn, turn_ends, unread_told, whole_told}
+use Rattle.lx_trace.proofs.Telling.{is_told, none_asked, none_told}
+use Rattle.lx_trace.proofs.top.lxfi_trace.Goals as goal
 
 -- no case
 

@@ -2,8 +2,8 @@
 use Rattle.std.proofs.Common.{ap, subst, sym, ℕ, List, Option, Some, option_copied}
 use Rattle.lx_cli.specs.Command.{CommandTurn, UntoldTurn}
 use Rattle.lx_cli.proofs.Telling.{if_ok}
-use Rattle.lx_trace_command.specs.Traced.{IsReplayed, TellsTraced, run_of}
-use Rattle.lx_trace_command.proofs.answer.answer_to.Goals as goal
+use Rattle.lx_trace.specs.Traced.{IsReplayed, TellsTraced, run_of}
+use Rattle.lx_trace.proofs.answer.answer_to.Goals as goal
 
 pub returns-in-Some-clause-answer : goal.returns-in-Some-clause-answer
 returns-in-Some-clause-answer g c =

@@ -4,14 +4,14 @@ ghost use Rattle.lx_outside.specs.declared.file_text.FileText.{FileText};
 ghost use Rattle.lx_input.specs.Laws.{IsReady};
 ghost use Rattle.lx_cli.specs.Command.{CommandTurn, Replay, Run, UntoldTurn};
 ghost use Rattle.lx_cli.specs.Told.{answer_of};
-ghost use Rattle.lx_trace_command.specs.Traced.{IsGiven, IsReplayed, TellsTraced, TellsUnder, answer_of_stop, traced_by};
+ghost use Rattle.lx_trace.specs.Traced.{IsGiven, IsReplayed, TellsTraced, TellsUnder, answer_of_stop, traced_by};
 
 use crate::words::Named;
+use crate::{trace_input, trace_under};
 use lx_cli::Answer;
 use lx_input::{Asked, Input, InputStop, input_laws, read_input};
 use lx_outside::{Gate, Shelf};
 use lx_runs::{Host, Told, account_input};
-use lx_trace::{trace_input, trace_under};
 use lx_words::Memory;
 use std::alloc::Global;
 use std::sync::Wait;
