@@ -3,4 +3,5 @@ mod Crossings
 mod Effects
 mod Entering
 mod Holding
+mod MarkAsking
 mod Performing

@@ -5,4 +5,5 @@ pub mod CrossingLaws
 pub mod EffectLaws
 pub mod EntryLaws
 pub mod HoldingLaws
+pub mod MarkLaws
 pub mod Outcomes

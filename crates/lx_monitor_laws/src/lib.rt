@@ -1,5 +1,6 @@
-//! Laws of the monitor in words of their own, so that a definition that is wrong together with its code breaks one: what requests do to each
-//! byte of memory, what calls enter, who holds what, what actions do to owners, which actions a crossing does, and what a report tells.
+//! Laws of the monitor and of images in words of their own, so that a definition that is wrong together with its code breaks one: what requests do to
+//! each byte of memory, what calls enter, who holds what, what actions do to owners, which actions a crossing does, what a report tells, which bytes
+//! a guard is enough for, and for whom a module's text asks.
 //!
 //! ```text
 //! effect_laws();
@@ -8,6 +9,9 @@
 //! // Behind a transfer nobody but its destination owns an atom of the items.
 //! crossing_laws();
 //! // A call that crosses comes to each action of its annotation, once and in order.
+//! mark_laws();
+//! // Behind a guard of 8 bytes at 0x2000000 a store of 8 bytes there is asked for the principal on top, and one of 8 bytes at 0x2000004 for
+//! // the kernel, since the guard does not name its last four bytes.
 //! ```
 #![tactic(auto)]
 
@@ -17,6 +21,7 @@ ghost use Rattle.lx_monitor_laws.specs.CrossingLaws.{CrossingLaws};
 ghost use Rattle.lx_monitor_laws.specs.EffectLaws.{EffectLaws};
 ghost use Rattle.lx_monitor_laws.specs.EntryLaws.{EntryLaws};
 ghost use Rattle.lx_monitor_laws.specs.HoldingLaws.{HoldingLaws};
+ghost use Rattle.lx_monitor_laws.specs.MarkLaws.{MarkLaws};
 ghost use Rattle.lx_monitor_laws.specs.Outcomes.{WorkedOutcomes};
 
 use lx_caps::{owner_laws, region_laws};
@@ -62,4 +67,10 @@ pub fn worked_outcomes()
 /// The numbers of guards, checks and wrappers that are reported of a module are those of its image with all guards.
 pub fn count_laws()
     ensures { CountLaws }
+{}
+
+/// A guard is enough for a range exactly where it names each of its bytes, and a check for its own target alone. What a module's text does
+/// behind such a mark is asked for the principal on top of its thread, and what it does without one for the kernel.
+pub fn mark_laws()
+    ensures { MarkLaws }
 {}

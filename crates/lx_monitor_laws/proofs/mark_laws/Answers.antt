@@ -3,8 +3,8 @@ use Rattle.std.proofs.Common.{◌∙◌, refl, ap}
 use Rattle.lx_words.specs.Width.{byte_count}
 use Rattle.lx_model.specs.declared.request.What.TheVariants.{Store, Copy, Fill}
 use Rattle.lx_images.specs.Image.{is_checked, principal_if}
-use Rattle.lx_mark_laws.proofs.Asking.{by_guard, checked, unchecked}
-use Rattle.lx_mark_laws.proofs.mark_laws.Goals as goal
+use Rattle.lx_monitor_laws.proofs.MarkAsking.{by_guard, checked, unchecked}
+use Rattle.lx_monitor_laws.proofs.mark_laws.Goals as goal
 
 pub returns : goal.returns
 returns c = record {

@@ -9,7 +9,7 @@ use Rattle.lx_caps.specs.declared.Principal.TheVariants.{Kernel}
 use Rattle.lx_model.specs.declared.request.What.{What}
 use Rattle.lx_model.specs.declared.request.What.TheVariants.{Store, Copy, Fill}
 use Rattle.lx_images.specs.Image.{Marks, covered, is_checked, module_asker, principal_if, top}
-use Rattle.lx_mark_laws.specs.MarkLaws.{AsksByGuard, NamesEach}
+use Rattle.lx_monitor_laws.specs.MarkLaws.{AsksByGuard, NamesEach}
 
 names_all : (g : ℕ × ℕ) (a n : ℕ) → 0 < n → NamesEach g a n → covered (Some g) a n ≡ true
 names_all g a n some names =
