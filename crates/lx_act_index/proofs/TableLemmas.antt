@@ -3,6 +3,7 @@ use Rattle.std.proofs.Common.{zero, suc, ◌≡◌, ◌≢◌, ◌∙◌, inl, i
 use Rattle.std.proofs.lemmas.Bool.{cases_lt}
 use Rattle.std.proofs.lemmas.Bool.Decides.{nat_tests}
 use Rattle.std.proofs.lemmas.List.{length_push, get_or_push, get_or_append_left, get_or-take, get_or-set_same, get_or-set_other, length-take-le, length-set}
+use Rattle.lx_words.proofs.Tests.{eq_self}
 use Rattle.lx_caps.specs.declared.Atom.{Atom}
 use Rattle.lx_caps.specs.declared.Atom.TheVariants as atom
 use Rattle.lx_caps.specs.declared.Cap.TheVariants as cap
@@ -21,7 +22,6 @@ use Rattle.lx_act_index.specs.declared.threads.Thread.{Thread}
 use Rattle.lx_act_index.specs.Lines.{line_with}
 use Rattle.lx_act_index.specs.Threads.{is_open}
 use Rattle.lx_act_index.specs.Table.{line_at, shown, line_of, key_line, IsTable, entry_of, IsNoted, IsFresh, AreFresh, ArePut, HasGrown, NotedFrom}
-use Rattle.lx_caps.proofs.Tests.{eq_itself}
 use Rattle.lx_cap_lists.proofs.KeyPlaces.{behind_far, same_parts}
 
 -- fresh lines, one more
@@ -114,7 +114,7 @@ range_noted threads s r old new fresh are put b l is =
             let within : j < length fresh = omega (arith, c, less, ge) in
             let place : part_list (r.at / 64 + j) ≡ Some l = ap part_list at ∙ is in
             let made = are.each j within l place in
-            noted_by threads s (covers r.at r.size b) (b % 64) made.0 (line_at old l) (line_at fresh j) (line_at new l) made.1 (made.2 b (ap (λ p. nat_eq p (b / 64)) at ∙ eq_itself (b / 64))) made.3
+            noted_by threads s (covers r.at r.size b) (b % 64) made.0 (line_at old l) (line_at fresh j) (line_at new l) made.1 (made.2 b (ap (λ p. nat_eq p (b / 64)) at ∙ eq_self (b / 64))) made.3
             (put.put j l (omega arith) within place)
         | inr far ↦ inl (not_covered_behind r.at r.size b far, put.others l (λ j low lt at. absurd (let same = one_part (r.at / 64 + j) (b / 64) l at is in omega (arith, same, far, c, lt))))
       ]

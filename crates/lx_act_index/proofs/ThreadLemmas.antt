@@ -3,13 +3,13 @@ use Rattle.std.proofs.Common.{◌≡◌, ◌∙◌, refl, sym, ap, subst, inl, i
 use Rattle.std.proofs.lemmas.Bool.{cases_lt, and_right, and_left}
 use Rattle.std.proofs.lemmas.Bool.Decides.{nat_tests}
 use Rattle.std.proofs.lemmas.List.{length_push, get_or_push, get_or_append_left, get_or-take, length-take-le}
+use Rattle.lx_words.proofs.Tests.{first_of}
 use Rattle.lx_caps.specs.declared.Act.TheVariants.{Loan, Shut, ShutAll}
 use Rattle.lx_caps.specs.Loans.{Ends, Newest, Every, Endings, none_end, opened_by, before_loan, before_shut, before_shut_all, and_more, goes_on, lends}
 use Rattle.lx_caps.specs.History.{History}
 use Rattle.lx_act_index.specs.declared.threads.Loan as loan
 use Rattle.lx_act_index.specs.declared.threads.Thread.{Thread}
 use Rattle.lx_act_index.specs.Threads.{idle, thread_at, is_opened, is_open_in, is_open, newest_of, opened, shut, HasTurned, IsThread, AreThreads}
-use Rattle.lx_caps.proofs.Tests.{first_true}
 
 and_alike : (a b c d : Bool) → a ≡ c → (c ≡ true → b ≡ d) → (a && b) ≡ (c && d)
 and_alike true b true d is same = same refl
@@ -229,7 +229,7 @@ shut_threads h t n old new turned are u = turned_by (Shut t n ∷ h) t u (shut n
             has_loan = λ lent.
                 let both = now ∙ lent in
                 let none : nat_eq n 0 ≡ true = and_second thread.lends (nat_eq n 0) both in
-                let many = (are u).has_loan (sym (are u).lending ∙ first_true thread.lends (nat_eq n 0) both) in
+                let many = (are u).has_loan (sym (are u).lending ∙ first_of thread.lends (nat_eq n 0) both) in
                 let zero_n = eqb-true n 0 none in
                 omega (arith, len, many, zero_n);
             before = λ k lt.

@@ -5,13 +5,13 @@ use Rattle.std.specs.Result.{result_ok}
 use Rattle.std.proofs.lemmas.Bool.Decides.{nat_tests}
 use Rattle.std.proofs.lemmas.Bool.{cond-false, or_cases, and_parts, leb-true, lt-ltb, le-ltb}
 use Rattle.std.proofs.lemmas.List.{places}
+use Rattle.lx_words.proofs.Tests.{zero_more}
 use Rattle.lx_caps.specs.Regions.{covers, mapped, first_unmapped, lies_in, region_size, globals_start, heap_start, stacks_start}
 use Rattle.lx_caps.specs.Memory.{Memory, Put, byte_at, bytes_at, number_at, number_of, load64}
 use Rattle.lx_memory.specs.Ranges.{place_of, range_fault, IsFault}
 use Rattle.lx_memory.specs.Shows.{Shows}
 use Rattle.lx_memory.specs.declared.range.Unmapped.{Unmapped}
 use Rattle.lx_actions.specs.Shown.{memory_of, IsShownBy}
-use Rattle.lx_caps.proofs.Tests.{from_zero}
 
 -- a byte of a range that lies in memory lies in memory
 byte_mapped : (at size b : ℕ) → mapped at size ≡ true → at ≤ b → b < at + size → mapped b 1 ≡ true
@@ -78,7 +78,7 @@ in_globals space a low high =
     let heap = take region_size (drop region_size space) in
     let stacks = take region_size (drop (2 * region_size) space) in
     ap (λ (b : Bool). get_or space (if b then a - globals_start else (if nat_lt a stacks_start then region_size + (a - heap_start) else 2 * region_size + (a - stacks_start))) 0) below
-    ∙ ap (λ (k : ℕ). get_or space k 0) (from_zero (a - globals_start))
+    ∙ ap (λ (k : ℕ). get_or space k 0) (zero_more (a - globals_start))
     ∙ in_region space globals_start 0 a (byte_at (Put heap_start heap ∷ Put stacks_start stacks ∷ []) a) low high
     (not_covered heap_start (length heap) a _ _ (inl (omega arith)) ∙ not_covered stacks_start (length stacks) a _ _ (inl (omega arith)))
 

@@ -1,7 +1,8 @@
 -- The capabilities of items, from one item to the next.
-use Rattle.std.proofs.Common.{◌≡◌, refl, sym, ap, ℕ, suc, ◌+◌, ◌<◌, List, [], ◌++◌, length, drop, get_or, Ok, Err, arith, append_assoc}
+use Rattle.std.proofs.Common.{◌≡◌, refl, sym, ap, ℕ, suc, ◌+◌, ◌<◌, List, [], ◌++◌, length, drop, get_or, Ok, Err, append_assoc}
 use Rattle.std.proofs.Math.Seq.{drop-cons}
 use Rattle.lx_caps.specs.declared.Cap.{Cap}
+use Rattle.lx_caps.proofs.Tests.{one_more}
 use Rattle.lx_annot.specs.declared.expr.Env.{Env}
 use Rattle.lx_annot.specs.declared.interface.Item.{Item}
 use Rattle.lx_annot.specs.Value.{Found, Look, and_then}
@@ -18,11 +19,8 @@ pub behind-nothing : (f : Found (List Cap)) → behind [] f ≡ f
 behind-nothing (Ok more) = refl
 behind-nothing (Err at) = refl
 
-one-more : (n : ℕ) → n + 1 ≡ suc n
-one-more n = omega arith
-
 pub next-item : (look : Look) (env : Env) (items : List Item) (i : ℕ) (d : Item) (caps c : List Cap) → i < length items → item_cap look env (get_or items i d) ≡ Ok c → behind (caps ++ c) (item_caps look env (drop (i + 1) items)) ≡ behind caps (item_caps look env (drop i items))
-next-item look env items i d caps c within is = rw (drop-cons items i d within, is, one-more i) (sym (joined (item_caps look env (drop (suc i) items)) caps c))
+next-item look env items i d caps c within is = rw (drop-cons items i d within, is, one_more i) (sym (joined (item_caps look env (drop (suc i) items)) caps c))
 
 pub failed-item : (look : Look) (env : Env) (items : List Item) (i : ℕ) (d : Item) (caps : List Cap) (at : ℕ) → i < length items → item_cap look env (get_or items i d) ≡ Err at → behind caps (item_caps look env (drop i items)) ≡ Err at
 failed-item look env items i d caps at within is = rw (drop-cons items i d within, is) refl

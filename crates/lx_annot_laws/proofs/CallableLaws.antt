@@ -21,7 +21,7 @@ use Rattle.lx_annot_terms.specs.Clauses.{begins_clause, clauses_at}
 use Rattle.lx_annot_laws.specs.Parts.{IsFurther, IsParamName, IsAnnotation}
 use Rattle.lx_annot_laws.proofs.Mapping.{mapped_is}
 use Rattle.lx_annot_laws.proofs.Sequences.{further_read, further_found}
-use Rattle.lx_annot_laws.proofs.SignatureLaws.{name_read, name_found}
+use Rattle.lx_annot_laws.proofs.SignatureLaws.{name_read, name_found, bracket_no_comma, closed_by}
 use Rattle.lx_annot_laws.proofs.ClauseLaws.{annotation_read, annotation_found}
 use Rattle.lx_cproto.specs.declared.callable.Callable.{Callable}
 use Rattle.lx_cproto.specs.Types.{is_void, type_at, base_at, word_type, value_type_at}
@@ -63,9 +63,6 @@ always ts = true
 
 param_before : (before : List Parameter) (p : Parameter) → ReadsBefore always (param_behind before) p (IsParam before p)
 param_before before p ts us c is = param_read before p ts us is
-
-bracket_no_comma : (t : Tok) (us : List Tok) → has (codes ")") (t ∷ []) ≡ true → has (codes ",") (t ∷ us) ≡ false
-bracket_no_comma t us h = ap (λ b. bytes_eq b (codes ",")) ((bytes_eq-Decides t.bytes (codes ")")).0 h)
 
 further_length : (before ps : List Parameter) (ts : List Tok) → IsFurther (codes ",") IsParam before ps ts → length ps ≤ length ts
 further_length before [] ts e = omega arith
@@ -146,9 +143,6 @@ not_alone p ps ts us (f, b, (v, (rest, e, n)), q, w) =
 
 abbrev params_by : List Tok → Bool → Read (List Parameter)
 params_by ts b = if b then Ok ([], behind ts) else some_params_at ts
-
-abbrev closed_by : Read (List Parameter) → Read (List Parameter)
-closed_by r = r >>= λ ps. next_at (codes ")") ps.1 >>= λ c. Ok (ps.0, c.1)
 
 abbrev closed_params : List Tok → Read (List Parameter)
 closed_params ts = closed_by (params_at ts)

@@ -1,13 +1,11 @@
 -- An interface that can be said can be with one thing more.
-use Rattle.std.proofs.Common.{◌≡◌, ℕ, ◌+◌, ◌==◌, ◌&&◌, true, false, List, [], ◌∷◌, ◌++◌, length, All, refl, sym, ap, ◌∙◌, bytes_eq, arith}
+use Rattle.std.proofs.Common.{◌≡◌, ℕ, ◌+◌, ◌==◌, ◌&&◌, false, List, [], ◌∷◌, ◌++◌, length, All, refl, sym, ap, ◌∙◌, bytes_eq, arith}
 use Rattle.std.specs.Cmp.{IsEquivalence}
 use Rattle.std.specs.List.{IsDistinct, list_any}
-use Rattle.std.proofs.lemmas.Bool.{and_parts}
 use Rattle.std.proofs.lemmas.List.{length-append, map-append, append-nil}
 use Rattle.std.proofs.lemmas.List.Elements.{All-nil, All-push, All-weaker}
 use Rattle.std.proofs.lemmas.Map.Keys.{IsDistinct-push}
-use Rattle.std.proofs.lemmas.Slice.Eq.{bytes_eq-Decides}
-use Rattle.lx_words.proofs.Tests.{same_tests as same_test, equal, equal_test}
+use Rattle.lx_words.proofs.Tests.{same_tests as same_test}
 use Rattle.lx_words.proofs.Lists.{bytes_same}
 use Rattle.lx_annot.specs.declared.interface.CapIterator.{CapIterator}
 use Rattle.lx_annot.specs.declared.interface.Slot.{Slot}
@@ -19,7 +17,7 @@ use Rattle.lx_annot_terms.specs.Lists.{Known}
 use Rattle.lx_annot_read.specs.declared.head.Version.{Version}
 use Rattle.lx_annot_read.specs.declared.head.Version.TheVariants as versions
 use Rattle.lx_annot_read.specs.Interfaces.{iterator_names, slot_names, export_names, known_in, is_typed, with_reftype, with_iterator, with_slot, with_field, with_export, empty}
-use Rattle.lx_annot_laws.proofs.Lawful.{iterator_name, slot_name, export_name, differs_more}
+use Rattle.lx_annot_laws.proofs.Lawful.{iterator_name, slot_name, export_name, differs_more, field_means, field_from}
 use Rattle.lx_annot_laws.specs.Says.{IsWord}
 use Rattle.lx_annot_laws.specs.Grows.{Grows}
 use Rattle.lx_annot_laws.specs.Sayable.{IsSayable, IsSayableSlot, IsSayableExport, IsSayableIterator, IsSayableField}
@@ -30,12 +28,6 @@ abbrev pub uses : Interface → Known
 uses i = known_in versions.Two i
 
 -- Tests of names and of fields.
-
-field_means : (a b : Field) → same_field a b ≡ true → (b.index ≡ a.index) × (b.name ≡ a.name)
-field_means a b h = let k = and_parts (b.index == a.index) (bytes_eq b.name a.name) h in (equal b.index a.index k.0, (bytes_eq-Decides b.name a.name).0 k.1)
-
-field_from : (a b : Field) → b.index ≡ a.index → b.name ≡ a.name → same_field a b ≡ true
-field_from a b e f = ap (λ n. (b.index == n) && bytes_eq b.name a.name) (sym e) ∙ ap (λ t. t && bytes_eq b.name a.name) (equal_test b.index) ∙ (bytes_eq-Decides b.name a.name).1 f
 
 pub fields_same : IsEquivalence same_field
 fields_same = record {

@@ -187,12 +187,12 @@ module _ (sig : Signature) (known : Known) where
 
 -- Fields.
 
-field_means : (a b : Field) → same_field a b ≡ true → (b.index ≡ a.index) × (b.name ≡ a.name)
+pub field_means : (a b : Field) → same_field a b ≡ true → (b.index ≡ a.index) × (b.name ≡ a.name)
 field_means a b h =
     let k = and_parts (b.index == a.index) (bytes_eq b.name a.name) h in
     (equal b.index a.index k.0, (bytes_eq-Decides b.name a.name).0 k.1)
 
-field_from : (a b : Field) → b.index ≡ a.index → b.name ≡ a.name → same_field a b ≡ true
+pub field_from : (a b : Field) → b.index ≡ a.index → b.name ≡ a.name → same_field a b ≡ true
 field_from a b e f =
     ap (λ n. (b.index == n) && bytes_eq b.name a.name) (sym e) ∙ ap (λ t. t && bytes_eq b.name a.name) (equal_test b.index) ∙ (bytes_eq-Decides b.name a.name).1 f
 

@@ -25,7 +25,7 @@ use Rattle.lx_annot_read.specs.declared.fault.Met.{Met}
 use Rattle.lx_annot_read.specs.Faults.{kind_of, fault_of, answered, met_as, last_line, lexical, met_at_end, met_at}
 use Rattle.lx_annot_read.specs.Said.{what_of}
 use Rattle.lx_annot_read.specs.Texts.{window, rest_behind, place_of, fault_in, seen, limited}
-use Rattle.lx_annot_laws.proofs.TextLaws.{room, further, limited_read, limited_ok, front_found}
+use Rattle.lx_annot_laws.proofs.TextLaws.{room, further, limited_read, limited_ok, front_found, front_window}
 use Rattle.lx_annot_laws.specs.RefusedLaws.{is_refused}
 use Rattle.lx_annot_laws.specs.RefusedPartLaws.{is_refusal, is_bound}
 use Rattle.lx_annot_laws.proofs.Local.{Looks, Tidy, Bound, Split, no_longer, same_split, Local}
@@ -84,13 +84,6 @@ parted (y ∷ ys) (suc k) x e = let p = parted ys k x e in (y ∷ p.0, p.1, ap (
 at_length : {A : Type 0} (xs : List A) (y : A) (ys : List A) → slice_get (xs ++ y ∷ ys) (length xs) ≡ Some y
 at_length [] y ys = refl
 at_length (x ∷ xs) y ys = at_length xs y ys
-
-front_window : (n : ℕ) (front back : List Token) → length front ≤ n → take n (front ++ back) ≡ front ++ take (n - length front) back
-front_window n [] back le = let e : n ≡ n - 0 = omega arith in ap (λ k. take k back) e
-front_window zero (t ∷ front) back le = absurd (omega (arith, le))
-front_window (suc n) (t ∷ front) back le =
-    let e : n - length front ≡ suc n - suc (length front) = omega arith in
-    ap (λ y. t ∷ y) (front_window n front back (omega (arith, le))) ∙ ap (λ k. t ∷ (front ++ take k back)) e
 
 module _ (text : List ℕ) (stop : Option Stop) where
   seen_front : (front back : List Token) → length front ≤ most_tokens → seen text (front ++ back) ≡ toks_of text front ++ further text stop front back

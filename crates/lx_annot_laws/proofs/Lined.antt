@@ -1,5 +1,5 @@
 -- Statements that differ in lines alone.
-use Rattle.std.proofs.Common.{◌≡◌, ℕ, false, List, [], ◌∷◌, ◌++◌, map, refl, sym, ap, ◌∙◌, subst, codes}
+use Rattle.std.proofs.Common.{◌≡◌, ℕ, false, List, [], ◌∷◌, ◌++◌, map, refl, ap, ◌∙◌, subst, codes}
 use Rattle.std.specs.Prelude.{◌||◌, Bool}
 use Rattle.std.specs.List.{list_any}
 use Rattle.lx_words.proofs.Lists.{map_one_more}
@@ -12,9 +12,9 @@ use Rattle.lx_annot_terms.specs.Signatures.{Signature}
 use Rattle.lx_annot_terms.specs.Grammar.{IsKnown}
 use Rattle.lx_annot_read.specs.declared.head.Version.TheVariants as versions
 use Rattle.lx_annot_read.specs.Head.{may_lend}
-use Rattle.lx_annot_read.specs.Interfaces.{known_in, is_field, is_typed}
+use Rattle.lx_annot_read.specs.Interfaces.{known_in}
 use Rattle.lx_annot_read.specs.Aside.{iterator_aside, slot_aside, field_aside, export_aside}
-use Rattle.lx_annot_read.proofs.Aside.{Same, same_reftypes, same_iterators, same_slots, same_exports}
+use Rattle.lx_annot_read.proofs.Aside.{Same, same_reftypes, same_iterators, same_slots, same_exports, same_typed, same_by}
 use Rattle.lx_annot_laws.specs.Statements.{Statement, OfReftype, OfIterator, OfSlot, OfField, OfExport, IsFresh, IsIteratorBody, IsCallable, IsStruct, IsIndex, IsStatement, IsInLine, with_statement}
 
 -- a statement in this line
@@ -46,10 +46,6 @@ any_aside : (p : Field → Bool) → ((f : Field) → p (field_aside f) ≡ p f)
 any_aside p h [] = refl
 any_aside p h (f ∷ fs) = λ k. h f k || any_aside p h fs k
 
-same_typed : (i j : Interface) (struct : List ℕ) (n : ℕ) → Same i j → is_typed i struct n ≡ is_typed j struct n
-same_typed i j struct n s =
-    sym (any_aside (is_field struct n) (λ f. refl) i.fields) ∙ ap (λ (k : Interface). list_any (is_field struct n) k.fields) s ∙ any_aside (is_field struct n) (λ f. refl) j.fields
-
 same_known : (i j : Interface) → Same i j → known_in versions.Two i ≡ known_in versions.Two j
 same_known i j s = λ k. record { reftypes = same_reftypes i j s k; iterators = same_iterators i j s k; lends = may_lend versions.Two }
 
@@ -69,9 +65,6 @@ statement_same i j (OfExport x) ts same is =
     subst (λ (k : List (List ℕ) × Known). callable_part (codes "export") k.0 k.1 x.name (record { ret = x.ret; params = x.params }) x.annotation ts) (λ k. (same_exports i j same k, same_known i j same k)) is
 
 -- One statement more.
-
-same_by : (i j : Interface) → i.reftypes ≡ j.reftypes → i.iterators ≡ j.iterators → i.slots ≡ j.slots → i.fields ≡ j.fields → i.exports ≡ j.exports → i ≡ j
-same_by i j a b c d e = λ k. record { reftypes = a k; iterators = b k; slots = c k; fields = d k; exports = e k }
 
 pub more_same : (i j : Interface) (s : Statement) (n : ℕ) → Same i j → Same (with_statement i s) (with_statement j (lined n s))
 more_same i j s n same = by s

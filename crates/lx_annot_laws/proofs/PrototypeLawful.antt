@@ -61,7 +61,7 @@ IsOf known f = list_any (λ z. bytes_eq f.name (struct_type z)) known ≡ true
 abbrev IsOfThese : List (List ℕ) → List ℕ → ℕ → Field → Type 0
 IsOfThese known s n f = IsOf known f ⊎ ((f.name ≡ struct_type s) × (f.index < n))
 
-same_struct : (known : List (List ℕ)) (s : List ℕ) → list_any (λ z. bytes_eq (struct_type s) (struct_type z)) known ≡ list_any (bytes_eq s) known
+pub same_struct : (known : List (List ℕ)) (s : List ℕ) → list_any (λ z. bytes_eq (struct_type s) (struct_type z)) known ≡ list_any (bytes_eq s) known
 same_struct [] s = refl
 same_struct (z ∷ known) s = ap (λ b. bytes_eq s z || b) (same_struct known s)
 
@@ -72,7 +72,7 @@ not_old known s n f true fresh h is =
     let there : list_any (bytes_eq s) known ≡ true = sym (same_struct known s) ∙ ap (λ y. list_any (λ z. bytes_eq y (struct_type z)) known) (sym same) ∙ is in
     cc
 
-below_differs : (k n : ℕ) (b : Bool) → k < n → (k == n) && b ≡ false
+pub below_differs : (k n : ℕ) (b : Bool) → k < n → (k == n) && b ≡ false
 below_differs k n b lt = let e : k == n ≡ false = grind (arith, nat_tests) in ap (λ a. a && b) e
 
 not_there : (known : List (List ℕ)) (s : List ℕ) (n : ℕ) (f : Field) → list_any (bytes_eq s) known ≡ false → IsOfThese known s n f → is_field (struct_type s) n f ≡ false
@@ -90,7 +90,7 @@ later : (known : List (List ℕ)) (s : List ℕ) (n : ℕ) (f : Field) → IsOfT
 later known s n f (inl is) = inl is
 later known s n f (inr (same, lt)) = inr (same, omega (arith, lt))
 
-fresh_here : (names : List (List ℕ)) (name : List ℕ) (ts : List Tok) → IsFresh names name ts → list_any (bytes_eq name) names ≡ false
+pub fresh_here : (names : List (List ℕ)) (name : List ℕ) (ts : List Tok) → IsFresh names name ts → list_any (bytes_eq name) names ≡ false
 fresh_here names name ts (t, h, g) = fresh_differs names t.kind t.bytes name h
 
 plain_inside : (known : List (List ℕ)) (s : List ℕ) (n : ℕ) (i : Interface) → Inside known s n i → Inside known s (suc n) i

@@ -22,7 +22,7 @@ use Rattle.lx_annot_laws.proofs.Counts.{scanned_few}
 use Rattle.lx_annot_laws.specs.Says.{IsWord, AreLexed}
 use Rattle.lx_annot_laws.specs.Sayable.{AreSayableParams, IsSayableCallable, IsSayable}
 use Rattle.lx_annot_laws.proofs.Lexed.{front_lexed, back_lexed, toks_split}
-use Rattle.lx_annot_laws.proofs.SayableParts.{fresh_word, fresh_new, param_more, no_params, iterator_sayable}
+use Rattle.lx_annot_laws.proofs.SayableParts.{fresh_word, param_more, no_params, iterator_sayable}
 use Rattle.lx_annot_laws.proofs.Kept.{reftype_kept, iterator_kept, slot_kept, field_kept, export_kept, empty_sayable}
 use Rattle.lx_cproto.specs.Types.{type_at}
 use Rattle.lx_cproto.specs.Statements.{may_use}
@@ -31,6 +31,7 @@ use Rattle.lx_annot_laws.specs.Declarations.{Member, Plain, Holds, Declaration, 
 use Rattle.lx_annot_laws.proofs.TypeFronts.{type_steady}
 use Rattle.lx_annot_laws.proofs.Lexemes.{scanned_lexed}
 use Rattle.lx_annot_laws.proofs.Structs.{IsOf, IsOfThese, struct_said, no_field, later, old_or_last}
+use Rattle.lx_annot_laws.proofs.PrototypeLawful.{fresh_here}
 
 -- What stands behind a type.
 
@@ -130,22 +131,22 @@ struct_outside text known i name ms j tokens l few is declared =
     let named = fresh_word known name f1 (front_lexed b f1 b1 w1 (back_lexed (toks_of text declared.front) f b w opening)) fresh in
     let size : length tokens ≡ length declared.front + (length declared.body + length declared.back) = ap length declared.whole ∙ length-append declared.front (declared.body ++ declared.back) ∙ ap (λ n. length declared.front + n) (length-append declared.body declared.back) in
     let fits : 0 + length declared.body ≤ greatest_index = omega (arith, size, few) in
-    let (n, members) = members_inside text known name (fresh_new known name f1 fresh) named ms i j [] declared.body inner fits (opens known name i is) declared.members in
+    let (n, members) = members_inside text known name (fresh_here known name f1 fresh) named ms i j [] declared.body inner fits (opens known name i is) declared.members in
     closes known name n j members
 
 plain_outside : (known : List (List ℕ)) (i : Interface) (x : Declaration) (ts : List Tok) → AreLexed ts → Outside known i → IsPlain i x ts → Outside known (with_plain i x)
 plain_outside known i (OfReftype name) ts l is (f, b, word, (f1, b1, fresh, end, w1), w) =
     let here = front_lexed b f1 b1 w1 (back_lexed ts f b w l) in
-    record { said = reftype_kept i name is.said (fresh_word i.reftypes name f1 here fresh) (fresh_new i.reftypes name f1 fresh); fields = is.fields }
+    record { said = reftype_kept i name is.said (fresh_word i.reftypes name f1 here fresh) (fresh_here i.reftypes name f1 fresh); fields = is.fields }
 plain_outside known i (OfIterator x) ts l is (f, b, word, (f1, b1, fresh, body, w1), w) =
     let lb = back_lexed ts f b w l in
     let said = iterator_sayable (may_use i) x b1 (back_lexed b f1 b1 w1 lb) (fresh_word (iterator_names i) x.name f1 (front_lexed b f1 b1 w1 lb) fresh) body in
-    record { said = iterator_kept i x is.said said (fresh_new (iterator_names i) x.name f1 fresh); fields = is.fields }
+    record { said = iterator_kept i x is.said said (fresh_here (iterator_names i) x.name f1 fresh); fields = is.fields }
 plain_outside known i (OfPrototype x) ts l is (none, (rest, read, (f, b, fresh, body, w))) =
     let sig : Signature = record { ret = x.ret; params = x.params } in
     let lr = typed_lexed x.ret ts rest read l in
     let said = callable_sayable (may_use i) x.name sig x.annotation b (back_lexed rest f b w lr) (fresh_word (export_names i) x.name f (front_lexed rest f b w lr) fresh) body in
-    record { said = export_kept i x is.said said (fresh_new (export_names i) x.name f fresh); fields = is.fields }
+    record { said = export_kept i x is.said said (fresh_here (export_names i) x.name f fresh); fields = is.fields }
 plain_outside known i (OfStruct name ms) ts l is h = absurd h
 
 declared_outside : (text : List ℕ) (known : List (List ℕ)) (i : Interface) (x : Declaration) (k : Interface) (tokens : List Token) → AreLexed (toks_of text tokens) → length tokens ≤ greatest_index → Outside known i

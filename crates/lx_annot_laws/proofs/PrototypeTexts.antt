@@ -1,5 +1,5 @@
 -- Texts of prototypes: a token at which the first reading stops cannot stand there.
-use Rattle.std.proofs.Common.{◌≡◌, ◌⊎◌, ℕ, zero, suc, Option, Some, None, List, [], ◌∷◌, length, Result, Ok, Err, refl, sym, ap, ◌∙◌, subst}
+use Rattle.std.proofs.Common.{◌≡◌, ◌⊎◌, ℕ, zero, suc, Option, Some, None, List, [], ◌∷◌, length, Result, Err, refl, sym, ap, ◌∙◌, subst}
 use Rattle.lx_words.specs.declared.token.TokenRule.TheVariants as rules
 use Rattle.lx_words.specs.declared.token.Token.{Token}
 use Rattle.lx_words.specs.declared.token.Stop.{Stop}
@@ -21,15 +21,12 @@ use Rattle.lx_annot_laws.specs.PrototypeRefusedLaws.{RefusedPrototypeTokensStand
 use Rattle.lx_annot_laws.proofs.PrototypeStatements.{head_plain}
 use Rattle.lx_annot_laws.proofs.Outside.{step_plain, step_hungry}
 use Rattle.lx_annot_laws.proofs.PrototypeAlike.{SameDeclared, declared_same, step_same}
+use Rattle.lx_annot_laws.proofs.Texts.{then_alike}
 
 step_local : (l m : ℕ) (d e : Declared) → SameDeclared d e → Local SameDeclared (step_at l d) (step_at m e)
 step_local l m d e same = alike_local SameDeclared (step_at l d) (step_at m e) (step_plain l d) (step_same d e same l m)
 
 -- The reading of a text as such a loop.
-
-then_alike : {A B : Type 0} (r : Result A Met) (f g : A → Result B Met) → ((x : A) → f x ≡ g x) → (r and_then f) ≡ (r and_then g)
-then_alike (Ok x) f g h = h x
-then_alike (Err d) f g h = refl
 
 body_is : (text : List ℕ) (stop : Option Stop) (n : ℕ) (d : Declared) (tokens : List Token) → body_at text stop n d tokens ≡ loop step_at text stop n d tokens
 unfolding body_at more_at

@@ -1,6 +1,5 @@
 -- What tokens of a text declare can be said again, also where more is known.
-use Rattle.std.proofs.Common.{◌≡◌, ℕ, false, Some, List, [], ◌∷◌, ◌++◌, sym, ap, ◌∙◌, subst, append_assoc, bytes_eq, codes}
-use Rattle.std.specs.List.{list_any}
+use Rattle.std.proofs.Common.{◌≡◌, ℕ, false, Some, List, [], ◌∷◌, ◌++◌, sym, ap, ◌∙◌, subst, append_assoc, codes}
 use Rattle.std.proofs.lemmas.List.{append-nil}
 use Rattle.std.proofs.lemmas.List.Elements.{All-nil, All-push}
 use Rattle.lx_words.specs.declared.token.TokenKind.TheVariants as kinds
@@ -33,9 +32,6 @@ named_word t name is kind bytes = ap (lexeme_of rules.Interface) (sym bytes) ∙
 -- a name that is new is a word, and none of those before
 pub fresh_word : (names : List (List ℕ)) (name : List ℕ) (ts : List Tok) → AreLexed ts → IsFresh names name ts → IsWord name
 fresh_word names name ts lexed (t, h, e) = let k = fresh_named names t.kind t.bytes name h in named_word t name (one_lexed ts t e lexed) k.0 k.1
-
-pub fresh_new : (names : List (List ℕ)) (name : List ℕ) (ts : List Tok) → IsFresh names name ts → list_any (bytes_eq name) names ≡ false
-fresh_new names name ts (t, h, e) = fresh_differs names t.kind t.bytes name h
 
 -- Parameters.
 

@@ -65,7 +65,7 @@ always ts = true
 param_before : (before : List Parameter) (p : Parameter) → ReadsBefore always (param_behind before) p (IsParam before p)
 param_before before p ts us c is = param_read before p ts us is
 
-bracket_no_comma : (t : Tok) (us : List Tok) → has (codes ")") (t ∷ []) ≡ true → has (codes ",") (t ∷ us) ≡ false
+pub bracket_no_comma : (t : Tok) (us : List Tok) → has (codes ")") (t ∷ []) ≡ true → has (codes ",") (t ∷ us) ≡ false
 bracket_no_comma t us h = ap (λ b. bytes_eq b (codes ",")) ((bytes_eq-Decides t.bytes (codes ")")).0 h)
 
 abbrev first_then : (List Tok → Read (List Parameter)) → Type 0
@@ -115,7 +115,7 @@ no_bracket : (p : Parameter) (ps : List Parameter) (ts us : List Tok) → (IsPar
 no_bracket p ps ts us (f1, b1, (f2, b2, (u, ty, g), n, w2), q, w1) =
     subst (λ x. has (codes ")") (x ++ us) ≡ false) (sym (w1 ∙ ap (λ x. x ++ b1) (w2 ∙ ap (λ x. x ++ b2) g))) (type_no_bracket u [] p.ty (bytes_eq u.bytes (codes ")")) refl ty)
 
-abbrev closed_by : Read (List Parameter) → Read (List Parameter)
+abbrev pub closed_by : Read (List Parameter) → Read (List Parameter)
 closed_by r = r >>= λ ps. next_at (codes ")") ps.1 >>= λ c. Ok (ps.0, c.1)
 
 abbrev params_by : List Tok → Bool → Read (List Parameter)

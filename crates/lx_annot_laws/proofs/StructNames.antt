@@ -120,7 +120,7 @@ behind_percent (b ∷ bs) h = struct_by (b == 34) b bs h
 
 -- A token that is a name behind `%`.
 
-whether : (test : Bool) (k l : Lexeme) → when test k ≡ Some l → (test ≡ true) × (k ≡ l)
+pub whether : (test : Bool) (k l : Lexeme) → when test k ≡ Some l → (test ≡ true) × (k ≡ l)
 whether true k l h = let same : k ≡ l = cc in (refl, same)
 whether false k l h = cc
 

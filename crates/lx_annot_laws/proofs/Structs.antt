@@ -3,12 +3,10 @@ use Rattle.std.proofs.Common.{◌≡◌, ℕ, suc, ◌<◌, ◌==◌, ◌&&◌, 
 use Rattle.std.specs.Prelude.{◌||◌, if◌then◌else◌}
 use Rattle.std.specs.List.{list_any, list_all}
 use Rattle.std.proofs.lemmas.Bool.{and_parts, or_left, and_from}
-use Rattle.std.proofs.lemmas.Bool.Decides.{nat_tests}
 use Rattle.std.proofs.lemmas.List.Elements.{All-weaker}
 use Rattle.std.proofs.lemmas.List.Folds.{list_any_none}
 use Rattle.std.proofs.lemmas.Slice.Eq.{bytes_eq-Decides}
 use Rattle.lx_words.specs.declared.token.TokenKind.TheVariants as kinds
-use Rattle.lx_words.specs.declared.token.Lexeme.{Lexeme}
 use Rattle.lx_words.specs.declared.token.Lexeme.TheVariants as lexemes
 use Rattle.lx_words.specs.Lexemes.{is_space, is_digit, is_word_start, is_word_byte, is_name_byte, is_line_byte, is_interface_mark, is_name, is_nil, when, lexeme_behind, other_lexeme}
 use Rattle.lx_words.proofs.Lists.{any_front, any_last}
@@ -18,15 +16,11 @@ use Rattle.lx_annot.specs.declared.interface.Interface.{Interface}
 use Rattle.lx_annot_read.specs.Interfaces.{is_field, is_typed}
 use Rattle.lx_annot_laws.specs.Says.{IsWord}
 use Rattle.lx_annot_laws.specs.Sayable.{IsStructName}
-use Rattle.lx_annot_laws.proofs.StructNames.{name_of_bytes}
+use Rattle.lx_annot_laws.proofs.StructNames.{name_of_bytes, whether}
 use Rattle.lx_cproto.specs.Statements.{struct_type}
+use Rattle.lx_annot_laws.proofs.PrototypeLawful.{same_struct, below_differs}
 
 -- Names.
-
--- what a test makes a lexeme of
-whether : (test : Bool) (k l : Lexeme) → when test k ≡ Some l → (test ≡ true) × (k ≡ l)
-whether true k l h = let same : k ≡ l = cc in (refl, same)
-whether false k l h = cc
 
 word_by : (a b c d e t1 t2 t3 t4 t5 t6 : Bool) → (if a then when t1 lexemes.Space else if b then when t2 lexemes.Comment else if c then when t3 (lexemes.Token kinds.Local) else if d then when t4 (lexemes.Token kinds.Number) else if e then when t5 (lexemes.Token kinds.Word) else when t6 (lexemes.Token kinds.Mark)) ≡ Some (lexemes.Token kinds.Word) → (e ≡ true) × (t5 ≡ true)
 word_by true b c d e t1 t2 t3 t4 t5 t6 h = let k : lexemes.Space ≡ lexemes.Token kinds.Word = (whether t1 lexemes.Space (lexemes.Token kinds.Word) h).1 in cc
@@ -69,19 +63,12 @@ IsOf known f = list_any (λ z. bytes_eq f.name (struct_type z)) known ≡ true
 abbrev pub IsOfThese : List (List ℕ) → List ℕ → ℕ → Field → Type 0
 IsOfThese known s n f = IsOf known f ⊎ ((f.name ≡ struct_type s) × (f.index < n))
 
-same_struct : (known : List (List ℕ)) (s : List ℕ) → list_any (λ z. bytes_eq (struct_type s) (struct_type z)) known ≡ list_any (bytes_eq s) known
-same_struct [] s = refl
-same_struct (z ∷ known) s = ap (λ b. bytes_eq s z || b) (same_struct known s)
-
 not_old : (known : List (List ℕ)) (s : List ℕ) (n : ℕ) (f : Field) (b : Bool) → list_any (bytes_eq s) known ≡ false → bytes_eq f.name (struct_type s) ≡ b → IsOf known f → (f.index == n) && b ≡ false
 not_old known s n f false fresh h is = and_false (f.index == n)
 not_old known s n f true fresh h is =
     let same : f.name ≡ struct_type s = (bytes_eq-Decides f.name (struct_type s)).0 h in
     let there : list_any (bytes_eq s) known ≡ true = sym (same_struct known s) ∙ ap (λ y. list_any (λ z. bytes_eq y (struct_type z)) known) (sym same) ∙ is in
     cc
-
-below_differs : (k n : ℕ) (b : Bool) → k < n → (k == n) && b ≡ false
-below_differs k n b lt = let e : k == n ≡ false = grind (arith, nat_tests) in ap (λ a. a && b) e
 
 not_there : (known : List (List ℕ)) (s : List ℕ) (n : ℕ) (f : Field) → list_any (bytes_eq s) known ≡ false → IsOfThese known s n f → is_field (struct_type s) n f ≡ false
 not_there known s n f fresh (inl is) = not_old known s n f (bytes_eq f.name (struct_type s)) fresh refl is

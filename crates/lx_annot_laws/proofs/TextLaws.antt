@@ -24,6 +24,7 @@ use Rattle.lx_annot_read.specs.Interfaces.{empty, statement_at}
 use Rattle.lx_annot_read.specs.Texts.{window, rest_behind, seen, limited, first_at, next_at as next_statement_at, ◌and_then◌, body_at, ended, interface_at, SaysInterface, FirstInterfaceFault}
 use Rattle.lx_annot_laws.specs.Statements.{Statement, OfReftype, OfIterator, OfSlot, OfField, OfExport, IsStatement, IsInLine, with_statement, Stands, AreStatements, number_of_version, IsHead, IsInterface}
 use Rattle.lx_annot_laws.proofs.StatementLaws.{statement_read, statement_found}
+use Rattle.lx_annot_laws.proofs.Walked.{no_word}
 
 -- Answers.
 
@@ -48,7 +49,7 @@ apart x d (Err f) p q = cc
 
 -- The next tokens.
 
-front_window : (n : ℕ) (front back : List Token) → length front ≤ n → take n (front ++ back) ≡ front ++ take (n - length front) back
+pub front_window : (n : ℕ) (front back : List Token) → length front ≤ n → take n (front ++ back) ≡ front ++ take (n - length front) back
 front_window n [] back le = let e : n ≡ n - 0 = omega arith in ap (λ k. take k back) e
 front_window zero (t ∷ front) back le = absurd (omega (arith, le))
 front_window (suc n) (t ∷ front) back le =
@@ -132,16 +133,13 @@ statement_begins v i (OfSlot x) u us is = no_clause_word (codes "slot") (u ∷ u
 statement_begins v i (OfField x) u us is = no_clause_word (codes "field") (u ∷ us) refl refl refl (first_has (codes "field") _ u us is)
 statement_begins v i (OfExport x) u us is = no_clause_word (codes "export") (u ∷ us) refl refl refl (first_has (codes "export") _ u us is)
 
-word_some : (text : List ℕ) (q : Part) → (Is text then q) [] → ⊥
-word_some text q (f, b, (t, h, g), p, w) = let e : [] ≡ t ∷ b = w ∙ ap (λ x. x ++ b) g in cc
-
 -- and has a token
 statement_some : (v : Version) (i : Interface) (s : Statement) → IsStatement v i s [] → ⊥
-statement_some v i (OfReftype x) is = word_some (codes "reftype") _ is
-statement_some v i (OfIterator x) is = word_some (codes "iterator") _ is
-statement_some v i (OfSlot x) is = word_some (codes "slot") _ is
-statement_some v i (OfField x) is = word_some (codes "field") _ is
-statement_some v i (OfExport x) is = word_some (codes "export") _ is
+statement_some v i (OfReftype x) is = no_word (codes "reftype") _ is
+statement_some v i (OfIterator x) is = no_word (codes "iterator") _ is
+statement_some v i (OfSlot x) is = no_word (codes "slot") _ is
+statement_some v i (OfField x) is = no_word (codes "field") _ is
+statement_some v i (OfExport x) is = no_word (codes "export") _ is
 
 -- The first line.
 

@@ -30,7 +30,7 @@ statement_local v l m i j same =
 
 -- The reading of a text as such a loop.
 
-then_alike : {A B : Type 0} (r : Result A Met) (f g : A → Result B Met) → ((x : A) → f x ≡ g x) → (r and_then f) ≡ (r and_then g)
+pub then_alike : {A B : Type 0} (r : Result A Met) (f g : A → Result B Met) → ((x : A) → f x ≡ g x) → (r and_then f) ≡ (r and_then g)
 then_alike (Ok x) f g h = h x
 then_alike (Err d) f g h = refl
 

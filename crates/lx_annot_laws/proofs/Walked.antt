@@ -19,7 +19,7 @@ use Rattle.lx_annot_laws.proofs.Lined.{lined, lined_there, statement_lined, stat
 
 -- A statement has a token.
 
-no_word : (word : List ℕ) (q : Part) → (Is word then q) [] → ⊥
+pub no_word : (word : List ℕ) (q : Part) → (Is word then q) [] → ⊥
 no_word word q (front, back, (t, h, e), rest, w) = cc (w ∙ ap (λ f. f ++ back) e)
 
 no_statement : (i : Interface) (s : Statement) → IsStatement versions.Two i s [] → ⊥

@@ -47,7 +47,7 @@ pub same_exports : (i j : Interface) → Same i j → export_names i ≡ export_
 same_exports i j s =
     sym (map_aside (λ (x : Export). x.name) export_aside (λ x. refl) i.exports) ∙ ap (λ (k : Interface). map (λ (x : Export). x.name) k.exports) s ∙ map_aside (λ (x : Export). x.name) export_aside (λ x. refl) j.exports
 
-same_typed : (i j : Interface) (struct : List ℕ) (n : ℕ) → Same i j → is_typed i struct n ≡ is_typed j struct n
+pub same_typed : (i j : Interface) (struct : List ℕ) (n : ℕ) → Same i j → is_typed i struct n ≡ is_typed j struct n
 same_typed i j struct n s =
     sym (any_aside (is_field struct n) field_aside (λ x. refl) i.fields) ∙ ap (λ (k : Interface). list_any (is_field struct n) k.fields) s ∙ any_aside (is_field struct n) field_aside (λ x. refl) j.fields
 
@@ -59,7 +59,7 @@ same_known v i j s = λ k. record { reftypes = same_reftypes i j s k; iterators 
 make : List (List ℕ) → List CapIterator → List Slot → List Field → List Export → Interface
 make a b c d e = record { reftypes = a; iterators = b; slots = c; fields = d; exports = e }
 
-same_by : (i j : Interface) → i.reftypes ≡ j.reftypes → i.iterators ≡ j.iterators → i.slots ≡ j.slots → i.fields ≡ j.fields → i.exports ≡ j.exports → i ≡ j
+pub same_by : (i j : Interface) → i.reftypes ≡ j.reftypes → i.iterators ≡ j.iterators → i.slots ≡ j.slots → i.fields ≡ j.fields → i.exports ≡ j.exports → i ≡ j
 same_by i j a b c d e = λ k. record { reftypes = a k; iterators = b k; slots = c k; fields = d k; exports = e k }
 
 iterators_aside : (i j : Interface) → Same i j → map iterator_aside i.iterators ≡ map iterator_aside j.iterators

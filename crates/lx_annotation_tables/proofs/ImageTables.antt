@@ -5,6 +5,7 @@ use Rattle.std.specs.List.{enumerate_from, list_any}
 use Rattle.std.proofs.lemmas.List.{take_more, take_all}
 use Rattle.std.proofs.lemmas.List.FromFn.{length-enumerate_from, get_or-enumerate_from}
 use Rattle.std.proofs.lemmas.List.Sums.{sum_by-append}
+use Rattle.lx_words.proofs.Lists.{map_length}
 use Rattle.lx_ir.specs.declared.module.Function.{Function}
 use Rattle.lx_ir.specs.declared.module.Module.{Module}
 use Rattle.lx_ir.specs.declared.instr.Instr.{Instr}
@@ -24,7 +25,7 @@ use Rattle.lx_annotation_tables.specs.Images.{image_of, inserted_in, is_behind, 
 use Rattle.lx_annotation_tables.specs.declared.images.Inserted.TheVariants.{Guard, Check}
 use Rattle.lx_annotation_tables.proofs.Texts.{first_there, goes_on}
 use Rattle.lx_annotation_tables.proofs.Told.{is_of, found_marked}
-use Rattle.lx_model.proofs.Items.{map_length, mapped_more}
+use Rattle.lx_model.proofs.Items.{mapped_more}
 
 -- one function more
 

@@ -2,6 +2,7 @@
 use Rattle.std.proofs.Common.{◌≡◌, ℕ, zero, suc, ◌+◌, Bool, true, false, Some, None, List, [], ◌∷◌, ◌++◌, refl, ap, sym, subst, ◌∙◌, arith}
 use Rattle.std.specs.Prelude.{slice_get}
 use Rattle.std.proofs.lemmas.Option.{same_Some}
+use Rattle.lx_words.proofs.Lists.{from_start}
 use Rattle.lx_ir.specs.declared.module.Function.{Function}
 use Rattle.lx_ir.specs.declared.module.Module.{Module}
 use Rattle.lx_ir.specs.Lookup.{is_defined}
@@ -13,7 +14,6 @@ use Rattle.lx_model.specs.Program.{Home, module_of}
 use Rattle.lx_link_texts.specs.Placing.{functions_of, entries_from, entry_if, module_entries, natives}
 use Rattle.lx_link_texts.specs.WellFormed.{IsWellFormed, texts_of}
 use Rattle.lx_annotation_tables.specs.Entries.{IsEntry}
-use Rattle.lx_model.proofs.Items.{from_start}
 use Rattle.lx_model.proofs.Homes.{module_at}
 
 -- each element of a list

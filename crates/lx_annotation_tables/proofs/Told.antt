@@ -6,6 +6,7 @@ use Rattle.std.proofs.lemmas.Bool.Decides.{nat_tests}
 use Rattle.std.proofs.lemmas.List.Folds.{find_at}
 use Rattle.std.proofs.lemmas.List.{take_all}
 use Rattle.std.proofs.lemmas.Option.{slice_get_past, slice_get-map, slice_get-get_or, same_Some}
+use Rattle.lx_words.proofs.Tests.{above_fails}
 use Rattle.lx_ir.specs.declared.module.Function.{Function}
 use Rattle.lx_ir.specs.declared.module.Module.{Module}
 use Rattle.lx_ir.specs.Lookup.{is_defined}
@@ -26,7 +27,6 @@ use Rattle.lx_propagate.specs.Slots.{annotated_of, annotated_from, marked}
 use Rattle.lx_annotation_tables.specs.Entries.{IsDefinedAt, IsEntry, annotation_of, annotation_by, all_annotated}
 use Rattle.lx_link_texts.specs.WellFormed.{IsWellFormed}
 use Rattle.lx_annotation_tables.proofs.Texts.{entry_at}
-use Rattle.lx_model.proofs.Tests.{more_differs}
 
 -- exports
 
@@ -75,7 +75,7 @@ skip_mark i m f n false rest h = refl
 none_before : (i : Interface) (m : Module) (f n : ℕ) (fs : List Function) → f < n → find (is_of f) (annotated_from i m n fs) ≡ None
 none_before i m f n [] h = refl
 none_before i m f n (g ∷ gs) h =
-    skip_mark i m f n (is_defined g) (annotated_from i m (suc n) gs) (more_differs n f h) ∙ none_before i m f (suc n) gs (omega (arith, h))
+    skip_mark i m f n (is_defined g) (annotated_from i m (suc n) gs) (above_fails n f h) ∙ none_before i m f (suc n) gs (omega (arith, h))
 
 stands : (f : ℕ) (o : Option ℕ) (n : ℕ) (rest : List Marked) → n ≡ f → find (is_of f) rest ≡ None → find (is_of f) (option_to_list (option_map (marked n) o) ++ rest) ≡ option_map (marked n) o
 stands f None n rest e h = h

@@ -6,6 +6,8 @@ use Rattle.std.proofs.lemmas.Bool.Decides.{nat_tests}
 use Rattle.std.proofs.lemmas.Grind.{flat_map-append}
 use Rattle.std.proofs.lemmas.List.Folds.{list_any-append}
 use mathlib.Core.List.{append-nil}
+use Rattle.lx_words.proofs.Tests.{or_false}
+use Rattle.lx_words.proofs.Lists.{map_append}
 use Rattle.lx_caps.specs.declared.Principal.{Principal}
 use Rattle.lx_caps.specs.declared.Principal.TheVariants.{Kernel, Shared, Global, Inst}
 use Rattle.lx_caps.specs.History.{same_principal}
@@ -14,10 +16,8 @@ use Rattle.lx_caps.specs.Precedence.{precedes, IsFirstPrincipal}
 use Rattle.lx_model.specs.State.{module_principals}
 use Rattle.lx_slot_types.specs.Gets.{below}
 use Rattle.lx_call_targets.specs.Writers.{is_known}
-use Rattle.lx_caps.proofs.Items.{map_append}
 use Rattle.lx_caps.proofs.PrincipalOrder.{not_before_itself, precedes-trans, same_first}
 use Rattle.lx_caps.proofs.Principals.{same_principal_is, same_principal_itself}
-use Rattle.lx_caps.proofs.Tests.{or_nothing}
 
 abbrev among : Principal → List Principal → Bool
 among q qs = list_any (same_principal q) qs
@@ -34,7 +34,7 @@ pub record IsListing (passes : Principal → Bool) (qs : List Principal) : Type 
 
 -- one alone
 one : (q : Principal) → IsListing (λ r. same_principal r q) (q ∷ [])
-one q = record { each = λ r. or_nothing (same_principal r q); ordered = (λ r is. absurd (cc), tt) }
+one q = record { each = λ r. or_false (same_principal r q); ordered = (λ r is. absurd (cc), tt) }
 
 join_order : (xs ys : List Principal) → AreInOrder xs → AreInOrder ys → ((q r : Principal) → among q xs ≡ true → among r ys ≡ true → precedes q r ≡ true) → AreInOrder (xs ++ ys)
 join_order [] ys a b before = b
@@ -148,8 +148,8 @@ instance_more a n k c d false other count = grind (arith, nat_tests, other)
 
 one_module_more : (names : Namings) (n : ℕ) (q : Principal) → (is_known n names q || is_of_module n (instance_count names n) q) ≡ is_known (suc n) names q
 one_module_more names n Kernel = refl
-one_module_more names n (Shared a) = ap (λ t. nat_lt a n || t) (or_nothing (nat_eq a n)) ∙ eq_or_less a n
-one_module_more names n (Global a) = ap (λ t. nat_lt a n || t) (or_nothing (nat_eq a n)) ∙ eq_or_less a n
+one_module_more names n (Shared a) = ap (λ t. nat_lt a n || t) (or_false (nat_eq a n)) ∙ eq_or_less a n
+one_module_more names n (Global a) = ap (λ t. nat_lt a n || t) (or_false (nat_eq a n)) ∙ eq_or_less a n
 one_module_more names n (Inst a k) = instance_more a n k (instance_count names a) (instance_count names n) (nat_eq a n) refl (λ e. ap (instance_count names) e)
 
 none_known : (names : Namings) (q : Principal) → false ≡ is_known 0 names q

@@ -3,12 +3,12 @@ use Rattle.std.proofs.Common.{◌≡◌, ◌≢◌, ℕ, suc, ◌+◌, ◌<◌, 
 use Rattle.std.proofs.lemmas.List.{drop_all}
 use Rattle.lx_words.specs.declared.word.Width.{Width}
 use Rattle.lx_words.specs.Width.{same_width}
+use Rattle.lx_words.proofs.Tests.{and_false}
+use Rattle.lx_words.proofs.Lists.{rest_at}
 use Rattle.lx_ir.specs.declared.module.Parameter.{Parameter}
 use Rattle.lx_ir.specs.Layout.{width_of}
 use Rattle.lx_annot.specs.declared.interface.Parameter.{Parameter as DeclaredParameter}
 use Rattle.lx_model.specs.Program.{are_declared, declared_width, is_of_width, same_widths}
-use Rattle.lx_caps.proofs.Tests.{and_none}
-use Rattle.lx_caps.proofs.Items.{rest_at}
 
 pub widths_step : {A B : Type 0} (f : A → Width) (g : B → Width) (xs : List A) (ys : List B) (i : ℕ) (x : A) (y : B) → i < length xs → i < length ys → x ≡ get_or xs i x → y ≡ get_or ys i y
     → same_widths (map f (drop i xs)) (map g (drop i ys)) ≡ (same_width (f x) (g y) && same_widths (map f (drop (i + 1) xs)) (map g (drop (i + 1) ys)))
@@ -27,7 +27,7 @@ pub widths_length : {A B : Type 0} (f : A → Width) (g : B → Width) (xs : Lis
 widths_length f g [] [] h = absurd (h refl)
 widths_length f g [] (y ∷ ys) h = refl
 widths_length f g (x ∷ xs) [] h = refl
-widths_length f g (x ∷ xs) (y ∷ ys) h = ap (λ b. same_width (f x) (g y) && b) (widths_length f g xs ys (λ e. h (ap suc e))) ∙ and_none (same_width (f x) (g y))
+widths_length f g (x ∷ xs) (y ∷ ys) h = ap (λ b. same_width (f x) (g y) && b) (widths_length f g xs ys (λ e. h (ap suc e))) ∙ and_false (same_width (f x) (g y))
 
 -- the same where widths themselves are compared
 
@@ -48,7 +48,7 @@ pub bare_length : {B : Type 0} (g : B → Width) (ws : List Width) (ys : List B)
 bare_length g [] [] h = absurd (h refl)
 bare_length g [] (y ∷ ys) h = refl
 bare_length g (w ∷ ws) [] h = refl
-bare_length g (w ∷ ws) (y ∷ ys) h = ap (λ b. same_width w (g y) && b) (bare_length g ws ys (λ e. h (ap suc e))) ∙ and_none (same_width w (g y))
+bare_length g (w ∷ ws) (y ∷ ys) h = ap (λ b. same_width w (g y) && b) (bare_length g ws ys (λ e. h (ap suc e))) ∙ and_false (same_width w (g y))
 
 -- the same for parameters and what is declared
 
@@ -69,4 +69,4 @@ pub declared_length : (ds : List DeclaredParameter) (xs : List Parameter) → le
 declared_length [] [] h = absurd (h refl)
 declared_length [] (x ∷ xs) h = refl
 declared_length (d ∷ ds) [] h = refl
-declared_length (d ∷ ds) (x ∷ xs) h = ap (λ b. is_of_width (declared_width d.ty) (width_of x.ty) && b) (declared_length ds xs (λ e. h (ap suc e))) ∙ and_none (is_of_width (declared_width d.ty) (width_of x.ty))
+declared_length (d ∷ ds) (x ∷ xs) h = ap (λ b. is_of_width (declared_width d.ty) (width_of x.ty) && b) (declared_length ds xs (λ e. h (ap suc e))) ∙ and_false (is_of_width (declared_width d.ty) (width_of x.ty))

@@ -4,6 +4,7 @@ use Rattle.std.specs.Int.{bit_at}
 use Rattle.std.proofs.lemmas.Bool.Decides.{nat_tests}
 use Rattle.std.proofs.lemmas.Nat.Bits.{bit_at-zero, bit_at-lt, bit_at_not}
 use Rattle.std.proofs.lemmas.Bool.{and_parts}
+use Rattle.lx_words.proofs.Tests.{and_false, or_joined}
 use Rattle.lx_caps.specs.History.{same_principal}
 use Rattle.lx_cap_lists.specs.declared.entry.Entry.{Entry}
 use Rattle.lx_cap_lists.specs.declared.holder.Holder.{Holder}
@@ -12,7 +13,7 @@ use Rattle.lx_cap_lists.specs.Holders.{same_holder}
 use Rattle.lx_cap_lists.specs.Bits.{is_set}
 use Rattle.lx_cap_lists.specs.Entries.{gives_bit, bit_among, with_mask, left_of, cut_node, cut_all}
 use Rattle.lx_cap_lists.proofs.Masks.{set_in_both}
-use Rattle.lx_caps.proofs.Tests.{and_none, or_join, or_swap}
+use Rattle.lx_caps.proofs.Tests.{or_swap}
 use Rattle.lx_caps.proofs.Principals.{same_principal_is}
 
 pub none_set : (k : ℕ) → is_set 0 k ≡ false
@@ -43,7 +44,7 @@ and_join false b c = refl
 pub bit_append : (among : Holder → Bool) (k : ℕ) (xs ys : List (ℕ × Entry)) → bit_among among (xs ++ ys) k ≡ (bit_among among xs k || bit_among among ys k)
 bit_append among k [] ys = refl
 bit_append among k (x ∷ xs) ys =
-    ap (λ b. gives_bit among k x.1 || b) (bit_append among k xs ys) ∙ sym (or_join (gives_bit among k x.1) (bit_among among xs k) (bit_among among ys k))
+    ap (λ b. gives_bit among k x.1 || b) (bit_append among k xs ys) ∙ sym (or_joined (gives_bit among k x.1) (bit_among among xs k) (bit_among among ys k))
 
 -- a node with more bits
 wider : (a v m r : Bool) (t : Bool) → t ≡ (v || m) → ((a && t) || r) ≡ ((a && m) || ((a && v) || r))
@@ -81,7 +82,7 @@ bit_cut_node among bits k e ys fits below =
       | true ↦ λ none.
           let zero_left : left_of e.1.mask bits ≡ 0 = grind (arith, nat_tests, none) in
           let gone : (is_set e.1.mask k && not (is_set bits k)) ≡ false = sym (set_left e.1.mask bits k fits below) ∙ (ap (λ m. is_set m k) zero_left ∙ none_set k) in
-          ap (λ b. b || bit_among among ys k) (sym (sym (and_join (among e.1.holder) (is_set e.1.mask k) (not (is_set bits k))) ∙ (ap (λ b. among e.1.holder && b) gone ∙ and_none (among e.1.holder))))
+          ap (λ b. b || bit_among among ys k) (sym (sym (and_join (among e.1.holder) (is_set e.1.mask k) (not (is_set bits k))) ∙ (ap (λ b. among e.1.holder && b) gone ∙ and_false (among e.1.holder))))
       | false ↦ λ some.
           ap (λ b. b || bit_among among ys k) (ap (λ b. among e.1.holder && b) (set_left e.1.mask bits k fits below) ∙ and_join (among e.1.holder) (is_set e.1.mask k) (not (is_set bits k)))
     ]) refl

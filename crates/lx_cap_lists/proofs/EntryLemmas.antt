@@ -3,13 +3,14 @@ use Rattle.std.proofs.Common.{◌≡◌, ◌≢◌, ℕ, ◌+◌, ◌*◌, ◌/�
 use Rattle.std.specs.Int.{bit_at, trailing_zeros}
 use Rattle.std.proofs.lemmas.Bool.Decides.{nat_tests}
 use Rattle.std.proofs.lemmas.Nat.Bits.{bit_at-trailing_zeros}
+use Rattle.lx_words.proofs.Tests.{eq_self}
 use Rattle.lx_caps.specs.declared.Atom.{Atom}
 use Rattle.lx_caps.specs.declared.Atom.TheVariants as atom
 use Rattle.lx_caps.specs.Order.{is_before, IsFirst}
 use Rattle.lx_cap_lists.specs.Bits.{is_set}
 use Rattle.lx_cap_lists.specs.Atoms.{part_atom}
 use Rattle.lx_cap_lists.proofs.Masks.{set_in_both}
-use Rattle.lx_caps.proofs.Tests.{eq_itself, byte_of}
+use Rattle.lx_caps.proofs.Tests.{byte_of}
 
 and_true : (a b : Bool) → b ≡ true → (a && b) ≡ a
 and_true true b e = e
@@ -38,6 +39,6 @@ first_of_part part bits some fits =
     let found = bit_at-trailing_zeros w64 bits (omega (arith, some)) fits in
     let z = trailing_zeros w64 bits in
     let of = byte_of part z found.0 in (
-      ap (λ p. nat_eq part p && is_set bits ((part * 64 + z) % 64)) of.0 ∙ (ap (λ t. t && is_set bits ((part * 64 + z) % 64)) (eq_itself part) ∙ (ap (is_set bits) of.1 ∙ ap (λ n. nat_eq n 1) found.1)),
+      ap (λ p. nat_eq part p && is_set bits ((part * 64 + z) % 64)) of.0 ∙ (ap (λ t. t && is_set bits ((part * 64 + z) % 64)) (eq_self part) ∙ (ap (is_set bits) of.1 ∙ ap (λ n. nat_eq n 1) found.1)),
       not_before part bits z found.2,
     )

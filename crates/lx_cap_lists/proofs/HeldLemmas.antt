@@ -4,12 +4,12 @@ use Rattle.std.specs.Int.{bit_at}
 use Rattle.std.proofs.lemmas.Bool.{cases_lt, and_parts}
 use Rattle.std.proofs.lemmas.Bool.Decides.{nat_tests}
 use Rattle.std.proofs.lemmas.Nat.Bits.{bit_at-lt, bit_at_and, bit_at_above, same_from_bits}
+use Rattle.lx_words.proofs.Tests.{eq_self}
 use Rattle.lx_caps.specs.Regions.{covers}
 use Rattle.lx_caps.specs.History.{each_byte}
 use Rattle.lx_cap_lists.specs.Bits.{is_set}
 use Rattle.lx_cap_lists.proofs.Masks.{set_in_both}
 use Rattle.lx_cap_lists.proofs.Ranges.{covered, covered_more, none_before, all_before}
-use Rattle.lx_caps.proofs.Tests.{eq_itself}
 
 and_left : (a b : Bool) → (a && b) ≡ b → b ≡ true → a ≡ true
 and_left true b e f = refl
@@ -55,7 +55,7 @@ missing r w fits e = elim (lacks r w 64) [
         | inl lt ↦ min_same (bit_at r i) (bit_at w i) (bit_at-lt r i) (bit_at-lt w i) (all i lt)
         | inr ge ↦ let none : bit_at w i ≡ 0 = bit_at_above w 64 i fits ge in ap (min (bit_at r i)) none ∙ (min_zero (bit_at r i) ∙ sym none)
       ]) in
-      let is : nat_eq (bit_and r w) w ≡ true = ap (λ n. nat_eq n w) same ∙ eq_itself w in
+      let is : nat_eq (bit_and r w) w ≡ true = ap (λ n. nat_eq n w) same ∙ eq_self w in
       cc)
 ]
 

@@ -2,11 +2,11 @@
 use Rattle.std.proofs.Common.{◌≡◌, ℕ, ◌+◌, true, ◌&&◌, ◌||◌, nat_eq, nat_lt, false, sym, ap, subst, arith}
 use Rattle.std.proofs.lemmas.Bool.{and_from, and_parts}
 use Rattle.std.proofs.lemmas.Bool.Decides.{nat_tests}
+use Rattle.lx_words.proofs.Tests.{eq_self, same_tests}
 use Rattle.lx_caps.specs.declared.Principal.{Principal}
 use Rattle.lx_caps.specs.Precedence.{module_rank, rank_in_module}
 use Rattle.lx_caps.proofs.PrincipalOrder.{one_way}
 use Rattle.lx_caps.proofs.Principals.{same_principal_itself}
-use Rattle.lx_caps.proofs.Tests.{eq_itself, same_tests}
 use Rattle.lx_caps.specs.History.{same_principal}
 use Rattle.lx_cap_lists.specs.declared.holder.Holder.{Holder}
 use Rattle.lx_cap_lists.specs.declared.holder.Holder.TheVariants.{Keeper, Borrower}
@@ -14,12 +14,7 @@ use Rattle.lx_cap_lists.specs.Holders.{principal_of, same_holder}
 use Rattle.lx_cap_lists.specs.Index.{HolderKey, ground_of, key_at, same_holder_key}
 use Rattle.lx_cap_lists.specs.Tables.{Key, owner_key, same_key}
 use Rattle.lx_cap_lists.proofs.BitLemmas.{same_is}
-
-key_is : (x y : Key) → same_key x y ≡ true → x ≡ y
-key_is x y e =
-    let a : x.0 ≡ y.0 = grind (arith, nat_tests, e) in
-    let b : x.1 ≡ y.1 = grind (arith, nat_tests, e) in
-    λ j. (a j, b j)
+use Rattle.lx_cap_lists.proofs.KeyPlaces.{same_parts}
 
 pub holder_key_is : (x y : HolderKey) → same_holder_key x y ≡ true → x ≡ y
 holder_key_is x y e =
@@ -27,8 +22,8 @@ holder_key_is x y e =
     let r = and_parts (same_key x.1.0 y.1.0) (same_key x.1.1 y.1.1) p.1 in
     let h = p.0 in
     let a : x.0 ≡ y.0 = grind (arith, nat_tests, h) in
-    let b = key_is x.1.0 y.1.0 r.0 in
-    let d = key_is x.1.1 y.1.1 r.1 in
+    let b = same_parts x.1.0 y.1.0 r.0 in
+    let d = same_parts x.1.1 y.1.1 r.1 in
     λ j. (a j, (b j, d j))
 
 -- neither of two equal pairs comes first
@@ -53,7 +48,7 @@ holder_by (Borrower t c p) (Borrower u d q) g e =
 
 pub holder_itself : (q : Holder) → same_holder q q ≡ true
 holder_itself (Keeper q) = same_principal_itself q
-holder_itself (Borrower t d q) = and_from (nat_eq t t) (nat_eq d d && same_principal q q) (eq_itself t) (and_from (nat_eq d d) (same_principal q q) (eq_itself d) (same_principal_itself q))
+holder_itself (Borrower t d q) = and_from (nat_eq t t) (nat_eq d d && same_principal q q) (eq_self t) (and_from (nat_eq d d) (same_principal q q) (eq_self d) (same_principal_itself q))
 
 pub holder_turned : (p q : Holder) → same_holder p q ≡ same_holder q p
 holder_turned p q =
@@ -72,7 +67,7 @@ key_test l k p q =
     let is = holder_key_is (key_at l p) (key_at k q) e in
     let place : l ≡ k = ap (λ (x : HolderKey). x.0) is in
     let who = holder_by p q (ap (λ (x : HolderKey). x.1.0) is) (principal_by (principal_of p) (principal_of q) (ap (λ (x : HolderKey). x.1.1) is)) in
-    and_from (nat_eq l k) (same_holder p q) (subst (λ j. nat_eq l j ≡ true) place (eq_itself l)) (subst (λ (r : Holder). same_holder p r ≡ true) who (holder_itself p)))
+    and_from (nat_eq l k) (same_holder p q) (subst (λ j. nat_eq l j ≡ true) place (eq_self l)) (subst (λ (r : Holder). same_holder p r ≡ true) who (holder_itself p)))
     (λ e.
     let both = and_parts (nat_eq l k) (same_holder p q) e in
     let h = both.0 in

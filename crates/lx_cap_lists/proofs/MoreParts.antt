@@ -6,6 +6,7 @@ use Rattle.std.proofs.lemmas.Bool.Decides.{nat_tests}
 use Rattle.std.proofs.lemmas.List.{drop_more, drop_all}
 use Rattle.std.proofs.lemmas.List.Sorted.{IsNonDecreasingBy-drop}
 use Rattle.std.proofs.lemmas.Nat.Bits.{bit_at-lt, bit_at-zero, bit_at_or}
+use Rattle.lx_words.proofs.Tests.{or_nothing}
 use Rattle.lx_caps.specs.declared.Cap.{Cap}
 use Rattle.lx_caps.specs.Ranges.{IsRanges}
 use Rattle.lx_cap_lists.specs.declared.PartBytes.{PartBytes}
@@ -16,7 +17,7 @@ use Rattle.lx_cap_lists.specs.Parts.{has_byte, is_among, IsPartOf, Rises}
 use Rattle.lx_cap_lists.specs.Runs.{AreRangesUpTo, IsFull, write_of}
 use Rattle.lx_cap_lists.specs.Walk.{HasWalked}
 use Rattle.lx_cap_lists.proofs.MoreRuns.{goes_past, none_before, whole}
-use Rattle.lx_caps.proofs.Tests.{or_false, max_one}
+use Rattle.lx_caps.proofs.Tests.{max_one}
 
 -- bytes of a part that the mask tells alike
 pub alike : (p : ℕ → Bool) (x : PartBytes) (v : Bool) (from to : ℕ) → IsPartOf p x → to ≤ 64 → ((k : ℕ) → from ≤ k → k < to → is_set x.mask k ≡ v) → (b : ℕ) → x.part * 64 + from ≤ b → b < x.part * 64 + to → p b ≡ v
@@ -45,7 +46,7 @@ own_byte x k lt =
 pub hand_whole : (p : ℕ → Bool) (done : List Cap) (walk : Walk) (left : List PartBytes) → Rises (suc walk.at_hand.part) left → HasWalked p done walk left → IsPartOf p walk.at_hand
 hand_whole p done walk left r w = λ k lt.
     w.others (walk.at_hand.part * 64 + k) (omega arith)
-    ∙ (or_false (has_byte (walk.at_hand.part * 64 + k) walk.at_hand) (is_among (walk.at_hand.part * 64 + k) left) (behind (walk.at_hand.part * 64 + k) (suc walk.at_hand.part) left r (omega (arith, lt)))
+    ∙ (or_nothing (has_byte (walk.at_hand.part * 64 + k) walk.at_hand) (is_among (walk.at_hand.part * 64 + k) left) (behind (walk.at_hand.part * 64 + k) (suc walk.at_hand.part) left r (omega (arith, lt)))
     ∙ own_byte walk.at_hand k lt)
 
 -- what stands behind the part at hand

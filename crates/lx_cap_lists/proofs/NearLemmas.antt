@@ -2,6 +2,7 @@
 use Rattle.std.proofs.Common.{◌≡◌, ℕ, ◌+◌, ◌/◌, ◌%◌, ◌<◌, ◌≤◌, Bool, true, false, ◌&&◌, nat_eq, nat_lt, nat_le, List, Some, None, refl, sym, ap, ◌∙◌, arith, eqb-true}
 use Rattle.std.proofs.lemmas.Bool.Decides.{nat_tests}
 use Rattle.std.proofs.lemmas.Bool.{and_right, and_parts, and_from}
+use Rattle.lx_words.proofs.Tests.{both_turned}
 use Rattle.lx_caps.specs.declared.Principal.{Principal}
 use Rattle.lx_caps.specs.declared.Atom.{Atom}
 use Rattle.lx_caps.specs.declared.Atom.TheVariants as atom
@@ -15,12 +16,6 @@ use Rattle.lx_cap_lists.specs.Holders.{held_by}
 use Rattle.lx_cap_lists.specs.Owned.{owned_from}
 use Rattle.lx_cap_lists.specs.Tables.{Key, part_list, place_of, bit_of, shown_at}
 
-and_swap : (a b : Bool) → (a && b) ≡ (b && a)
-and_swap true true = refl
-and_swap true false = refl
-and_swap false true = refl
-and_swap false false = refl
-
 module _ (places : List (List (ℕ × Entry))) (who : Principal) (part from : ℕ) where
   -- the bits of a part from one on are what is owned there
   pub part_is : (place all bits : ℕ) → part_list part ≡ Some place → ((k : ℕ) → is_set all k ≡ bit_among (held_by who) (nodes_at places place) k) → ((k : ℕ) → k < 64 → is_set bits k ≡ (is_set all k && nat_le from k))
@@ -31,7 +26,7 @@ module _ (places : List (List (ℕ × Entry))) (who : Principal) (part from : �
             let list : part_list (b / 64) ≡ Some place = ap part_list (sym (eqb-true part (b / 64) e)) ∙ at in
             above (b % 64) (omega arith)
             ∙ (ap (λ t. t && nat_le from (b % 64)) (has_all (b % 64))
-            ∙ (and_swap (bit_among (held_by who) (nodes_at places place) (b % 64)) (nat_le from (b % 64))
+            ∙ (both_turned (bit_among (held_by who) (nodes_at places place) (b % 64)) (nat_le from (b % 64))
             ∙ ap (λ o. nat_le from (b % 64) && shown_at places o (held_by who) (b % 64)) (sym list)))
         | false ↦ λ e. refl
       ]) refl

@@ -2,20 +2,21 @@
 use Rattle.std.proofs.Common.{◌≡◌, ℕ, true, false, ◌||◌, List, [], ◌∷◌, ◌++◌, Option, Some, None, refl, sym, ap, ◌∙◌, subst, append_assoc}
 use Rattle.std.specs.Prelude.{nat_eq}
 use Rattle.std.proofs.lemmas.Bool.{or_right}
+use Rattle.lx_words.proofs.Tests.{eq_self}
 use Rattle.lx_cap_nodes.specs.Names.{has, first_of, Apart}
 use Rattle.lx_cap_nodes.specs.Words.{names}
 use Rattle.lx_cap_lists.specs.Walks.{from, HasCome}
-use Rattle.lx_caps.proofs.Tests.{eq_itself, eq_from_ne}
+use Rattle.lx_caps.proofs.Tests.{eq_from_ne}
 
 module _ {T : Type 0} where
   has_split : (xs ys : List (ℕ × T)) (e : ℕ × T) → has e.0 (names (xs ++ e ∷ ys)) ≡ true
-  has_split [] ys e = ap (λ b. b || has e.0 (names ys)) (eq_itself e.0)
+  has_split [] ys e = ap (λ b. b || has e.0 (names ys)) (eq_self e.0)
   has_split (x ∷ xs) ys e = or_right (nat_eq e.0 x.0) (has e.0 (names (xs ++ e ∷ ys))) (has_split xs ys e)
 
   -- from the first node of what is behind a front on
   pub from_split : (xs ys : List (ℕ × T)) → Apart (names (xs ++ ys)) → from (first_of (names ys)) (xs ++ ys) ≡ ys
   from_split xs [] apart = refl
-  from_split [] (y ∷ ys) apart = rw (eq_itself y.0) refl
+  from_split [] (y ∷ ys) apart = rw (eq_self y.0) refl
   from_split (x ∷ xs) (y ∷ ys) apart =
       let ne = eq_from_ne y.0 x.0 (λ same. absurd (let out = subst (λ k. has k (names (xs ++ y ∷ ys)) ≡ false) (sym same) apart.0 in let «in» = has_split xs ys y in cc)) in
       rw ne (from_split xs (y ∷ ys) apart.1)

@@ -7,7 +7,7 @@ use Rattle.std.proofs.lemmas.Bool.{or_right as or_true}
 use Rattle.lx_cap_nodes.specs.declared.links.Link.{Link}
 use Rattle.lx_cap_nodes.specs.Links.{at_list, no_link, link_at, head_at, with_previous, with_next, passing, heads_passing, IsWithin, Below, Fits, IsList, IsFamily}
 use Rattle.lx_cap_nodes.specs.Names.{has, is_listed, first_of, next_of, next_in, drop_name, Apart}
-use Rattle.lx_cap_nodes.proofs.LinkLemmas.{eq_self, ne_from_eq, eq_from_ne, or_left, or_right, or_other, link-same, link-other, has_apart, fits-other, IsOut, fits-with_next, fits-with_previous, length-with_next, length-with_previous, fits-before, list_is, below_has, first_has, previous_has, next_is, next_has, drop_out, apart_drop, below_drop, below_more}
+use Rattle.lx_cap_nodes.proofs.LinkLemmas.{ne_from_eq, eq_from_ne, or_left, or_right, or_other, link-same, link-other, has_apart, fits-other, IsOut, fits-with_next, fits-with_previous, length-with_next, length-with_previous, fits-before, list_is, below_has, first_has, previous_has, next_is, next_has, drop_out, apart_drop, below_drop, below_more}
 
 -- a list without the node's number where it is the first
 unlink_first : (links : List Link) (l : ℕ) (b : Option ℕ) (m : ℕ) (ns : List ℕ) → Fits links l b (m ∷ ns) → Apart (m ∷ ns) → Below (length links) (m ∷ ns) → IsOut b ns → Fits (passing links (link_at links m)) l b ns

@@ -4,12 +4,10 @@ use Rattle.std.specs.Prelude.{nat_eq}
 use Rattle.std.proofs.lemmas.Bool.Decides.{nat_tests}
 use Rattle.std.proofs.lemmas.List.{get_or-set_same, get_or-set_other, get_or_past, get_or-map, length-map, ext_get_or, get_or_append_left, length_push}
 use Rattle.std.proofs.lemmas.Bool.{or_right as or_true}
+use Rattle.lx_words.proofs.Tests.{eq_self}
 use Rattle.lx_cap_nodes.specs.declared.links.Link.{Link}
 use Rattle.lx_cap_nodes.specs.Links.{at_list, no_link, link_at, head_at, with_previous, with_next, IsWithin, Below, Fits, IsList, IsFamily, walk, lists_of}
 use Rattle.lx_cap_nodes.specs.Names.{has, is_listed, first_of, next_of, next_in, drop_name, Apart}
-
-pub eq_self : (n : ℕ) → nat_eq n n ≡ true
-eq_self n = grind (arith, nat_tests)
 
 pub ne_from_eq : (m n : ℕ) → nat_eq m n ≡ false → m ≢ n
 ne_from_eq m n e = λ same. grind (arith, nat_tests, e, same)

@@ -1,6 +1,7 @@
 -- What lists of owners give a principal, gathered.
 use Rattle.std.proofs.Common.{◌≡◌, refl, sym, ap, ◌∙◌, ℕ, ◌+◌, Bool, true, false, ◌&&◌, ◌||◌, List, ◌∷◌, None}
 use Rattle.std.specs.Prelude.{if◌then◌else◌}
+use Rattle.lx_words.proofs.Tests.{and_false, or_joined}
 use Rattle.lx_caps.specs.declared.Principal.{Principal}
 use Rattle.lx_caps.specs.declared.Atom.{Atom}
 use Rattle.lx_caps.specs.declared.Atom.TheVariants as atom
@@ -15,7 +16,7 @@ use Rattle.lx_cap_lists.specs.Holders.{held_by}
 use Rattle.lx_cap_lists.specs.Lists.{some_below}
 use Rattle.lx_cap_lists.specs.Owned.{alone, alone_by}
 use Rattle.lx_cap_tables.proofs.Below.{one_more_found, some_none}
-use Rattle.lx_caps.proofs.Tests.{and_none, or_join, sooner_step}
+use Rattle.lx_caps.proofs.Tests.{sooner_step}
 
 call_is : (a : ℕ) (there : Bool) (x : Atom) → (is_call_or_ref x && (there && same_atom (atom.Call a) x)) ≡ is_atom (alone (spot.Call a) there) x
 call_is a true (atom.Byte b) = refl
@@ -46,7 +47,7 @@ gives_alone who e x = by (held_by who e.holder)
   where
     by : (held : Bool) → (is_call_or_ref x && (held && entry_atom e x)) ≡ is_atom (if held then alone e.spot (is_set e.mask 0) else None) x
     by true = alone_is e.spot e.mask x
-    by false = and_none (is_call_or_ref x)
+    by false = and_false (is_call_or_ref x)
 
 pub or_none : (s c : Bool) → (s || (c && false)) ≡ s
 or_none true c = refl
@@ -64,4 +65,4 @@ none_below s c p = sym (ap (λ t. s || (c && t)) (some_none p) ∙ or_none s c)
 -- one number more
 pub below_step : (s c old new : Bool) (n : ℕ) (p : ℕ → Bool) → old ≡ (s || (c && some_below n p)) → new ≡ (old || (c && p n)) → new ≡ (s || (c && some_below (n + 1) p))
 below_step s c old new n p was is =
-    is ∙ (ap (λ t. t || (c && p n)) was ∙ (or_join s (c && some_below n p) (c && p n) ∙ ap (λ t. s || t) (one_more_found n c p)))
+    is ∙ (ap (λ t. t || (c && p n)) was ∙ (or_joined s (c && some_below n p) (c && p n) ∙ ap (λ t. s || t) (one_more_found n c p)))

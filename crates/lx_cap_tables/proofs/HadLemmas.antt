@@ -3,6 +3,7 @@ use Rattle.std.proofs.Common.{◌≡◌, ◌∙◌, inl, inr, refl, sym, ap, ℕ
 use Rattle.std.proofs.lemmas.Bool.{cases_Bool, cond-true, cond-false}
 use Rattle.std.proofs.lemmas.Bool.Decides.{nat_tests}
 use Rattle.std.proofs.lemmas.List.{length-drop}
+use Rattle.lx_words.proofs.Tests.{and_false, second_of}
 use Rattle.lx_caps.specs.declared.Principal.{Principal}
 use Rattle.lx_caps.specs.declared.Atom.{Atom}
 use Rattle.lx_caps.specs.declared.Act.TheVariants.{Grant, Strip, Zero, Loan, Lend, Shut, ShutAll}
@@ -13,8 +14,8 @@ use Rattle.lx_caps.specs.History.{History, has, kept_among, owned_among, same_pr
 use Rattle.lx_cap_lists.specs.declared.holder.Holder.{Holder}
 use Rattle.lx_cap_lists.specs.declared.holder.Holder.TheVariants.{Keeper, Borrower}
 use Rattle.lx_cap_lists.specs.Holders.{by_all, by_keepers, open_count, left_by, had, same_holder}
-use Rattle.lx_caps.proofs.Tests.{and_none, second_true, and_yes}
-use Rattle.lx_caps.proofs.Endings.{with_here, with_other, opened_other}
+use Rattle.lx_caps.proofs.Tests.{and_yes}
+use Rattle.lx_caps.proofs.Endings.{with_here, with_other, opened_other, fewer}
 
 -- how many loans go on
 pub count_loan_here : (t : ℕ) (h : History) (u : ℕ) → nat_eq t u ≡ true → open_count (Loan t ∷ h) u ≡ suc (open_count h u)
@@ -52,12 +53,12 @@ some_loan (Loan u ∷ h) t is = elim (cases_Bool (nat_eq u t)) [
 some_loan (Lend u q c ∷ h) t is = some_loan h t is
 some_loan (Shut u n ∷ h) t is = elim (cases_Bool (nat_eq u t)) [
   | inl here ↦
-      (let some = some_loan h t (second_true (not (nat_eq u t && nat_lt 0 n)) (lends h t) is) in
+      (let some = some_loan h t (second_of (not (nat_eq u t && nat_lt 0 n)) (lends h t) is) in
       let none : n ≡ 0 = by n (ap (λ b. not (b && nat_lt 0 n) && lends h t) (sym here) ∙ is) in
       let e = count_shut_here u n h t here in
       omega (arith, e, some, none))
   | inr out ↦
-      (let some = some_loan h t (second_true (not (nat_eq u t && nat_lt 0 n)) (lends h t) is) in
+      (let some = some_loan h t (second_of (not (nat_eq u t && nat_lt 0 n)) (lends h t) is) in
       let e = count_shut_other u n h t out in
       omega (arith, e, some))
 ]
@@ -68,7 +69,7 @@ some_loan (Shut u n ∷ h) t is = elim (cases_Bool (nat_eq u t)) [
 some_loan (ShutAll u ∷ h) t is = elim (cases_Bool (nat_eq u t)) [
   | inl here ↦ absurd (let no : false ≡ true = ap (λ b. not b && lends h t) (sym here) ∙ is in cc)
   | inr out ↦
-      (let some = some_loan h t (second_true (not (nat_eq u t)) (lends h t) is) in
+      (let some = some_loan h t (second_of (not (nat_eq u t)) (lends h t) is) in
       let e = count_all_other u h t out in
       omega (arith, e, some))
 ]
@@ -154,11 +155,6 @@ abbrev surviving : (Principal → Bool) → Endings → (ℕ → ℕ) → Holder
 surviving among ends count (Keeper q) = among q
 surviving among ends count (Borrower t d q) = among q && survives (ends t) (count t) d
 
-abbrev fewer : Ends → Ends
-fewer (Newest zero) = Newest zero
-fewer (Newest (suc k)) = Newest k
-fewer Every = Every
-
 opened_here : (e : Ends) (t : ℕ) (ends : Endings) (u : ℕ) → nat_eq t u ≡ true → ends u ≡ e → opened_by e t ends u ≡ fewer e
 opened_here (Newest zero) t ends u is e = e
 opened_here (Newest (suc k)) t ends u is e = with_here t (Newest k) ends u is
@@ -194,7 +190,7 @@ lend_order false false a x = refl
 
 lend_is : (h : History) (t : ℕ) (l a x : Bool) (e : Ends) → lends h t ≡ l → (goes_on e && (l && (a && x))) ≡ (l && ((a && survives e (open_count h t) (open_count h t - 1)) && x))
 lend_is h t true a x e is = lend_order (goes_on e) true a x ∙ ap (λ g. (a && g) && x) (sym (newest_lasts e (open_count h t) (some_loan h t is)))
-lend_is h t false a x e is = and_none (goes_on e)
+lend_is h t false a x e is = and_false (goes_on e)
 
 pub owned_had : (among : Principal → Bool) (ends : Endings) (h : History) (x : Atom) → owned_among among ends h x ≡ had (surviving among ends (open_count h)) h x
 owned_had among ends [] x = refl
@@ -243,8 +239,8 @@ owned_had among ends (ShutAll t ∷ h) x = owned_had among (before_shut_all t en
           (let low : nat_le 0 d ≡ true = grind (arith, nat_tests) in
           let gone : (nat_eq t u && nat_le 0 d) ≡ true = ap (λ r. r && nat_le 0 d) here ∙ low in
           ap (λ e. among q && survives e (open_count h u) d) (with_here t Every ends u here)
-          ∙ (ap (λ r. among q && r) (and_none (nat_lt d (open_count h u)))
-          ∙ (and_none (among q) ∙ ap (λ r. not r && (among q && survives (ends u) (open_count (ShutAll t ∷ h) u) d)) (sym gone))))
+          ∙ (ap (λ r. among q && r) (and_false (nat_lt d (open_count h u)))
+          ∙ (and_false (among q) ∙ ap (λ r. not r && (among q && survives (ends u) (open_count (ShutAll t ∷ h) u) d)) (sym gone))))
       | inr out ↦
           ap (λ e. among q && survives e (open_count h u) d) (with_other t Every ends u out)
           ∙ (ap (λ c. among q && survives (ends u) c d) (sym (count_all_other t h u out))
@@ -266,17 +262,17 @@ kept_is among (Grant q c ∷ h) x = ap (λ r. (among q && has c x) || r) (kept_i
 kept_is among (Strip c ∷ h) x = ap (λ r. not (has c x) && r) (kept_is among h x)
 kept_is among (Zero at size ∷ h) x = kept_is among h x
 kept_is among (Loan t ∷ h) x = kept_is among h x
-kept_is among (Lend t q c ∷ h) x = kept_is among h x ∙ sym (ap (λ r. r || had (by_keepers among) h x) (and_none (lends h t)))
+kept_is among (Lend t q c ∷ h) x = kept_is among h x ∙ sym (ap (λ r. r || had (by_keepers among) h x) (and_false (lends h t)))
 kept_is among (Shut t n ∷ h) x = kept_is among h x ∙ had_within (by_keepers among) (left_by t (open_count h t - n) (by_keepers among)) h x by
   where
     by : (s : Holder) → is_within h s ≡ true → by_keepers among s ≡ left_by t (open_count h t - n) (by_keepers among) s
     by (Keeper q) w = refl
-    by (Borrower u d q) w = sym (and_none (not (nat_eq t u && nat_le (open_count h t - n) d)))
+    by (Borrower u d q) w = sym (and_false (not (nat_eq t u && nat_le (open_count h t - n) d)))
 kept_is among (ShutAll t ∷ h) x = kept_is among h x ∙ had_within (by_keepers among) (left_by t 0 (by_keepers among)) h x by
   where
     by : (s : Holder) → is_within h s ≡ true → by_keepers among s ≡ left_by t 0 (by_keepers among) s
     by (Keeper q) w = refl
-    by (Borrower u d q) w = sym (and_none (not (nat_eq t u && nat_le 0 d)))
+    by (Borrower u d q) w = sym (and_false (not (nat_eq t u && nat_le 0 d)))
 
 -- who keeps something is its keeper
 pub keeper_is : (q : Principal) (s : Holder) → same_holder (Keeper q) s ≡ by_keepers (same_principal q) s

@@ -3,6 +3,7 @@ use Rattle.std.proofs.Common.{◌≡◌, ℕ, zero, suc, ◌+◌, ◌-◌, ◌*�
 use Rattle.std.proofs.lemmas.Bool.Decides.{nat_tests}
 use Rattle.std.proofs.lemmas.List.{length-map}
 use Rattle.std.proofs.lemmas.Bool.{and_parts, and_from, or_right, or_left}
+use Rattle.lx_words.proofs.Tests.{eq_self}
 use Rattle.lx_caps.specs.declared.Principal.{Principal}
 use Rattle.lx_caps.specs.declared.Cap.{Cap}
 use Rattle.lx_caps.specs.declared.Cap.TheVariants as cap
@@ -36,7 +37,7 @@ use Rattle.lx_cap_tables.proofs.Few.{added, added_self, few, ArePassing}
 use Rattle.lx_cap_lists.proofs.NodeLemmas.{width_part, width_behind}
 use Rattle.lx_cap_lists.proofs.PartLemmas.{list_below}
 use Rattle.lx_cap_tables.proofs.TieLemmas.{in_place, in_owner, value_place, same_self}
-use Rattle.lx_caps.proofs.Tests.{eq_itself, byte_of}
+use Rattle.lx_caps.proofs.Tests.{byte_of}
 use Rattle.lx_cap_lists.proofs.KeyPlaces.{behind_far}
 
 or_parts : (a b : Bool) → (a || b) ≡ true → (a ≡ false → b ≡ true)
@@ -57,9 +58,9 @@ spot_is (spot.Ref t a) (spot.Ref u b) e =
     let both = and_parts (nat_eq t u) (nat_eq a b) e in ap (λ k. spot.Ref k a) (eqb-true t u both.0) ∙ ap (λ k. spot.Ref u k) (eqb-true a b both.1)
 
 spot_self : (p : Spot) → same_spot p p ≡ true
-spot_self (spot.Part p) = eq_itself p
-spot_self (spot.Call a) = eq_itself a
-spot_self (spot.Ref t a) = and_from (nat_eq t t) (nat_eq a a) (eq_itself t) (eq_itself a)
+spot_self (spot.Part p) = eq_self p
+spot_self (spot.Call a) = eq_self a
+spot_self (spot.Ref t a) = and_from (nat_eq t t) (nat_eq a a) (eq_self t) (eq_self a)
 
 pair_is : (x y : Pair) → same_pair x y ≡ true → x ≡ y
 pair_is x y e =
@@ -185,7 +186,7 @@ one_holder w (z ∷ es) nodes (x ∷ xs) ys (u ∷ us) vs n m e f a b c d =
 
 -- a number that stands behind another one differs from it
 number_there : (xs ys : List (ℕ × Entry)) (n : ℕ) (e : Entry) → has_number n (names (xs ++ (n, e) ∷ ys)) ≡ true
-number_there [] ys n e = or_left (nat_eq n n) (has_number n (names ys)) (eq_itself n)
+number_there [] ys n e = or_left (nat_eq n n) (has_number n (names ys)) (eq_self n)
 number_there (x ∷ xs) ys n e = or_right (nat_eq n x.0) (has_number n (names (xs ++ (n, e) ∷ ys))) (number_there xs ys n e)
 
 abbrev pair_of : ℕ × Entry → Pair

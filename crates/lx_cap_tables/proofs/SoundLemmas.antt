@@ -1,6 +1,7 @@
 -- How the tables stay sound.
 use Rattle.std.proofs.Common.{◌≡◌, ◌&&◌, ℕ, zero, suc, ◌+◌, ◌≤◌, Bool, true, false, replicate, List, [], ◌∷◌, length, Option, Some, None, refl, sym, ap, ◌∙◌, subst, arith}
 use Rattle.std.proofs.lemmas.Bool.{and_parts, and_from}
+use Rattle.lx_words.proofs.Tests.{eq_self}
 use Rattle.lx_cap_nodes.specs.declared.pool.ListName.{ListName}
 use Rattle.lx_cap_nodes.specs.declared.pool.ListName.TheVariants as name
 use Rattle.lx_cap_nodes.specs.Pool.{Pool}
@@ -26,7 +27,6 @@ use Rattle.lx_cap_lists.specs.Holders.{counts, held_by, had}
 use Rattle.lx_cap_lists.specs.Loans.{is_open, loans_of}
 use Rattle.lx_cap_tables.specs.Sound.{IsSound}
 use Rattle.lx_cap_tables.proofs.HadLemmas.{owned_is, kept_is}
-use Rattle.lx_caps.proofs.Tests.{eq_itself}
 
 pub order_respects : (owners atoms : List Key) (loans : List ℕ) → Respects (is_in_order owners atoms loans)
 unfolding Respects
@@ -107,8 +107,8 @@ order_more pool owners atoms more_owners more_atoms loans h k all (name.Owner l)
 pub given_in_order : (owners atoms : List Key) (loans : List ℕ) (to : Holder) (o : ℕ) → place_in owners (holder_key to) ≡ Some o → is_open loans to ≡ true → FitsSpots (is_in_order owners atoms loans) atoms to o
 unfolding FitsSpots
 given_in_order owners atoms loans to o own opened = λ s l m is. (
-  and_from (is_open loans to) (is_place (place_of_spot atoms s) l) opened (ap (λ q. is_place q l) is ∙ eq_itself l),
-  and_from (is_open loans to) (is_place (place_in owners (holder_key to)) o) opened (ap (λ q. is_place q o) own ∙ eq_itself o),
+  and_from (is_open loans to) (is_place (place_of_spot atoms s) l) opened (ap (λ q. is_place q l) is ∙ eq_self l),
+  and_from (is_open loans to) (is_place (place_in owners (holder_key to)) o) opened (ap (λ q. is_place q o) own ∙ eq_self o),
 )
 
 pub some_cells : (c : Cap) → 1 ≤ cells c

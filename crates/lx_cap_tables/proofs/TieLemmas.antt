@@ -2,6 +2,7 @@
 use Rattle.std.proofs.Common.{◌≡◌, ℕ, suc, ◌+◌, ◌/◌, ◌%◌, ◌<◌, Bool, true, false, ◌&&◌, ◌||◌, nat_eq, nat_lt, cond, List, [], ◌∷◌, ◌++◌, Option, Some, None, refl, sym, ap, ◌∙◌, subst, arith, eqb-true}
 use Rattle.std.proofs.lemmas.Bool.Decides.{nat_tests}
 use Rattle.std.proofs.lemmas.Bool.{and_parts, and_from, or_right, or_left}
+use Rattle.lx_words.proofs.Tests.{eq_self, same_tests}
 use Rattle.lx_caps.specs.declared.Principal.{Principal}
 use Rattle.lx_caps.specs.declared.Atom.{Atom}
 use Rattle.lx_caps.specs.declared.Atom.TheVariants as atom
@@ -30,7 +31,7 @@ use Rattle.lx_cap_tables.proofs.Below.{some_from, some_inside}
 use Rattle.lx_cap_lists.proofs.KeyLemmas.{one_key}
 use Rattle.lx_cap_lists.proofs.PartLemmas.{one_part, list_below, part_small}
 use Rattle.lx_cap_lists.specs.declared.holder.Holder.{Holder}
-use Rattle.lx_caps.proofs.Tests.{eq_itself, and_or, same_tests}
+use Rattle.lx_caps.proofs.Tests.{and_or}
 use Rattle.lx_caps.proofs.Principals.{same_principal_itself, same_principal_is}
 use Rattle.lx_cap_lists.proofs.KeyPlaces.{behind_far}
 
@@ -99,7 +100,7 @@ value_place (es ∷ lists) n v h =
 
 pub same_self : (s : Holder) → same_holder s s ≡ true
 same_self (Keeper p) = same_principal_itself p
-same_self (Borrower t d p) = and_from (nat_eq t t) (nat_eq d d && same_principal p p) (eq_itself t) (and_from (nat_eq d d) (same_principal p p) (eq_itself d) (same_principal_itself p))
+same_self (Borrower t d p) = and_from (nat_eq t t) (nat_eq d d && same_principal p p) (eq_self t) (and_from (nat_eq d d) (same_principal p p) (eq_self d) (same_principal_itself p))
 
 pub is_there : (o : Option ℕ) (l : ℕ) → is_place o l ≡ true → o ≡ Some l
 is_there None l h = absurd (cc)
@@ -139,12 +140,12 @@ far_or_near : (atoms : List Key) (k : Key) (p l : ℕ) → part_list p ≡ Some 
 far_or_near atoms k p l e f = let low = list_below p l e in let far = behind_far (place_in atoms k) l f in omega (arith, low, far)
 
 atom_from_place : (atoms : List Key) (s : Spot) (mask : ℕ) (x : Atom) (l : ℕ) → place_of_spot atoms s ≡ Some l → place_of atoms x ≡ Some l → is_set mask (bit_of x) ≡ true → spot_atom s mask x ≡ true
-atom_from_place atoms (spot.Part p) mask (atom.Byte b) l e f h = and_from (nat_eq p (b / 64)) (is_set mask (b % 64)) (ap (nat_eq p) (sym (one_part p (b / 64) l e f)) ∙ eq_itself p) h
+atom_from_place atoms (spot.Part p) mask (atom.Byte b) l e f h = and_from (nat_eq p (b / 64)) (is_set mask (b % 64)) (ap (nat_eq p) (sym (one_part p (b / 64) l e f)) ∙ eq_self p) h
 atom_from_place atoms (spot.Part p) mask (atom.Call b) l e f h = absurd (far_or_near atoms (call_key b) p l e f)
 atom_from_place atoms (spot.Part p) mask (atom.Ref u b) l e f h = absurd (far_or_near atoms (ref_key u b) p l e f)
 atom_from_place atoms (spot.Call a) mask (atom.Byte b) l e f h = absurd (far_or_near atoms (call_key a) (b / 64) l f e)
 atom_from_place atoms (spot.Call a) mask (atom.Call b) l e f h =
-    let same = ap (λ k. k.1) (key_at atoms (call_key a) (call_key b) l e f) in and_from (is_set mask 0) (nat_eq a b) h (ap (nat_eq a) (sym same) ∙ eq_itself a)
+    let same = ap (λ k. k.1) (key_at atoms (call_key a) (call_key b) l e f) in and_from (is_set mask 0) (nat_eq a b) h (ap (nat_eq a) (sym same) ∙ eq_self a)
 atom_from_place atoms (spot.Call a) mask (atom.Ref u b) l e f h = absurd (let same = ap (λ k. k.0) (key_at atoms (call_key a) (ref_key u b) l e f) in omega (arith, same))
 atom_from_place atoms (spot.Ref t a) mask (atom.Byte b) l e f h = absurd (far_or_near atoms (ref_key t a) (b / 64) l f e)
 atom_from_place atoms (spot.Ref t a) mask (atom.Call b) l e f h = absurd (let same = ap (λ k. k.0) (key_at atoms (ref_key t a) (call_key b) l e f) in omega (arith, same))
@@ -153,7 +154,7 @@ atom_from_place atoms (spot.Ref t a) mask (atom.Ref u b) l e f h =
     let ts = ap (λ k. k.0) same in
     let tu : t ≡ u = omega (arith, ts) in
     let ab = ap (λ k. k.1) same in
-    and_from (is_set mask 0) (nat_eq t u && nat_eq a b) h (and_from (nat_eq t u) (nat_eq a b) (ap (nat_eq t) (sym tu) ∙ eq_itself t) (ap (nat_eq a) (sym ab) ∙ eq_itself a))
+    and_from (is_set mask 0) (nat_eq t u && nat_eq a b) h (and_from (nat_eq t u) (nat_eq a b) (ap (nat_eq t) (sym tu) ∙ eq_self t) (ap (nat_eq a) (sym ab) ∙ eq_self a))
 
 pub all_by_split : (p : Entry → Bool) (es : List (ℕ × Entry)) → ((xs : List (ℕ × Entry)) (n : ℕ) (e : Entry) (ys : List (ℕ × Entry)) → es ≡ xs ++ (n, e) ∷ ys → p e ≡ true) → all_nodes p es ≡ true
 all_by_split p [] h = refl

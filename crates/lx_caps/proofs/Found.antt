@@ -1,6 +1,7 @@
 -- The calls and references that are found act by act are those that are owned.
 use Rattle.std.proofs.Common.{◌≡◌, inl, inr, refl, sym, ap, ◌∙◌, subst, Bool, true, false, ◌&&◌, ◌||◌, List, [], ◌∷◌, Option, Some, None, if◌then◌else◌}
 use Rattle.std.proofs.lemmas.Bool.{or_cases, or_left, or_right}
+use Rattle.lx_words.proofs.Tests.{same_tests}
 use Rattle.lx_caps.specs.declared.Principal.{Principal}
 use Rattle.lx_caps.specs.declared.Atom.{Atom}
 use Rattle.lx_caps.specs.declared.Act.{Act}
@@ -10,7 +11,6 @@ use Rattle.lx_caps.specs.Once.{is_atom}
 use Rattle.lx_caps.specs.Starts.{kept_by, start_of}
 use Rattle.lx_caps.proofs.Begins.{StartsIn, starts_alone}
 use Rattle.lx_caps.proofs.InOrder.{same_from, same_itself}
-use Rattle.lx_caps.proofs.Tests.{same_tests}
 
 -- those are found that pass the test and at which one of the acts starts
 pub record IsFound (p : Atom → Bool) (h : History) (found : List Atom) : Type 0 where

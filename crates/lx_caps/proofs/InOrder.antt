@@ -3,20 +3,20 @@ use Rattle.std.proofs.Common.{◌≡◌, refl, sym, ap, ◌∙◌, subst, suc, �
 use Rattle.std.specs.Cmp.{IsStrictWeakOrder}
 use Rattle.std.specs.List.Sorted.{IsSortedBy}
 use Rattle.std.proofs.lemmas.Bool.{and_from, and_parts, eqb-true, false_from_ne_true, both_ways, or_left}
+use Rattle.lx_words.proofs.Tests.{eq_self}
 use Rattle.lx_caps.specs.declared.Atom.{Atom}
 use Rattle.lx_caps.specs.declared.Atom.TheVariants.{Byte, Call, Ref}
 use Rattle.lx_caps.specs.Order.{is_before, is_behind, same_atom, stands_in, AreAllBehind}
 use Rattle.lx_caps.specs.Once.{rising}
 use Rattle.lx_caps.proofs.Orders.{not_before_itself, at_most-trans, before-at_most}
-use Rattle.lx_caps.proofs.Tests.{eq_itself}
 
 pub atom_order : IsStrictWeakOrder is_before
 atom_order = record { one_way = before-at_most; chain = λ x y z xy yz. at_most-trans z y x yz xy }
 
 pub same_itself : (x : Atom) → same_atom x x ≡ true
-same_itself (Byte a) = eq_itself a
-same_itself (Call a) = eq_itself a
-same_itself (Ref t a) = and_from (nat_eq t t) (nat_eq a a) (eq_itself t) (eq_itself a)
+same_itself (Byte a) = eq_self a
+same_itself (Call a) = eq_self a
+same_itself (Ref t a) = and_from (nat_eq t t) (nat_eq a a) (eq_self t) (eq_self a)
 
 pub same_from : (x y : Atom) → same_atom x y ≡ true → x ≡ y
 same_from (Byte a) (Byte b) is = ap Byte (eqb-true a b is)

@@ -1,13 +1,13 @@
 -- The next owned atom, as the next owned byte.
 use Rattle.std.proofs.Common.{◌≡◌, ℕ, ◌≤◌, Bool, true, false, ◌&&◌, Option, Some, None, refl, sym, arith, lt-ltb, ltb-true}
 use Rattle.std.proofs.lemmas.Bool.{true≢false}
+use Rattle.lx_words.proofs.Tests.{first_of, second_of}
 use Rattle.lx_caps.specs.declared.Principal.{Principal}
 use Rattle.lx_caps.specs.declared.Atom.{Atom}
 use Rattle.lx_caps.specs.declared.Atom.TheVariants as atom
 use Rattle.lx_caps.specs.History.{History, owns}
 use Rattle.lx_caps.specs.Order.{is_before, is_behind, IsNextOwned}
 use Rattle.lx_caps.specs.NextByte.{behind, byte_in, last_byte, IsFirstFrom}
-use Rattle.lx_caps.proofs.Tests.{first_true, second_true}
 
 pub not_owned : (b o : Bool) → b ≡ true → (b && o) ≡ false → o ≡ false
 not_owned true o e f = f
@@ -30,9 +30,9 @@ none_until h q after x n m le lt = not_owned (is_behind (last_byte after) (atom.
 pub first_byte : (h : History) (q : Principal) (after : Option ℕ) (next : Option Atom) → IsNextOwned h q (last_byte after) next → IsFirstFrom (λ b. owns h q (atom.Byte b)) (behind after) (byte_in next)
 first_byte h q after None n = λ m le. not_owned (is_behind (last_byte after) (atom.Byte m)) _ (bytes_behind after m le) (n (atom.Byte m))
 first_byte h q after (Some (atom.Byte k)) n = (
-  byte_le after k (first_true _ _ n.0),
+  byte_le after k (first_of _ _ n.0),
   (λ m le lt. none_until h q after (atom.Byte k) n m le (lt-ltb m k lt)),
-  second_true (is_behind (last_byte after) (atom.Byte k)) _ n.0,
+  second_of (is_behind (last_byte after) (atom.Byte k)) _ n.0,
 )
 first_byte h q after (Some (atom.Call a)) n = λ m le. none_until h q after (atom.Call a) n m le refl
 first_byte h q after (Some (atom.Ref t a)) n = λ m le. none_until h q after (atom.Ref t a) n m le refl

@@ -1,96 +1,26 @@
 -- Tests by their parts: what `true`, `false` and numbers say of them.
-use Rattle.std.proofs.Common.{arith, true, ℕ, ◌≡◌, Bool, false, refl, ◌&&◌, ◌||◌, ◌<◌, ◌≤◌, sym, nat_eq, Some, ◌+◌, inl, inr, nat_lt, ◌⊎◌, not, suc, ◌≢◌, max, zero, ◌-◌, min, ap, ◌%◌, ◌*◌, ◌/◌, if◌then◌else◌, ◌∙◌}
+use Rattle.std.proofs.Common.{arith, true, ℕ, ◌≡◌, Bool, false, refl, ◌&&◌, ◌||◌, ◌<◌, ◌≤◌, sym, nat_eq, Some, ◌+◌, nat_lt, ◌⊎◌, not, suc, ◌≢◌, max, zero, ◌-◌, min, ap, ◌%◌, ◌*◌, ◌/◌, if◌then◌else◌, ◌∙◌}
 use Rattle.std.proofs.lemmas.Bool.Decides.{nat_tests}
-use Rattle.std.specs.Int.{next_multiple_of}
-use Rattle.std.proofs.lemmas.Bool.{cases_lt}
-
-pub eq_itself : (n : ℕ) → nat_eq n n ≡ true
-eq_itself n = grind arith
-
-pub and_none : (a : Bool) → (a && false) ≡ false
-and_none true = refl
-and_none false = refl
-
-pub or_nothing : (a : Bool) → (a || false) ≡ a
-or_nothing true = refl
-or_nothing false = refl
-
-pub first_true : (a b : Bool) → (a && b) ≡ true → a ≡ true
-first_true true b h = refl
-first_true false b h = absurd (cc)
-
-pub true_false : {A : Type 0} → true ≡ false → A
-true_false e = cc
-
-pub second_true : (a b : Bool) → (a && b) ≡ true → b ≡ true
-second_true true b h = h
-second_true false b h = absurd (cc)
+use Rattle.lx_words.proofs.Tests.{or_joined}
 
 pub and_or : (a b c : Bool) → (a && (b || c)) ≡ ((a && b) || (a && c))
 and_or true b c = refl
 and_or false b c = refl
 
-pub or_join : (a b c : Bool) → ((a || b) || c) ≡ (a || (b || c))
-or_join true b c = refl
-or_join false b c = refl
-
 pub and_true : (r : Bool) → r ≡ (r && true)
 and_true true = refl
 and_true false = refl
-
-pub or_second : (n r : Bool) → n ≡ false → (n || r) ≡ true → r ≡ true
-or_second false r e is = is
-or_second true r e is = absurd (cc)
-
-pub less_most : (a b c : ℕ) → a < b → b ≤ c → a < c
-less_most a b c h k = omega (arith, h, k)
-
-pub same_tests : (a b : Bool) → (a ≡ true → b ≡ true) → (b ≡ true → a ≡ true) → a ≡ b
-same_tests true true h k = refl
-same_tests true false h k = sym (h refl)
-same_tests false true h k = k refl
-same_tests false false h k = refl
 
 pub or_swap : (a b c : Bool) → (a || (b || c)) ≡ (b || (a || c))
 or_swap true true c = refl
 or_swap true false c = refl
 or_swap false b c = refl
 
-pub nat_eq_turned : (m n : ℕ) → nat_eq m n ≡ false → nat_eq n m ≡ false
-nat_eq_turned m n is = grind (arith, nat_tests, is)
-
 pub some_is : (m n : ℕ) → Some m ≡ Some n → m ≡ n
 some_is m n is = cc
 
-pub next_above : (x y : ℕ) → x ≤ next_multiple_of x y
-next_above x y = omega arith
-
-pub false_true : {A : Type 0} → false ≡ true → A
-false_true e = cc
-
-pub nat_eq_swapped : (m n : ℕ) → nat_eq m n ≡ nat_eq n m
-nat_eq_swapped m n = grind (arith, nat_tests)
-
-pub or_assoc : (a b c : Bool) → (a || (b || c)) ≡ ((a || b) || c)
-or_assoc true b c = refl
-or_assoc false b c = refl
-
-pub from_zero : (k : ℕ) → k ≡ 0 + k
-from_zero k = omega arith
-
-pub more_differs : (n f : ℕ) → f < n → nat_eq n f ≡ false
-more_differs n f h = grind (arith, nat_tests)
-
 pub less_differs : (n f : ℕ) → n < f → nat_eq n f ≡ false
 less_differs n f h = grind (arith, nat_tests, h)
-
-pub split_if : (b : Bool) (m y : ℕ) → nat_lt m y ≡ b → (m < y) ⊎ (y ≤ m)
-split_if true m y e = inl (grind (arith, nat_tests, e))
-split_if false m y e = inr (grind (arith, nat_tests, e))
-
-pub not_had : (c o : Bool) → c ≡ false → o ≡ true → (not c && o) ≡ true
-not_had true o e f = cc
-not_had false o e f = f
 
 pub one_more : (n : ℕ) → n + 1 ≡ suc n
 one_more n = omega arith
@@ -100,10 +30,6 @@ ne_from_test m n h = grind (arith, nat_tests)
 
 pub eq_from_ne : (m n : ℕ) → m ≢ n → nat_eq m n ≡ false
 eq_from_ne m n ne = grind (arith, nat_tests, ne)
-
-pub or_false : (t u : Bool) → u ≡ false → (t || u) ≡ t
-or_false true u e = refl
-or_false false u e = e
 
 pub max_one : (a b : ℕ) → a < 2 → b < 2 → nat_eq (max a b) 1 ≡ (nat_eq a 1 || nat_eq b 1)
 max_one zero zero p q = refl
@@ -134,18 +60,6 @@ both_zeroed true false false o = refl
 pub and_yes : (a : Bool) → (a && true) ≡ a
 and_yes true = refl
 and_yes false = refl
-
-pub less_none : (k : ℕ) → nat_lt k 0 ≡ false
-less_none k = grind arith
-
-pub one_less : (m n : ℕ) → suc m ≡ suc n → m ≡ n
-one_less m n e = omega (arith, e)
-
-pub less_one : (n j : ℕ) → suc j ≡ n → n - 1 ≡ j
-less_one n j e = omega (arith, e)
-
-pub no_less : {A : Type 0} (a : ℕ) → a < 0 → A
-no_less a h = absurd (omega (arith, h))
 
 pub chosen : (b rest : Bool) → b ≡ true → elim b [ false ↦ false | true ↦ rest ] ≡ rest
 chosen true rest is = refl
@@ -196,33 +110,13 @@ counts_up false n = omega arith
 pub below_16 : (t : ℕ) → t < 16 → nat_lt t 16 ≡ true
 below_16 t h = grind (arith, nat_tests)
 
-pub is_both : {A : Type 0} (b : Bool) → b ≡ true → not b ≡ true → A
-is_both true e f = absurd (cc)
-is_both false e f = absurd (cc)
-
 pub paid_less : (fuel n l k : ℕ) → fuel ≡ suc n → 2 * fuel + l < k → 2 * n + l + 2 < k
 paid_less fuel n l k e h = omega (arith, e, h)
-
-pub or_turned : (a b : Bool) → (a || b) ≡ (b || a)
-or_turned true true = refl
-or_turned true false = refl
-or_turned false true = refl
-or_turned false false = refl
-
-pub one_down : (r n : ℕ) → suc r < suc n → r < n
-one_down r n h = omega (arith, h)
-
-pub at_most : (i a b : ℕ) → i ≤ a → a ≤ b → i ≤ b
-at_most i a b h e = omega (arith, h, e)
 
 pub or_chosen : (a n e : Bool) → a ≡ true → (a && n || not a && e) ≡ true → n ≡ true
 or_chosen true true e is h = refl
 or_chosen true false e is h = absurd (cc)
 or_chosen false n e is h = absurd (cc)
-
-pub false_unless : (b : Bool) → (b ≡ true → false ≡ true) → b ≡ false
-false_unless true h = sym (h refl)
-false_unless false h = refl
 
 pub not_on : (x y : Bool) → x ≡ not y → x ≡ true → y ≡ false
 not_on x true e f = absurd (cc)
@@ -231,12 +125,6 @@ not_on x false e f = refl
 pub not_off : (x y : Bool) → x ≡ not y → x ≡ false → y ≡ false → ⊥
 not_off x true e f h = cc
 not_off x false e f h = cc
-
-pub below_next : (j n : ℕ) → j < n + 1 → (j < n) ⊎ (j ≡ n)
-below_next j n less = elim (cases_lt j n) [
-  | inl lower ↦ inl lower
-  | inr most ↦ inr (omega (arith, less, most))
-]
 
 pub none_left : (a b : Bool) → (a || b) ≡ false → a ≡ false
 none_left false b e = refl
@@ -252,8 +140,4 @@ or_other true b e f = absurd (cc)
 
 pub first_step : (s fo found g r : Bool) → (fo && g) ≡ found → ((s || found) || (fo && r)) ≡ (s || (fo && (g || r)))
 first_step s fo found g r is =
-    or_join s found (fo && r) ∙ ap (λ t. s || t) (ap (λ t. t || (fo && r)) (sym is) ∙ sym (and_or fo g r))
-
-pub bare_spared : (a b : Bool) → a ≡ true → (not a || b) ≡ true → b ≡ true
-bare_spared true b e h = h
-bare_spared false b e h = true_false (sym e)
+    or_joined s found (fo && r) ∙ ap (λ t. s || t) (ap (λ t. t || (fo && r)) (sym is) ∙ sym (and_or fo g r))

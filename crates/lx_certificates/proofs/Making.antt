@@ -2,6 +2,7 @@
 use Rattle.std.proofs.Common.{◌≡◌, ◌≢◌, ◌∙◌, inl, inr, refl, sym, ap, ℕ, ◌+◌, ◌-◌, ◌<◌, ◌≤◌, Bool, true, false, not, ◌&&◌, nat_eq, nat_lt, nat_le, Option, Some, None, List, [], ◌∷◌, ◌++◌, append_assoc, arith, length, if◌then◌else◌, eq-eqb, lt-ltb, le-leb}
 use mathlib.Core.List.{append-nil}
 use Rattle.std.proofs.lemmas.Bool.{true≢false, and_from, cases_lt}
+use Rattle.lx_words.proofs.Tests.{apart_turned}
 use Rattle.lx_caps.specs.declared.Principal.{Principal}
 use Rattle.lx_caps.specs.declared.Cap.{Cap}
 use Rattle.lx_caps.specs.declared.Cap.TheVariants as cap
@@ -18,7 +19,6 @@ use Rattle.lx_certificates.specs.Certificates.{is_wanted, is_act, is_cut, are_cu
 use Rattle.lx_certificates.specs.Making.{IsRun}
 use Rattle.lx_certificates.proofs.Reaching.{owned, owning, keeping, by_places}
 use Rattle.lx_certificates.proofs.Meanings.{all_given}
-use Rattle.lx_caps.proofs.Tests.{nat_eq_turned}
 
 wanted_itself : (n : ℕ) (o : Option ℕ) → o ≡ Some n → is_wanted (Some n) o ≡ true
 wanted_itself n o is = ap (is_wanted (Some n)) is ∙ eq-eqb n n refl
@@ -58,7 +58,7 @@ one_cut_more h s old new at end act cuts run is =
       within = run.bound;
       all = λ k below. elim (cases_lt k at) [ inl here ↦ cuts.all k here | inr there ↦ ap (is_wanted None) (run.by_act k there below) ];
       last = Some act;
-      other = λ lt n found. nat_eq_turned n act (ap (λ o. is_act o act) (sym found) ∙ run.other lt);
+      other = λ lt n found. apart_turned n act (ap (λ o. is_act o act) (sym found) ∙ run.other lt);
       goes_on = λ rest cut.
           ap (λ ps. are_cut (given h s) (first_of s.cap) None 0 (count_of s.cap) (ps ++ rest)) is
           ∙ ap (are_cut (given h s) (first_of s.cap) None 0 (count_of s.cap)) (append_assoc old (p ∷ []) rest)

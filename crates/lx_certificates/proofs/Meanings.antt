@@ -2,6 +2,7 @@
 use Rattle.std.proofs.Common.{◌≡◌, ◌∙◌, inl, inr, refl, sym, ap, ℕ, ◌+◌, ◌-◌, ◌<◌, ◌≤◌, Bool, true, false, not, nat_eq, nat_lt, nat_le, IsTrue, Option, Some, None, List, [], ◌∷◌, arith, eqb-true}
 use Rattle.std.proofs.lemmas.Bool.{true≢false, false_from_ne_true, and_parts, cases_lt}
 use Rattle.std.proofs.lemmas.Bool.Decides.{nat_tests}
+use Rattle.lx_words.proofs.Tests.{eq_self, clash}
 use Rattle.lx_caps.specs.declared.Principal.{Principal}
 use Rattle.lx_caps.specs.declared.Principal.TheVariants.{Kernel, Shared, Global, Inst}
 use Rattle.lx_caps.specs.declared.Cap.{Cap}
@@ -17,7 +18,7 @@ use Rattle.lx_certificates.specs.Givers.{giver, given, nth_atom, count_of, first
 use Rattle.lx_certificates.specs.Certificates.{is_wanted, is_act, same_number, is_cut, are_cut, is_first_lacking, is_kernel, is_cert, gifts_for, seek, address_of}
 use Rattle.lx_certificates.specs.Laws.{IsCertFor}
 use Rattle.lx_certificates.proofs.Reaching.{owned, kept, by_places, at_place, in_place}
-use Rattle.lx_caps.proofs.Tests.{eq_itself, some_is}
+use Rattle.lx_caps.proofs.Tests.{some_is}
 
 not_both : (b : Bool) → b ≡ true → not b ≡ true → ⊥
 not_both b is out = true≢false (sym out ∙ ap not is)
@@ -133,7 +134,7 @@ longer f first last k left p q [] a b is same lt = (let e : left - p.size ≡ 0 
 longer f first last k left p q (r ∷ rs) a b is same lt =
     let c = cut_of f first (Some p.act) (k + p.size) (left - p.size) r (and_parts (is_cut f first (Some p.act) (k + p.size) (left - p.size) r) _ is).0 in
     let e : r.act ≡ q.act = some_is r.act q.act (sym (c.each (k + p.size) (omega arith) (omega (arith, c.some))) ∙ b.each (k + p.size) (omega arith) (omega (arith, lt))) in
-    not_both (nat_eq p.act r.act) (ap (nat_eq p.act) (e ∙ sym same) ∙ eq_itself p.act) c.other
+    not_both (nat_eq p.act r.act) (ap (nat_eq p.act) (e ∙ sym same) ∙ eq_self p.act) c.other
 
 same_size : (f : ℕ → Option ℕ) (first : ℕ) (last : Option ℕ) (k left : ℕ) (p q : Part) (ps qs : List Part) → Cut f first last k left p → Cut f first last k left q →
     are_cut f first (Some p.act) (k + p.size) (left - p.size) ps ≡ true → are_cut f first (Some q.act) (k + q.size) (left - q.size) qs ≡ true → p.act ≡ q.act → p.size ≡ q.size
@@ -226,9 +227,6 @@ own_deny h who w cap c x s e f is = (λ j. is_cert h (Deny (sym e j) (sym f j) x
 
 pub own_borrowed : (h : History) (who w : Principal) (cap c : Cap) (x : Atom) (n : ℕ) → w ≡ who → c ≡ cap → IsTrue (is_cert h (Borrowed w c x n)) → IsTrue (is_cert h (Borrowed who cap x n))
 own_borrowed h who w cap c x n e f is = (λ j. is_cert h (Borrowed (sym e j) (sym f j) x n)) ∙ is
-
-clash : (b : Bool) → b ≡ true → b ≡ false → ⊥
-clash b is out = true≢false (sym is ∙ out)
 
 allow_borrowed : (h : History) (who : Principal) (cap : Cap) (kept : Bool) (ps : List Part) (x : Atom) (n : ℕ) → kept ≡ true → IsTrue (is_cert h (Allow who cap kept ps)) → IsTrue (is_cert h (Borrowed who cap x n)) → ⊥
 allow_borrowed h who cap true ps x n e is js = clash (keeps_all h who cap) (allowed_kept h who cap ps is) (borrowed h who cap x n js).1

@@ -87,10 +87,6 @@ moved_turn files case other a b r e f turn = subst (λ (q : Asked). InputTurn fi
 
 -- what holds of the value of a result
 
-pub if_ok : {A E : Type 0} {P Q : A → Type 0} (r : Result A E) → ((a : A) → P a → Q a) → IfOk r P → IfOk r Q
-if_ok (Ok a) f is = f a is
-if_ok (Err e) f is = is
-
 pub if_ok_at : {A E : Type 0} (P : A → Type 0) (r : Result A E) (a : A) → IfOk r P → r ≡ Ok a → P a
 if_ok_at {A} {E} P (Ok b) a is same = let e : b ≡ a = cc in subst P e is
 if_ok_at {A} {E} P (Err e) a is same = absurd cc

@@ -2,13 +2,13 @@
 use Rattle.std.proofs.Common.{◌≡◌, ◌∙◌, refl, sym, ap, subst, ℕ, zero, suc, ◌<◌, Option, Some, None, List, [], ◌∷◌, ◌++◌, length, get_or, slice_get, arith}
 use Rattle.std.specs.Prelude.{unwrap_or}
 use Rattle.std.proofs.lemmas.Option.{slice_get-get_or, same_Some, slice_get_past}
+use Rattle.lx_words.proofs.Lists.{none_past}
 use Rattle.lx_ir.specs.declared.module.Function.{Function}
 use Rattle.lx_model.specs.declared.program.Program.{Program}
 use Rattle.lx_model.specs.declared.program.ProgramModule.{ProgramModule}
 use Rattle.lx_model.specs.Program.{Home, module_of, module_or_empty, target, target_of as target_in}
 use Rattle.lx_code.specs.declared.targets.Target.{Target as Named}
 use Rattle.lx_code.specs.Targets.{target_of, target_or_nowhere, HasTable}
-use Rattle.lx_model.proofs.Items.{none_past}
 
 -- what holds of each element, by its place
 abbrev pub Each : {A : Type 0} → (ℕ → A → Type 0) → List A → Type 0

@@ -1,7 +1,8 @@
 -- Large switches and phis, each of which has a table.
 use Rattle.std.proofs.Common.{◌≡◌, ◌∙◌, refl, sym, ap, subst, ℕ, ◌+◌, ◌<◌, ◌≤◌, Bool, true, false, cond, nat_eq, nat_lt, Option, Some, None, IsSome, List, ◌&&◌, arith}
 use Rattle.std.specs.Prelude.{slice_get, option_map, option_and_then}
-use Rattle.std.proofs.lemmas.Bool.{eq-eqb, ltb-true, ltb-false}
+use Rattle.std.proofs.lemmas.Bool.{ltb-true, ltb-false}
+use Rattle.lx_words.proofs.Tests.{eq_self}
 use Rattle.lx_ir.specs.declared.instr.Instr.{Instr}
 use Rattle.lx_ir.specs.declared.instr.Op.{Op}
 use Rattle.lx_ir.specs.declared.module.Block.{Block}
@@ -72,10 +73,7 @@ module _ (block place b k : ℕ) (table : Table) (old : Option Table) where
   pub one_more_kept : (found : Option Table) → found ≡ cond (same_place (block, place) (b, k)) (Some table) old → IsSome old → IsSome found
   one_more_kept found is some = subst (λ (o : Option Table). IsSome o) (sym is) (kept_by_test (same_place (block, place) (b, k)) some)
 
-same_as_itself : (n : ℕ) → nat_eq n n ≡ true
-same_as_itself n = eq-eqb n n refl
-
 pub one_more_here : (block place : ℕ) (table : Table) (old found : Option Table) → found ≡ cond (same_place (block, place) (block, place)) (Some table) old → IsSome found
 one_more_here block place table old found is =
     subst (λ (o : Option Table). IsSome o) (sym is)
-    (subst (λ (t : Bool). IsSome (cond t (Some table) old)) (sym (ap (λ (t : Bool). t && nat_eq place place) (same_as_itself block) ∙ same_as_itself place)) refl)
+    (subst (λ (t : Bool). IsSome (cond t (Some table) old)) (sym (ap (λ (t : Bool). t && nat_eq place place) (eq_self block) ∙ eq_self place)) refl)

@@ -1,12 +1,10 @@
 pub mod Copied
 pub mod Crossing
 pub mod Filled
-pub mod FirstPlaces
 pub mod Firsts
 pub mod JoinedNames
 pub mod Large
 pub mod Placed
-pub mod Sized
 pub mod TablesCrossing
 pub mod TypeParts
 pub mod Ways

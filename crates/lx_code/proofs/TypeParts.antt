@@ -9,12 +9,7 @@ use Rattle.lx_ir.specs.declared.types.Scalar.TheVariants.{Int, Ptr}
 use Rattle.lx_ir.specs.declared.types.NamedType.{NamedType}
 use Rattle.lx_ir.specs.IrType.{IrType, One, Array, Struct, Packed, Named, IrTypes, none, also}
 use Rattle.lx_ir.specs.Layout.{Layout, layout, beside, layout_of, size_of, align_of, unnamed, fields_of, list_of_types, parts_of, is_struct, names_struct, is_lawful_type, is_type_within, Part, field_after, field_of, offset_of, part_or, part_of}
-use Rattle.lx_ir.specs.TypeNodes.{types_of_list}
 use Rattle.lx_code.specs.Parts.{IsPart, element_in}
-
-pub listed : (ts : List IrType) → list_of_types (types_of_list ts) ≡ ts
-listed [] = refl
-listed (t ∷ ts) = ap (λ us. t ∷ us) (listed ts)
 
 -- a type that nests less deep is within more room
 

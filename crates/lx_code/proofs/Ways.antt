@@ -1,5 +1,5 @@
 -- Legs of routes.
-use Rattle.std.proofs.Common.{◌≡◌, ◌∙◌, refl, sym, ap, subst, ℕ, zero, suc, ◌<◌, Option, Some, None, List, [], ◌∷◌, ◌++◌, IsTrue, ℤ, pos, drop, length, get_or, arith}
+use Rattle.std.proofs.Common.{◌≡◌, ◌∙◌, refl, sym, ap, subst, ℕ, ◌<◌, Option, Some, None, List, [], ◌∷◌, ◌++◌, IsTrue, ℤ, pos}
 use Rattle.std.specs.Prelude.{nat_abs, ◌+ℤ◌, ◌*ℤ◌}
 use Rattle.std.proofs.lemmas.List.{append-nil, append_assoc}
 use Rattle.lx_words.specs.Word.{Word, signed}
@@ -65,11 +65,6 @@ no_more types t (z ∷ zs) are = absurd are
 
 pub leads_all : (types : List NamedType) (start inner : IrType) (all : List Argument) (legs : List Leg) → Leads types start all legs inner [] → AreLegs types start all legs
 leads_all types start inner all legs leads = subst (AreLegs types start all) (append-nil legs) (leads.on [] (no_more types inner))
-
-pub drop_next : {A : Type 0} (xs : List A) (k : ℕ) (x : A) → k < length xs → x ≡ get_or xs k x → drop k xs ≡ x ∷ drop (suc k) xs
-drop_next [] k x h e = absurd (omega (arith, h))
-drop_next (y ∷ ys) zero x h e = ap (λ z. z ∷ ys) (sym e)
-drop_next (y ∷ ys) (suc k) x h e = drop_next ys k x (omega (arith, h)) e
 
 -- the first index counts whole values
 pub routed : (types : List NamedType) (t : IrType) (x : Argument) (xs : List Argument) (r : Route) → r.size ≡ size_of types t → AreLegs types t xs r.legs → IsRoute types t (x ∷ xs) r

@@ -1,16 +1,17 @@
 -- How many instructions of a text are left from a place on.
-use Rattle.std.proofs.Common.{◌≡◌, ◌∙◌, refl, sym, ap, ℕ, suc, ◌+◌, ◌-◌, ◌≤◌, ◌<◌, Bool, true, false, not, ◌&&◌, cond, Option, Some, None, List, [], ◌∷◌, length, map, drop, get_or, arith}
+use Rattle.std.proofs.Common.{◌≡◌, ◌∙◌, refl, sym, ap, ℕ, ◌+◌, ◌-◌, ◌≤◌, ◌<◌, Bool, true, false, not, ◌&&◌, cond, Option, Some, None, List, [], ◌∷◌, length, map, drop, get_or, arith}
 use Rattle.std.specs.Prelude.{count_by, nat_le, slice_get, option_map, option_and_then}
 use Rattle.std.proofs.Math.ListN.{drop_of_length-le}
 use Rattle.std.proofs.lemmas.List.{drop-map}
 use Rattle.std.proofs.lemmas.List.Recursion.{is_count_by}
 use Rattle.std.proofs.lemmas.List.Sums.{sum_by-cons}
 use Rattle.std.proofs.lemmas.Option.{slice_get_past}
+use Rattle.lx_words.proofs.Tests.{one_first}
+use Rattle.lx_words.proofs.Lists.{rest_at, none_past}
 use Rattle.lx_ir.specs.declared.instr.Instr.{Instr}
 use Rattle.lx_ir.specs.declared.instr.Op.{Op}
 use Rattle.lx_image_texts.specs.Marks.{is_mark, without_marks}
 use Rattle.lx_model.specs.Effect.{is_phi, without_phis}
-use Rattle.lx_model.proofs.Items.{none_past, rest_at}
 use Rattle.lx_image_code.proofs.Filled.{Each}
 use Rattle.lx_image_steps.specs.Standing.{rest_from}
 use Rattle.lx_code_lines.specs.Lines.{is_counted, left_from, line_left, HasPlaceLines}
@@ -28,12 +29,9 @@ rest_from_is : (arrived : Bool) (place : ℕ) (os : List Op) → rest_from arriv
 rest_from_is true place os = refl
 rest_from_is false place os = refl
 
-one_more : (n : ℕ) → suc n ≡ 1 + n
-one_more n = omega arith
-
 marks_step : (m : Bool) (o : Op) (os : List Op) → length (cond (not m) (o ∷ os) os) ≡ cond (not m && true) (1 + length os) (length os)
 marks_step true o os = refl
-marks_step false o os = one_more (length os)
+marks_step false o os = one_first (length os)
 
 no_more : (b : Bool) (x y : ℕ) → y ≡ cond (b && false) x y
 no_more true x y = refl

@@ -6,17 +6,13 @@ use Rattle.std.proofs.lemmas.Bool.Decides.{nat_tests}
 use Rattle.std.proofs.lemmas.List.Folds.{find_at}
 use Rattle.std.proofs.lemmas.Option.{slice_get_past}
 use Rattle.lx_ir.specs.declared.module.Block.{Block}
-use Rattle.lx_ir.specs.declared.module.Function.{Function}
 use Rattle.lx_ir.specs.Lookup.{block_named}
 use Rattle.lx_model.specs.Program.{function_of, home_or_kernel}
-use Rattle.lx_model.specs.Thread.{CodeBlock, code_block_of, routine_or_none}
+use Rattle.lx_model.specs.Thread.{CodeBlock, code_block_of}
 use Rattle.lx_images.specs.Code.{Code, image_routine}
 use Rattle.lx_images.specs.Guarded.{Accepted, guarded_block}
 use Rattle.lx_image_code.specs.Jumps.{blocks_or_none}
-
-blocks_of_routine : (f : Option Function) → (routine_or_none f).blocks ≡ map code_block_of (blocks_or_none f)
-blocks_of_routine None = refl
-blocks_of_routine (Some f) = refl
+use Rattle.lx_image_code.proofs.Found.{blocks_of_routine}
 
 -- the blocks of an image are those of the text with the marks
 image_blocks_are : (c : Code) → Accepted c → (n : ℕ) → (image_routine c n).blocks ≡ map (guarded_block c (home_or_kernel c.program n) n) (map code_block_of (blocks_or_none (function_of c.program n)))

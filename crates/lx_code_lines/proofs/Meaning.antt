@@ -5,10 +5,9 @@ use Rattle.std.specs.List.{list_any}
 use Rattle.std.proofs.lemmas.Bool.{le-leb}
 use Rattle.std.proofs.lemmas.List.{length-drop}
 use Rattle.std.proofs.lemmas.Option.{slice_get_within}
-use Rattle.lx_words.proofs.Lists.{map_length}
+use Rattle.lx_words.proofs.Lists.{map_length, bytes_itself}
 use Rattle.lx_words.proofs.Options.{some_same, none_some}
-use Rattle.lx_caps.proofs.Items.{same_bytes}
-use Rattle.lx_caps.proofs.Tests.{second_true}
+use Rattle.lx_words.proofs.Tests.{second_of}
 use Rattle.lx_ir.specs.declared.module.Block.{Block}
 use Rattle.lx_ir.specs.declared.module.Function.{Function}
 use Rattle.lx_ir.specs.declared.instr.Instr.{Instr}
@@ -31,6 +30,7 @@ use Rattle.lx_simulation.proofs.Frames.{AllVerified, PassesCode, sound_at, Stood
 use Rattle.lx_simulation.proofs.Imaging.{other_name}
 use Rattle.lx_simulation.proofs.Verifying.{op_of, name_of_block, Sound}
 use Rattle.lx_simulation.proofs.Walking.{Here, here, name_of, no_ops}
+use Rattle.lx_simulation.proofs.Jumping.{got_body}
 use Rattle.lx_code_lines.specs.Place.{Place, place_of, first_run, acting_at, acting_in, acting, asker_within, with_left, instr_at}
 use Rattle.lx_code_lines.specs.PlaceLaws.{Means}
 
@@ -65,7 +65,7 @@ asker_stood p ver slots t (suc n) thread st = stood_by p t n thread (step p t th
 -- the first block of a name is the one that has it
 
 found_here : (b : Block) (bs : List Block) → block_named (b ∷ bs) b.name ≡ Some b
-found_here b bs = let e : bytes_eq b.name b.name ≡ true = same_bytes b.name in grind (arith, e)
+found_here b bs = let e : bytes_eq b.name b.name ≡ true = bytes_itself b.name in grind (arith, e)
 
 found_later : (c : Block) (bs : List Block) (label : List ℕ) → bytes_eq c.name label ≡ false → block_named (c ∷ bs) label ≡ block_named bs label
 found_later c bs label e = grind (arith, e)
@@ -75,14 +75,9 @@ found [] k b d e = none_some e
 found (c ∷ bs) zero b d e = subst (λ (x : Block). block_named (c ∷ bs) x.name ≡ Some x) (some_same e) (found_here c bs)
 found (c ∷ bs) (suc k) b d e =
     found_later c bs b.name (other_name (map name_of_block bs) b.name c.name d (in_map name_of_block b bs (in_got bs k b e)))
-    ∙ found bs k b (second_true (not (list_any (bytes_eq c.name) (map name_of_block bs))) (is_distinct (map name_of_block bs)) d) e
+    ∙ found bs k b (second_of (not (list_any (bytes_eq c.name) (map name_of_block bs))) (is_distinct (map name_of_block bs)) d) e
 
 -- the instruction at a place is the one from which on as many are left
-
-block_there : (bs : List Block) (k j : ℕ) (i : Instr) → slice_get (no_instrs (slice_get bs k)) j ≡ Some i → (b : Block) × (slice_get bs k ≡ Some b)
-block_there [] k j i e = none_some e
-block_there (b ∷ bs) zero j i e = (b, refl)
-block_there (b ∷ bs) (suc k) j i e = block_there bs k j i e
 
 left_there : (is : List Instr) (k left : ℕ) (i : Instr) → slice_get is k ≡ Some i → left ≡ length is - k → with_left left is ≡ Some i
 left_there is k left i got e =
@@ -96,7 +91,7 @@ means_by p ver a o os None ef st ec = no_ops (sym st ∙ ec)
 means_by p ver a o os (Some g) ef st ec =
     let s : Sound (module_of p (text_of p a)) g = sound_at p ver a.function g ef in
     let h : Here (instrs_at g st.block) st.place o os = here (instrs_at g st.block) st.place o os (sym st.code ∙ ec) in
-    let b = block_there (blocks_of g) st.block st.place h.instr h.got in
+    let b = got_body (blocks_of g) st.block st.place h.instr h.got in
     let same : instrs_at g st.block ≡ b.0.instrs = ap no_instrs b.1 in
     let named : block_named (blocks_of g) a.label ≡ Some b.0 = ap (block_named (blocks_of g)) (st.label ∙ ap name_of b.1) ∙ found (blocks_of g) st.block b.0 s.names b.1 in
     let many : length a.code ≡ length (instrs_at g st.block) - st.place

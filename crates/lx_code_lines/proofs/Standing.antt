@@ -2,6 +2,7 @@
 use Rattle.std.proofs.Common.{◌≡◌, ◌∙◌, refl, sym, ap, ℕ, zero, suc, ◌≤◌, ◌-◌, Bool, true, false, Option, Some, None, List, [], length, map, arith}
 use Rattle.std.specs.Prelude.{nat_le, slice_get, option_and_then, option_map}
 use Rattle.std.proofs.lemmas.Option.{slice_get-map, slice_get_past}
+use Rattle.lx_words.proofs.Lists.{none_past}
 use Rattle.lx_ir.specs.declared.instr.Instr.{Instr}
 use Rattle.lx_ir.specs.declared.module.Block.{Block}
 use Rattle.lx_ir.specs.declared.module.Function.{Function}
@@ -17,7 +18,6 @@ use Rattle.lx_image_steps.specs.Standing.{block_at, block_or_none, rest_from}
 use Rattle.lx_interp.specs.declared.standing.Standing.{Standing}
 use Rattle.lx_interp.specs.Places.{stand_in}
 use Rattle.lx_code_lines.specs.Place.{image_place, instr_at, line_of, with_left}
-use Rattle.lx_model.proofs.Items.{none_past}
 use Rattle.lx_code_lines.specs.declared.block_lines.BlockLines.{BlockLines}
 use Rattle.lx_code_lines.specs.declared.lines.Lines.{Lines}
 use Rattle.lx_code_lines.specs.Lines.{instrs_or_none, line_among, line_in, line_left, standing_line, AreFunctionLines, AreLinesOf, HasBlockLines}

@@ -3,14 +3,12 @@ use Rattle.std.proofs.Common.{◌≡◌, ℕ, suc, ◌+◌, ◌≤◌, Option, S
 use Rattle.std.specs.Prelude.{nat_lt, unwrap_or}
 use Rattle.std.proofs.lemmas.Bool.Decides.{nat_tests}
 use mathlib.Core.List.{reverse_aux}
+use Rattle.lx_words.proofs.Tests.{more_onto}
 use Rattle.lx_caps.specs.Regions.{stack_start}
 use Rattle.lx_images.specs.Image.{Code, has_room, running, stack_top}
 use Rattle.lx_frames.specs.declared.frame.Frame.{Frame as KeptFrame}
 use Rattle.lx_frames.specs.declared.frame.Frame.TheVariants as kept
 use Rattle.lx_frames.specs.Frames.{Stack, frame_of, frames_of, high_in, high_on, running_in, running_on}
-
-more_onto : (m n : ℕ) → m + suc n ≡ suc m + n
-more_onto m n = omega arith
 
 counted_onto : (xs acc : List KeptFrame) → running_in (reverse_aux xs acc) ≡ running_in xs + running_in acc
 counted_onto [] acc = omega arith

@@ -31,6 +31,7 @@ use Rattle.lx_ir_tokens.specs.Lines.{kept_tokens, last_line}
 use Rattle.lx_ir_tokens.specs.Names.{number_of}
 use Rattle.lx_ir_tokens.specs.Reading.{IsTokOf, ReadsAs, StandsFor, names_of, said_at}
 use Rattle.lx_ir_tokens.specs.Said.{kind_of, value_of_number}
+use Rattle.lx_ir_tokens.proofs.Numbered.{named}
 use Rattle.lx_ir_terms.specs.Reading.{more_at}
 use Rattle.lx_ir_terms.specs.Types.{type_at}
 use Rattle.lx_ir_terms.specs.Words.{words_at}
@@ -44,8 +45,8 @@ use Rattle.lx_ir_read.specs.First.{first_at}
 use Rattle.lx_ir_read.specs.Reading.{SaysModule, module_at}
 use Rattle.lx_ir_complete.specs.PieceLaws.{LaidAreScanned}
 use Rattle.lx_ir_complete.specs.Pieces.{AreLaid, ends_before, text_of}
-use Rattle.lx_ir_complete.proofs.Placed.{name_at_number}
 use Rattle.lx_generated_laws.specs.RowTexts.{arg, block, i64, param, reg}
+use Rattle.lx_generated_laws.proofs.Pieces.{known}
 
 -- The text in pieces, cut by the first byte of each.
 
@@ -74,10 +75,6 @@ abbrev are_laid : List (List ℕ) → Bool
 are_laid [] = true
 are_laid (c ∷ cs) = is_some (lexeme_of Ir c) && ends_before (piece c).lexeme (text_of (pieces_of cs) ++ []) && are_laid cs
 
-known : {A : Type 0} (o : Option A) (x : A) → is_some o ≡ true → o ≡ Some (unwrap_or o x)
-known None x h = cc h
-known (Some y) x h = refl
-
 laid : (cs : List (List ℕ)) → are_laid cs ≡ true → AreLaid (pieces_of cs) []
 laid [] h = tt
 laid (c ∷ cs) h =
@@ -104,7 +101,7 @@ stands names (Some name) h = by (number_of names name) refl h
   where
     by : (o : Option ℕ) → number_of names name ≡ o → is_some o ≡ true → slice_get names (unwrap_or o 0) ≡ Some name
     by None e g = cc g
-    by (Some k) e g = name_at_number names name k e
+    by (Some k) e g = named names name k e
 
 toks_are : (text : List ℕ) (names : List (List ℕ)) (places : List Token) → list_all (λ t. is_named names (said_at text t)) places ≡ true → AllZip (IsTokOf text names) places (map (tok_of text names) places)
 toks_are text names [] h = tt

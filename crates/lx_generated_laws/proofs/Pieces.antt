@@ -42,7 +42,7 @@ are_laid [] = true
 are_laid (c ∷ []) = is_lexeme c && ends_before (piece c).lexeme c []
 are_laid (c ∷ d ∷ cs) = is_lexeme c && ends_at (piece c).lexeme c d && are_laid (d ∷ cs)
 
-known : {A : Type 0} (o : Option A) (x : A) → is_some o ≡ true → o ≡ Some (unwrap_or o x)
+pub known : {A : Type 0} (o : Option A) (x : A) → is_some o ≡ true → o ≡ Some (unwrap_or o x)
 known None x h = cc h
 known (Some y) x h = refl
 

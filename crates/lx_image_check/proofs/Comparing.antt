@@ -6,6 +6,7 @@ use Rattle.std.proofs.lemmas.List.{drop_all, length-append}
 use Rattle.std.proofs.lemmas.Bool.Decides.{nat_tests}
 use Rattle.lx_words.proofs.Tests.{and_false, one_first, more_onto, zero_more}
 use Rattle.lx_words.proofs.Options.{option_or_assoc}
+use Rattle.lx_words.proofs.Lists.{rest_at}
 use Rattle.lx_ir.specs.Lawful.{same_scalar}
 use Rattle.lx_ir.specs.declared.module.Block.{Block}
 use Rattle.lx_ir.specs.declared.module.Parameter.{Parameter}
@@ -13,7 +14,6 @@ use Rattle.lx_ir.specs.declared.instr.Argument.{Argument}
 use Rattle.lx_ir.specs.declared.instr.Instr.{Instr}
 use Rattle.lx_image_texts.specs.ImageFaults.{different_from, same_argument, same_arguments, same_line, same_names, same_params, wrapper_fault}
 use Rattle.lx_image_check.specs.Compared.{line_fault, lines_fault}
-use Rattle.lx_image_check.proofs.Passes.{rest_at}
 
 -- arguments
 

@@ -2,7 +2,7 @@
 use Rattle.std.proofs.Common.{◌≡◌, ◌∙◌, ℕ, ◌+◌, ◌<◌, ◌≤◌, Bool, true, false, not, cond, List, [], ◌∷◌, ◌++◌, length, get_or, map, drop, refl, ap}
 use Rattle.std.specs.Prelude.{filter}
 use Rattle.std.proofs.lemmas.List.{drop_all}
-use Rattle.lx_words.proofs.Lists.{goes_on, ends}
+use Rattle.lx_words.proofs.Lists.{goes_on, ends, rest_at}
 use Rattle.lx_ir.specs.declared.module.Function.{Function}
 use Rattle.lx_ir.specs.declared.module.Module.{Module}
 use Rattle.lx_ir.specs.declared.instr.Instr.{Instr}
@@ -12,7 +12,6 @@ use Rattle.lx_image_texts.specs.WrapperText.{unlined}
 use Rattle.lx_image_texts.specs.Erased.{erased_op, is_of_program}
 use Rattle.lx_image_texts.specs.Programs.{program_function}
 use Rattle.lx_image_check.specs.Program.{lines_of, program_lines}
-use Rattle.lx_image_check.proofs.Passes.{rest_at}
 
 marked_if : (b : Bool) (x : Module) (o : Op) (os : List Op)
     → map unlined (map (erased_op x) (cond b (o ∷ without_marks os) (without_marks os))) ≡ map unlined (map (erased_op x) (cond b (o ∷ []) [])) ++ map unlined (map (erased_op x) (without_marks os))

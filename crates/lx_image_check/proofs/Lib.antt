@@ -1,4 +1,3 @@
-pub mod Passes
 pub mod Mentioned
 pub mod Copying
 pub mod Comparing

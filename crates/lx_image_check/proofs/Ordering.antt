@@ -3,12 +3,11 @@ use Rattle.std.proofs.Common.{◌≡◌, ◌∙◌, ℕ, ◌+◌, ◌<◌, ◌�
 use Rattle.std.specs.Prelude.{bytes_eq, filter, slice_get}
 use Rattle.std.specs.Option.{option_or}
 use Rattle.std.proofs.lemmas.List.{drop_all}
-use Rattle.lx_words.proofs.Lists.{goes_on, ends}
+use Rattle.lx_words.proofs.Lists.{goes_on, ends, rest_at}
 use Rattle.lx_ir.specs.Lookup.{is_defined}
 use Rattle.lx_ir.specs.declared.module.Function.{Function}
 use Rattle.lx_image_texts.specs.ImageFaults.{defined_names, misplaced, wrapper_fault}
 use Rattle.lx_image_check.specs.Expected.{fault_if_defined, is_body, name_if, place_fault}
-use Rattle.lx_image_check.proofs.Passes.{rest_at}
 
 named_if : (b : Bool) (f : Function) (fs : List Function) → map (λ g. g.name) (cond b (f ∷ filter is_body fs) (filter is_body fs)) ≡ name_if b f ++ defined_names fs
 named_if true f fs = refl

@@ -1,9 +1,12 @@
 -- The form of wrappers, line by line.
-use Rattle.std.proofs.Common.{◌≡◌, ◌∙◌, refl, sym, ap, ℕ, suc, ◌+◌, ◌<◌, ◌≤◌, Bool, true, false, not, cond, ◌&&◌, ◌||◌, Option, Some, None, List, [], ◌∷◌, drop, length, get_or, arith}
+use Rattle.std.proofs.Common.{◌≡◌, ◌∙◌, refl, sym, ap, ℕ, suc, ◌+◌, ◌<◌, ◌≤◌, Bool, true, false, not, ◌&&◌, ◌||◌, Option, Some, None, List, [], ◌∷◌, drop, length, get_or, arith}
 use Rattle.std.specs.Prelude.{option_and_then, option_map, find, position, slice_get}
 use Rattle.std.specs.List.{list_all, list_any}
 use Rattle.std.proofs.Math.Seq.{drop-cons}
 use Rattle.std.proofs.lemmas.List.{drop_all}
+use Rattle.lx_words.proofs.Tests.{no_other}
+use Rattle.lx_words.proofs.Options.{map_none}
+use Rattle.lx_words.proofs.Lists.{drop_next, there_is, found_is}
 use Rattle.lx_ir.specs.declared.module.Module.{Module}
 use Rattle.lx_ir.specs.declared.module.Symbol.{Symbol}
 use Rattle.lx_ir.specs.declared.instr.Argument.{Argument}
@@ -12,12 +15,9 @@ use Rattle.lx_ir.specs.declared.instr.Instr.{Instr}
 use Rattle.lx_ir.specs.declared.instr.Op.{Op}
 use Rattle.lx_ir.specs.declared.instr.Op.TheVariants as op
 use Rattle.lx_ir.specs.declared.types.Scalar.{Scalar}
-use Rattle.lx_code.proofs.Ways.{drop_next}
 use Rattle.lx_name_tables.proofs.Firsts.{found_at, is_within, not_there}
 use Rattle.lx_images.specs.WrapperForm.{calls_on, first_unformed, hands_on, has_formed_wrappers, have_formed_wrappers, is_before, is_behind, is_formed, is_function, is_register, is_wrapper, unformed_in}
 use Rattle.lx_image_code.specs.Form.{is_ret, ops_of}
-use Rattle.lx_model.proofs.Items.{there}
-use Rattle.lx_model.proofs.Tests.{is_both}
 
 never : (b : Bool) → false ≡ (b && false)
 never true = refl
@@ -132,14 +132,6 @@ wrapper_first xs x s j many h e is = sym (ap (is_wrapper j many) (ops_left xs 0 
 
 -- the first of images
 
-found_by : {A : Type 0} (t : A → Bool) (y x : A) (rest : Option A) (b : Bool) → t y ≡ b → (rest ≡ Some x → t x ≡ true) → cond b (Some y) rest ≡ Some x → t x ≡ true
-found_by t y x rest true is later found = let same : y ≡ x = cc in sym (ap t same) ∙ is
-found_by t y x rest false is later found = later found
-
-passes_by : {A : Type 0} (t : A → Bool) (xs : List A) (x : A) → find t xs ≡ Some x → t x ≡ true
-passes_by t [] x e = absurd (cc)
-passes_by t (y ∷ ys) x e = found_by t y x (find t ys) (t y) refl (passes_by t ys x) e
-
 none_failed : (b any all : Bool) → (any ≡ false → all ≡ true) → (not b || any) ≡ false → (b && all) ≡ true
 none_failed true any all rest e = rest e
 none_failed false any all rest e = absurd (cc)
@@ -151,21 +143,17 @@ fails_by t (y ∷ ys) e = none_failed (t y) (list_any (λ x. not (t x)) ys) (lis
 none_fails : {A : Type 0} (t : A → Bool) (xs : List A) → position (λ x. not (t x)) xs ≡ None → list_all t xs ≡ true
 none_fails t xs none = fails_by t xs (sym (not_there (λ x. not (t x)) xs none))
 
-no_map : {A B : Type 0} (f : A → B) (o : Option A) → option_map f o ≡ None → o ≡ None
-no_map f None e = refl
-no_map f (Some x) e = absurd (cc)
-
 abbrev first_from : List Module → Option ℕ → Option (ℕ × ℕ)
 first_from images found = option_and_then (λ m. option_map (λ f. (m, f)) (option_and_then unformed_in (slice_get images m))) found
 
 formed_from : (images : List Module) (found : Option ℕ) → position (λ x. not (has_formed_wrappers x)) images ≡ found → first_from images found ≡ None → have_formed_wrappers images ≡ true
 formed_from images None e none = none_fails has_formed_wrappers images e
 formed_from images (Some m) e none =
-    let here = there images m (is_within (λ x. not (has_formed_wrappers x)) images m (sym e)) in
+    let here = there_is images m (is_within (λ x. not (has_formed_wrappers x)) images m (sym e)) in
     let found : Some here.0 ≡ find (λ x. not (has_formed_wrappers x)) images = found_at (λ x. not (has_formed_wrappers x)) images m (Some here.0) e (sym here.1) in
     let unformed : unformed_in here.0 ≡ None =
-    ap (option_and_then unformed_in) (sym here.1) ∙ no_map (λ (f : ℕ). (m, f)) (option_and_then unformed_in (slice_get images m)) none in
-    is_both (has_formed_wrappers here.0) (none_fails (is_formed here.0) here.0.functions unformed) (passes_by (λ x. not (has_formed_wrappers x)) images here.0 (sym found))
+    ap (option_and_then unformed_in) (sym here.1) ∙ map_none (λ (f : ℕ). (m, f)) (option_and_then unformed_in (slice_get images m)) none in
+    no_other (has_formed_wrappers here.0) (none_fails (is_formed here.0) here.0.functions unformed) (found_is (λ x. not (has_formed_wrappers x)) images here.0 (sym found))
 
 -- where none is found, all images have the form
 pub all_formed : (images : List Module) → None ≡ first_unformed images → have_formed_wrappers images ≡ true

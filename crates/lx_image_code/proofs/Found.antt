@@ -6,6 +6,8 @@ use Rattle.std.specs.List.{list_all, position_or_len}
 use Rattle.std.proofs.lemmas.Bool.{and_parts}
 use Rattle.std.proofs.lemmas.Option.{slice_get-get_or, slice_get-map, slice_get_past}
 use Rattle.lx_words.specs.Word.{signed}
+use Rattle.lx_words.proofs.Tests.{false_true}
+use Rattle.lx_words.proofs.Lists.{none_past}
 use Rattle.lx_ir.specs.declared.instr.Argument.{Argument}
 use Rattle.lx_ir.specs.declared.instr.Edge.{Edge}
 use Rattle.lx_ir.specs.declared.types.NamedType.{NamedType}
@@ -33,12 +35,10 @@ use Rattle.lx_code.specs.Routes.{word_of, AreIndices, IsIndex, IsRoute}
 use Rattle.lx_code.specs.declared.routes.Room.{Room}
 use Rattle.lx_code.specs.declared.routes.Route.{Route}
 use Rattle.lx_image_code.specs.Jumps.{blocks_or_none, home_in_entry, image_blocks, numbers_at, op_at, text_of_entry, types_in, IsCaseAt, IsEdgeAt, IsPhiDecided, IsRoomAt, IsRouteAt, IsSwitchDecided}
-use Rattle.lx_model.proofs.Tests.{false_true}
-use Rattle.lx_model.proofs.Items.{none_past}
 
 -- the blocks that run
 
-blocks_of_routine : (f : Option Function) → (routine_or_none f).blocks ≡ map code_block_of (blocks_or_none f)
+pub blocks_of_routine : (f : Option Function) → (routine_or_none f).blocks ≡ map code_block_of (blocks_or_none f)
 blocks_of_routine None = refl
 blocks_of_routine (Some f) = refl
 

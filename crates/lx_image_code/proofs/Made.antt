@@ -2,6 +2,7 @@
 use Rattle.std.proofs.Common.{◌≡◌, ◌∙◌, refl, sym, ap, subst, ℕ, ◌<◌, ◌≤◌, Option, Some, None, List, [], ◌∷◌, ◌++◌, get_or, length, map, arith}
 use Rattle.std.specs.Prelude.{bytes_eq, find, option_map, position, slice_get}
 use Rattle.std.proofs.lemmas.Option.{slice_get_read, slice_get_past}
+use Rattle.lx_words.proofs.Lists.{none_found, none_past}
 use Rattle.lx_ir.specs.declared.instr.Op.{Op}
 use Rattle.lx_ir.specs.declared.module.Function.{Function}
 use Rattle.lx_annot.specs.declared.action.Annotation.{Annotation}
@@ -12,9 +13,8 @@ use Rattle.lx_model.specs.declared.program.Program.{Program}
 use Rattle.lx_images.specs.Wrappers.{lines_of}
 use Rattle.lx_image_code.specs.Wrappers.{AreKernelWrappers, kernel_wrapper, lines_in_kernel}
 use Rattle.lx_name_tables.specs.Places.{is_export}
-use Rattle.lx_name_tables.proofs.Firsts.{found_at, not_found}
+use Rattle.lx_name_tables.proofs.Firsts.{found_at}
 use Rattle.lx_image_code.proofs.Filled.{Each, each_more}
-use Rattle.lx_model.proofs.Items.{none_past}
 
 -- annotations by names
 
@@ -27,7 +27,7 @@ exported_at i n name k r same first is =
 pub not_exported : (i n : Interface) (name : List ℕ) → n ≡ i → None ≡ position (is_export name) n.exports → None ≡ option_map (λ e. e.annotation) (find (λ e. bytes_eq e.name name) i.exports)
 not_exported i n name same first =
     let here : position (is_export name) i.exports ≡ None = sym (first ∙ ap (λ (x : Interface). position (is_export name) x.exports) same) in
-    ap (option_map (λ (e : Export). e.annotation)) (not_found (is_export name) i.exports here)
+    ap (option_map (λ (e : Export). e.annotation)) (none_found (is_export name) i.exports here)
 
 -- the wrapper of the function at a place
 abbrev pub IsMade : Interface → List Function → ℕ → Function → Type 0

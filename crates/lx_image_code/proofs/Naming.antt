@@ -5,6 +5,7 @@ use Rattle.std.specs.List.{list_all}
 use Rattle.std.proofs.lemmas.Bool.{and_parts}
 use Rattle.std.proofs.lemmas.Option.{slice_get-get_or, slice_get_past}
 use Rattle.std.proofs.lemmas.Slice.Eq.{bytes_eq-Decides}
+use Rattle.lx_words.proofs.Lists.{none_found, there_is, none_past}
 use Rattle.lx_ir.specs.declared.module.Block.{Block}
 use Rattle.lx_ir.specs.declared.module.Function.{Function}
 use Rattle.lx_ir.specs.declared.module.Module.{Module}
@@ -18,8 +19,7 @@ use Rattle.lx_images.specs.WrapperForm.{first_named, has_formed_wrappers, is_for
 use Rattle.lx_image_code.specs.declared.wrappers.Wrapper.{Wrapper}
 use Rattle.lx_image_code.specs.Wrappers.{wrapper_lines, HasEntered}
 use Rattle.lx_name_tables.specs.Places.{defines}
-use Rattle.lx_name_tables.proofs.Firsts.{found_at, is_within, not_found}
-use Rattle.lx_model.proofs.Items.{there, none_past}
+use Rattle.lx_name_tables.proofs.Firsts.{found_at, is_within}
 
 -- a function with the name of a wrapper is defined, where it has the form of one
 
@@ -55,7 +55,7 @@ same_found x name (f ∷ fs) formed =
 found_lines : (x : Module) (name : List ℕ) (k : ℕ) → has_formed_wrappers x ≡ true → position (defines (wrapper_name In name)) x.functions ≡ Some k
     → lines_of (slice_get x.functions k) ≡ lines_or_plain (in_named name x.functions)
 found_lines x name k formed first =
-    let here = there x.functions k (is_within (defines (wrapper_name In name)) x.functions k (sym first)) in
+    let here = there_is x.functions k (is_within (defines (wrapper_name In name)) x.functions k (sym first)) in
     let found : Some here.0 ≡ in_named name x.functions =
     found_at (defines (wrapper_name In name)) x.functions k (Some here.0) first (sym here.1) ∙ sym (same_found x name x.functions formed) in
     ap lines_of here.1 ∙ ap lines_or_plain found
@@ -70,7 +70,7 @@ image_lines c m x name named k formed is first at =
 pub no_image_lines : (x : Module) (name named : List ℕ) → has_formed_wrappers x ≡ true → named ≡ wrapper_name In name → None ≡ position (defines named) x.functions
     → plain_lines ≡ lines_or_plain (in_named name x.functions)
 no_image_lines x name named formed is first =
-    ap lines_or_plain (not_found (defines (wrapper_name In name)) x.functions (sym (first ∙ ap (λ n. position (defines n) x.functions) is)) ∙ sym (same_found x name x.functions formed))
+    ap lines_or_plain (none_found (defines (wrapper_name In name)) x.functions (sym (first ∙ ap (λ n. position (defines n) x.functions) is)) ∙ sym (same_found x name x.functions formed))
 
 -- the wrapper of an entry is that of the function with its number
 pub entered_here : (c : Code) (xs : List ProgramFunction) (n : ℕ) (d : ProgramFunction) (w : Wrapper) → xs ≡ c.program.functions → n < length xs
@@ -79,7 +79,7 @@ entered_here c xs n d w is below lines =
     let at : slice_get c.program.functions n ≡ Some (get_or xs n d) = sym (ap (λ (l : List ProgramFunction). slice_get l n) is) ∙ slice_get-get_or xs n d below in
     lines ∙ sym (ap (λ (e : Option ProgramFunction). in_lines_of c e (function_of_entry c.program e)) at)
 
--- beyond the functions of the program there is a wrapper without actions
+-- beyond the functions of the program there_is is a wrapper without actions
 pub not_entered : (c : Code) (entered : List Wrapper) (n : ℕ) → HasEntered c entered → None ≡ slice_get entered n → plain_lines ≡ in_lines c n
 not_entered c entered n has none =
     let far = none_past entered n (sym none) in

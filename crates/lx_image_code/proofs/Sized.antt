@@ -1,6 +1,7 @@
 -- The types of code within reach are within the limits, whatever function runs.
 use Rattle.std.proofs.Common.{◌≡◌, refl, ℕ, true, Option, Some, None, List}
 use Rattle.std.specs.Prelude.{slice_get, option_and_then}
+use Rattle.lx_words.proofs.Lists.{all_at}
 use Rattle.lx_ir.specs.declared.module.Function.{Function}
 use Rattle.lx_ir.specs.declared.module.Module.{Module}
 use Rattle.lx_model.specs.declared.program.Program.{Program}
@@ -8,7 +9,6 @@ use Rattle.lx_model.specs.declared.program.ProgramFunction.{ProgramFunction}
 use Rattle.lx_model.specs.declared.program.ProgramFunction.TheVariants.{Native, Of}
 use Rattle.lx_model.specs.Program.{module_of}
 use Rattle.lx_images.specs.Image.{Code, image_of_entry}
-use Rattle.lx_code.proofs.Sized.{all_at}
 use Rattle.lx_code.specs.Reach.{IsWithinReach, are_sized, is_sized_function}
 use Rattle.lx_image_code.specs.Jumps.{blocks_or_none, text_of_entry}
 use Rattle.lx_image_code.specs.Reach.{AreSized, AreWithinReach}

@@ -2,9 +2,10 @@
 use Rattle.std.proofs.Common.{◌≡◌, ℕ, ◌+◌, ◌<◌, ◌≤◌, Option, Some, None, List, ◌∷◌, length, get_or, drop, ap, sym, subst, ◌∙◌}
 use Rattle.std.specs.Prelude.{option_map}
 use Rattle.std.specs.Option.{option_or}
-use Rattle.std.proofs.lemmas.List.{drop_more, drop_all}
+use Rattle.std.proofs.lemmas.List.{drop_all}
 use Rattle.lx_words.proofs.Options.{or_some}
 use Rattle.lx_words.proofs.Tests.{one_first}
+use Rattle.lx_words.proofs.Lists.{rest_at}
 use Rattle.lx_ir.specs.declared.module.Block.{Block}
 use Rattle.lx_ir.specs.declared.module.Function.{Function}
 use Rattle.lx_ir.specs.declared.module.Module.{Module}
@@ -15,10 +16,6 @@ use Rattle.lx_image_texts.specs.ImageFaults.{ImageFault, fault_at, fault_in_bloc
 use Rattle.lx_image_marks.specs.declared.fault.Refusal.{Refusal}
 use Rattle.lx_image_marks.specs.declared.fault.Refusal.TheVariants as refusal
 use Rattle.lx_image_marks.specs.Told.{IsAnswer, IsAnswerOr}
-
--- what is left of a list begins with the element at the place
-pub rest_at : {X : Type 0} (xs : List X) (i : ℕ) (x : X) → i < length xs → x ≡ get_or xs i x → drop i xs ≡ x ∷ drop (i + 1) xs
-rest_at xs i x h e = drop_more xs i x h ∙ ap (λ y. y ∷ drop (i + 1) xs) (sym e)
 
 pub first_step : {A B : Type 0} (f : A → Option B) (xs : List A) (i : ℕ) (x : A) → i < length xs → x ≡ get_or xs i x → first_some f (drop i xs) ≡ option_or (f x) (first_some f (drop (i + 1) xs))
 first_step f xs i x h e = ap (first_some f) (rest_at xs i x h e)

@@ -53,7 +53,7 @@ program x = filter is_of_program x.functions
 abbrev pub wrappers : Module → List Function
 wrappers x = filter is_own x.functions
 
-some_kept : {A B : Type 0} (f : A → B) (o : Option A) → is_some (option_map f o) ≡ is_some o
+pub some_kept : {A B : Type 0} (f : A → B) (o : Option A) → is_some (option_map f o) ≡ is_some o
 some_kept f None = refl
 some_kept f (Some a) = refl
 

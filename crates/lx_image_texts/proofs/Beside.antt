@@ -17,7 +17,8 @@ use Rattle.lx_ir.specs.declared.instr.Op.{Op}
 use Rattle.lx_ir.specs.declared.instr.Op.TheVariants as op
 use Rattle.lx_ir.specs.Lookup.{blocks_of, blocks_of_option, instrs_of}
 use Rattle.lx_ir.specs.Operands.{operands_of, callee_operands, is_image_line, is_terminator, is_phi, given_by, result_of, labels_of, targets_of}
-use Rattle.lx_image_texts.specs.Marks.{callee_for, callee_if, is_wrapped, image_callee, image_op, mark_of, is_mark, size_value, is_narrow}
+use Rattle.lx_image_texts.specs.Marks.{image_callee, image_op, mark_of, is_mark, size_value, is_narrow}
+use Rattle.lx_image_texts.proofs.SparedAlike.{callee_reads as for_none}
 
 -- an instruction of a module, and what it is in the image
 pub record Alike (m : Module) (o p : Op) : Type 0 where
@@ -84,14 +85,6 @@ plain_same h m o p k = refl
 
 pub same : {B : Type 0} (h : Op → B) (m : Module) (o p : Op) → Alike m o p → ((to : Option ℕ) (ret : Option Scalar) (c : Callee) (args : List Argument) → h (op.Call to ret c args) ≡ h (op.Call to ret (image_callee m c) args)) → h o ≡ h p
 same h m o p a k = plain_same h m o a.plain k ∙ ap h a.is
-
-for_none : (m : Module) (k : ℕ) (g : Option Function) → callee_operands (callee_for m k g) ≡ []
-for_none m k None = refl
-for_none m k (Some g) = if_none (is_wrapped g)
-  where
-    if_none : (b : Bool) → callee_operands (callee_if b m k) ≡ []
-    if_none true = refl
-    if_none false = refl
 
 callee_reads : (m : Module) (c : Callee) → callee_operands c ≡ callee_operands (image_callee m c)
 callee_reads m (callee.Register r) = refl

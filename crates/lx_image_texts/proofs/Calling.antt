@@ -1,6 +1,6 @@
 -- The call of a wrapper calls back what it wraps.
 use Rattle.std.proofs.Common.{◌≡◌, ℕ, zero, suc, ◌+◌, ◌<◌, Bool, true, false, not, ◌&&◌, ◌||◌, List, [], ◌∷◌, ◌++◌, length, map, take, drop, Option, Some, None, refl, sym, subst, ◌∙◌, ap, arith}
-use Rattle.std.specs.Prelude.{slice_get, option_map, filter, cond, unwrap_or, bytes_eq, codes, position, is_some}
+use Rattle.std.specs.Prelude.{slice_get, option_map, filter, cond, unwrap_or, bytes_eq, codes, position}
 use Rattle.std.specs.List.{list_all, list_any, position_or_len}
 use Rattle.std.proofs.lemmas.Option.{slice_get-map, slice_get_within}
 use Rattle.std.proofs.lemmas.Bool.{not-true, and_right, and_from}
@@ -8,7 +8,6 @@ use Rattle.lx_words.proofs.Lists.{bytes_itself, got_take, got_past, got_first, s
 use Rattle.lx_words.proofs.Options.{some_same, none_some}
 use Rattle.lx_words.proofs.Tests.{false_true, first_of, second_of}
 use Rattle.lx_ir.specs.declared.module.Symbol.TheVariants as symbol
-use Rattle.lx_ir.specs.declared.module.Block.{Block}
 use Rattle.lx_ir.specs.declared.module.GlobalVar.{GlobalVar}
 use Rattle.lx_ir.specs.declared.module.Function.{Function}
 use Rattle.lx_ir.specs.declared.module.Module.{Module}
@@ -17,13 +16,14 @@ use Rattle.lx_ir.specs.Lookup.{is_defined}
 use Rattle.lx_ir.specs.Lawful.{IsLawful, is_own_name, is_distinct}
 use Rattle.lx_annot.specs.declared.interface.Interface.{Interface}
 use Rattle.lx_image_texts.specs.Marks.{is_alias, is_wrapped, one_if, wrapped_before, wrapper_number, callee_if, callee_for}
-use Rattle.lx_image_texts.specs.Guards.{HasMarks, IsGuarded, AreGuarded, function_text, Guards}
+use Rattle.lx_image_texts.specs.Guards.{IsGuarded, AreGuarded, function_text, Guards}
 use Rattle.lx_image_texts.specs.WrapperText.{out_if, out_wrappers, in_wrappers}
 use Rattle.lx_image_texts.specs.ImageFaults.{has_out_wrapper, has_wrapper_named}
 use Rattle.lx_image_texts.specs.Erased.{wrapped_number, erased_number, erased_callee, erased_text, erased_functions}
 use Rattle.lx_image_texts.specs.Programs.{IsClosed}
 use Rattle.lx_image_texts.proofs.Closed.{lawful_closed}
 use Rattle.lx_image_texts.proofs.Erasing.{names_of, out_prefix, is_program_name, names_append, guarded_names, drop_names, plain_functions, kept_functions, CallsBack, functions_back}
+use Rattle.lx_image_texts.proofs.SlotTypes.{defined_by}
 
 -- the names of the image
 
@@ -46,7 +46,7 @@ wrapped_cases : (y : Function) (ys : List Function) (k : ℕ) (x : Function) (b 
 wrapped_cases y ys k x true h = h
 wrapped_cases y ys k x false h = h
 
-first_wrapped : (y : Function) (ys : List Function) (x : Function) (b : Bool) → y ≡ x → b ≡ true → slice_get (cond b (y ∷ filter is_wrapped ys) (filter is_wrapped ys)) 0 ≡ Some x
+pub first_wrapped : (y : Function) (ys : List Function) (x : Function) (b : Bool) → y ≡ x → b ≡ true → slice_get (cond b (y ∷ filter is_wrapped ys) (filter is_wrapped ys)) 0 ≡ Some x
 first_wrapped y ys x true same t = ap (λ (z : Function). Some z) same
 first_wrapped y ys x false same t = false_true t
 
@@ -139,12 +139,6 @@ guarded_at m (x ∷ fs) [] k f h e = absurd h
 guarded_at m (x ∷ fs) (g ∷ gs) zero f h e = (g, refl, subst (λ (y : Function). IsGuarded m y g) (some_same e) h.0)
 guarded_at m (x ∷ fs) (g ∷ gs) (suc k) f h e = guarded_at m fs gs k f h.1 e
 
-pub same_defined : (m : Module) (f : Function) (bs cs : Option (List Block)) → HasMarks m f bs cs → is_some cs ≡ is_some bs
-same_defined m f None None h = refl
-same_defined m f (Some bs) (Some cs) h = refl
-same_defined m f None (Some cs) h = absurd h
-same_defined m f (Some bs) None h = absurd h
-
 pub all_at : (p : List ℕ → Bool) (ns : List (List ℕ)) (k : ℕ) (n : List ℕ) → list_all p ns ≡ true → slice_get ns k ≡ Some n → p n ≡ true
 all_at p [] k n a e = none_some e
 all_at p (x ∷ ns) zero n a e = ap p (sym (some_same e)) ∙ first_of (p x) (list_all p ns) a
@@ -161,7 +155,7 @@ import_found i m x law g k f l e t =
     let one = guarded_at m m.functions (take (length m.functions) x.functions) k f g.functions e in
     let got : slice_get x.functions k ≡ Some one.0 = sym (got_take x.functions (length m.functions) k l) ∙ one.1 in
     let name : one.0.name ≡ f.name = one.2.name in
-    let defined : is_defined one.0 ≡ is_defined f = same_defined m f f.blocks one.0.blocks one.2.body in
+    let defined : is_defined one.0 ≡ is_defined f = defined_by m f f.blocks one.0.blocks one.2.body in
     let has : has_out_wrapper one.0 ≡ true
     = and_from (not (is_defined one.0) && not (is_alias one.0)) (not (is_own_name one.0.name))
     ((λ j. not (defined j) && not (bytes_eq (name j) (codes "lxfi_princ_alias"))) ∙ t) (ap (λ (n : List ℕ). not (is_own_name n)) name ∙ ap not (program_name m i x g k f e)) in

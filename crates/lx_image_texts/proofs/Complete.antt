@@ -41,7 +41,7 @@ use Rattle.lx_image_texts.proofs.Erasing.{names_of, is_program_name, out_prefix,
 use Rattle.lx_image_texts.proofs.MarkedCode.{head_of, first_mark_kind, StandsBefore, WithMarks, are_plain, marked_none}
 use Rattle.lx_image_texts.proofs.Verified.{is_global, calls_no_global, CallsNoGlobal}
 use Rattle.lx_image_texts.proofs.Calling.{guarded_at, name_got, all_at, wrapper_at}
-use Rattle.lx_image_texts.proofs.SparedAlike.{spared_alike}
+use Rattle.lx_image_texts.proofs.SparedAlike.{spared_alike, callees_alike}
 use Rattle.lx_image_texts.proofs.SlotTypes.{half_of, still_agrees, defined_same}
 use Rattle.lx_image_texts.proofs.Ordering.{none_or}
 use Rattle.lx_image_texts.proofs.Distinct.{Each}
@@ -83,7 +83,7 @@ global_name [] k p = refl
 global_name (g ∷ gs) zero p = not-true (is_own_name g) (first_of (is_program_name g) (list_all is_program_name gs) p)
 global_name (g ∷ gs) (suc k) p = global_name gs k (second_of (is_program_name g) (list_all is_program_name gs) p)
 
-names_same : (a b : List GlobalVar) → map unlined_global a ≡ map unlined_global b → map (λ (g : GlobalVar). g.name) a ≡ map (λ (g : GlobalVar). g.name) b
+pub names_same : (a b : List GlobalVar) → map unlined_global a ≡ map unlined_global b → map (λ (g : GlobalVar). g.name) a ≡ map (λ (g : GlobalVar). g.name) b
 names_same [] [] e = refl
 names_same (g ∷ a) (h ∷ b) e = λ j. ap (λ (v : GlobalVar). v.name) (heads e) j ∷ names_same a b (tails e) j
 names_same [] (h ∷ b) e = cc
@@ -178,17 +178,8 @@ callee_if_reads : (b : Bool) (m : Module) (k : ℕ) → callee_operands (callee_
 callee_if_reads true m k = refl
 callee_if_reads false m k = refl
 
-callee_for_reads : (m : Module) (k : ℕ) (o : Option Function) → callee_operands (callee_for m k o) ≡ []
-callee_for_reads m k None = refl
-callee_for_reads m k (Some g) = callee_if_reads (is_wrapped g) m k
-
-callee_reads : (m : Module) (y : Callee) → callee_operands (image_callee m y) ≡ callee_operands y
-callee_reads m (callee.Register r) = refl
-callee_reads m (callee.Symbol (symbol.Global g)) = refl
-callee_reads m (callee.Symbol (symbol.Function k)) = callee_for_reads m k (slice_get m.functions k)
-
 operands_image : (m : Module) (o : Op) → not (is_image_line o) ≡ true → operands_of (image_op m o) ≡ operands_of o
-operands_image m (op.Call to ret y args) p = ap (λ (xs : List Argument). xs ++ args) (callee_reads m y)
+operands_image m (op.Call to ret y args) p = ap (λ (xs : List Argument). xs ++ args) (callees_alike m y)
 operands_image m (op.Guard at size narrow) p = false_true p
 operands_image m (op.Check target) p = false_true p
 operands_image m o p = refl

@@ -193,7 +193,7 @@ pub record Parts (m : Module) (f : Function) : Type 0 where
   pub phis : block_phi_faults f (blocks_of f) ≡ None
   pub reads : FirstUnassigned f (reads_of f) None
 
-earlier_none : (f : Function) (o : Option Fault) → FirstOrUnassigned o f None → (o ≡ None) × FirstUnassigned f (reads_of f) None
+pub earlier_none : (f : Function) (o : Option Fault) → FirstOrUnassigned o f None → (o ≡ None) × FirstUnassigned f (reads_of f) None
 earlier_none f None h = (refl, h)
 earlier_none f (Some x) h = none_some h
 

@@ -31,6 +31,7 @@ use Rattle.lx_image_texts.proofs.Faultless.{NoFault, none_unless, none_each, Par
 use Rattle.lx_image_texts.proofs.Unassigned.{each_map, drop_next, plain_reads, Assigned, none_unassigned}
 use Rattle.lx_image_texts.proofs.WrapperCode.{ops, made, call_of, return_of, Lines, code_each, ops_each, front_of, front_each, in_two, ends_with, filter_code, filter_ops, any_ops, any_call}
 use Rattle.lx_image_texts.proofs.WrapperValues.{many_params, types_of_params, args_fit_params, Below, args_below, args_typed}
+use Rattle.lx_image_texts.proofs.Comparing.{result_itself}
 
 -- the types of its registers: its parameters', and its result's
 
@@ -41,10 +42,6 @@ results (Some ty) = ty ∷ []
 result_kept : (k : ℕ) (ret : Option Scalar) → cons_option (kept_result (result_register k ret) ret) [] ≡ results ret
 result_kept k None = refl
 result_kept k (Some ty) = refl
-
-same_result_itself : (ret : Option Scalar) → same_result ret ret ≡ true
-same_result_itself None = refl
-same_result_itself (Some ty) = scalar_itself ty
 
 module _ (x : Module) (f : Function) (n : ℕ) (a : Annotation) (side : Side) (js : List Instr) (line : ℕ) (code : ops js ≡ wrapper_code f n a) where
   abbrev it : Function
@@ -97,7 +94,7 @@ module _ (x : Module) (f : Function) (n : ℕ) (a : Annotation) (side : Side) (j
     call_typed =
         and_from (list_all (λ (y : Argument). value_fits (register_types it) y.ty y.value) (wrapper_args 0 f.params)) (calls_well x f.ret (wrapper_args 0 f.params) (callee.Symbol (symbol.Function n)))
         (args_typed (register_types it) (results f.ret) 0 f.params types)
-        (called (wrapper_args 0 f.params) ∙ and_from (same_result f.ret f.ret) (are_arguments (wrapper_args 0 f.params) f.params) (same_result_itself f.ret) (args_fit_params 0 f.params))
+        (called (wrapper_args 0 f.params) ∙ and_from (same_result f.ret f.ret) (are_arguments (wrapper_args 0 f.params) f.params) (result_itself f.ret) (args_fit_params 0 f.params))
 
     typed : first_some (type_fault x it (register_types it)) (instrs_of it) ≡ None
     typed =

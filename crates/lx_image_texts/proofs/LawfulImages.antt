@@ -39,12 +39,13 @@ use Rattle.lx_image_texts.proofs.Sound.{named}
 use Rattle.lx_image_texts.proofs.Beside.{Alike, IsMarkOf, Beside, ends, bare, marked, BesideBlock, BesideBlocks, no_blocks, blocks, BesideFunction, blocks_beside, same_operands, same_labels, mark_facts}
 use Rattle.lx_image_texts.proofs.Along.{once_same}
 use Rattle.lx_image_texts.proofs.Flow.{count_same}
-use Rattle.lx_image_texts.proofs.LawfulPrograms.{global_names_same, many_globals_same, defined_same, head_of, head_same, import_same}
+use Rattle.lx_image_texts.proofs.LawfulPrograms.{many_globals_same, defined_same, head_of, head_same, import_same}
 use Rattle.lx_image_texts.proofs.MarkOperands.{mark_operands, mark_passes}
 use Rattle.lx_image_texts.proofs.Numbers.{numbers_image}
 use Rattle.lx_image_texts.proofs.Paired.{there, image_functions, as_many}
 use Rattle.lx_image_texts.proofs.Programs.{taken_many}
 use Rattle.lx_image_texts.proofs.Signatures.{out_there}
+use Rattle.lx_image_texts.proofs.Complete.{names_same}
 
 module _ (i : Interface) (m x : Module) (g : Guards i m x) where
   pub many : length m.functions ≤ length x.functions
@@ -157,7 +158,7 @@ module _ (i : Interface) (m x : Module) (g : Guards i m x) where
   callee_more : (c : Callee) → is_lawful_callee m c ≡ true → is_lawful_callee x (image_callee m c) ≡ true
   callee_more (callee.Register r) l = refl
   callee_more (callee.Symbol (symbol.Global k)) l =
-      let names : map (λ (v : GlobalVar). v.name) x.globals ≡ map (λ (v : GlobalVar). v.name) m.globals = global_names_same x.globals m.globals g.globals in
+      let names : map (λ (v : GlobalVar). v.name) x.globals ≡ map (λ (v : GlobalVar). v.name) m.globals = names_same x.globals m.globals g.globals in
       callee_by x (symbol.Global k) (symbol_more (symbol.Global k) (callee_symbol m (symbol.Global k) l)) (ap (λ ns. named_well (name_at ns k)) names ∙ callee_named m (symbol.Global k) l)
   callee_more (callee.Symbol (symbol.Function k)) l =
       let f = there_is m.functions k (true_less k (length m.functions) (callee_symbol m (symbol.Function k) l)) in

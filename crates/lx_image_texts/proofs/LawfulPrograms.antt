@@ -43,6 +43,7 @@ use Rattle.lx_image_texts.proofs.Along.{once_same}
 use Rattle.lx_image_texts.proofs.Flow.{count_same, names_same, blocks_same}
 use Rattle.lx_image_texts.proofs.Numbers.{numbers_program}
 use Rattle.lx_image_texts.proofs.Paired.{there}
+use Rattle.lx_image_texts.proofs.Complete.{names_same as global_names_same}
 
 -- constants and values
 
@@ -117,12 +118,6 @@ globals_left m x (v ∷ vs) (u ∷ ws) types e w l =
     and_from (is_lawful_global m u) (list_all (is_lawful_global m) ws)
     (global_left m x v u types (heads e) (first_of (init_within m u.init) (list_all (λ (g : GlobalVar). init_within m g.init) ws) w) (first_of (is_lawful_global x v) (list_all (is_lawful_global x) vs) l))
     (globals_left m x vs ws types (tails e) (second_of (init_within m u.init) (list_all (λ (g : GlobalVar). init_within m g.init) ws) w) (second_of (is_lawful_global x v) (list_all (is_lawful_global x) vs) l))
-
-pub global_names_same : (vs ws : List GlobalVar) → map unlined_global vs ≡ map unlined_global ws → map (λ (g : GlobalVar). g.name) vs ≡ map (λ (g : GlobalVar). g.name) ws
-global_names_same [] [] e = refl
-global_names_same [] (w ∷ ws) e = no_list e
-global_names_same (v ∷ vs) [] e = no_list (sym e)
-global_names_same (v ∷ vs) (w ∷ ws) e = λ t. ap (λ (y : GlobalVar). y.name) (heads e) t ∷ global_names_same vs ws (tails e) t
 
 pub many_globals_same : (vs ws : List GlobalVar) → map unlined_global vs ≡ map unlined_global ws → length vs ≡ length ws
 many_globals_same [] [] e = refl

@@ -20,6 +20,7 @@ use Rattle.lx_ir.proofs.Equality.{value_is, value_itself}
 use Rattle.lx_image_texts.specs.Marks.{mark_of, size_value, is_narrow, without_marks}
 use Rattle.lx_image_texts.specs.Spared.{is_spared}
 use Rattle.lx_image_texts.specs.ImageFaults.{Kind, BareStore, GuardDiffers, BareIndirect, StrayGuard, kind_if, is_stray, same_narrow, same_mark, is_mark_of, differs, is_guarding, is_bare_store, is_checking, is_bare_call, mark_kind}
+use Rattle.lx_image_texts.proofs.Watching.{kind_none as where_none}
 
 -- marks, and what wants one
 
@@ -50,10 +51,6 @@ are_plain os = list_all (λ o. not (is_image_line o)) os
 or_none : (a b : Option Kind) → option_or a b ≡ None → (a ≡ None) × (b ≡ None)
 or_none None b e = (refl, e)
 or_none (Some k) b e = some_none e
-
-where_none : (b : Bool) (k : Kind) → kind_if b k ≡ None → b ≡ false
-where_none true k e = some_none e
-where_none false k e = refl
 
 kind_none : (b : Bool) (k : Kind) → b ≡ false → kind_if b k ≡ None
 kind_none true k e = true_false e
@@ -90,13 +87,13 @@ unfaulted m f before o next c =
 
 -- marks
 
-narrow_is : (a b : Bool) → same_narrow a b ≡ true → a ≡ b
+pub narrow_is : (a b : Bool) → same_narrow a b ≡ true → a ≡ b
 narrow_is true true e = refl
 narrow_is true false e = false_true e
 narrow_is false true e = false_true e
 narrow_is false false e = refl
 
-narrow_itself : (a : Bool) → same_narrow a a ≡ true
+pub narrow_itself : (a : Bool) → same_narrow a a ≡ true
 narrow_itself true = refl
 narrow_itself false = refl
 

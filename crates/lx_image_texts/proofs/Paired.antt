@@ -31,7 +31,7 @@ some_mark (op.Call to ret (callee.Register r) args) = inr (_, refl)
 some_mark (op.Call to ret (callee.Symbol s) args) = inl refl
 some_mark o = inl refl
 
-abbrev op_of : Instr → Op
+abbrev pub op_of : Instr → Op
 op_of i = i.op
 
 abbrev ops : List Instr → List Op

@@ -27,9 +27,10 @@ use Rattle.lx_image_texts.proofs.Erasing.{names_of, out_prefix, all_first, all_s
 use Rattle.lx_image_texts.proofs.Calling.{image_names, distinct_first}
 use Rattle.lx_image_texts.proofs.Exact.{is_exact}
 use Rattle.lx_image_texts.proofs.Faultless.{parts, whole, parts_program, globals_fit}
-use Rattle.lx_image_texts.proofs.LawfulPrograms.{globals_left, global_names_same, many_globals_same, defined_same, lawful_left}
+use Rattle.lx_image_texts.proofs.LawfulPrograms.{globals_left, many_globals_same, defined_same, lawful_left}
 use Rattle.lx_image_texts.proofs.Paired.{BesideFunctions, no_functions, functions, image_functions, as_many, each_of_program}
 use Rattle.lx_image_texts.proofs.Typed.{types_program}
+use Rattle.lx_image_texts.proofs.Complete.{names_same}
 
 -- lists of tests, and facts of each
 
@@ -117,7 +118,7 @@ taken_many zero xs = omega arith
 taken_many (suc n) [] = omega arith
 taken_many (suc n) (x ∷ xs) = let h : length (take n xs) ≤ length xs = taken_many n xs in omega (arith, h)
 
-append_assoc : (xs ys zs : List (List ℕ)) → xs ++ (ys ++ zs) ≡ (xs ++ ys) ++ zs
+pub append_assoc : (xs ys zs : List (List ℕ)) → xs ++ (ys ++ zs) ≡ (xs ++ ys) ++ zs
 append_assoc [] ys zs = refl
 append_assoc (x ∷ xs) ys zs = ap (λ ns. x ∷ ns) (append_assoc xs ys zs)
 
@@ -134,7 +135,7 @@ module _ (i : Interface) (m x : Module) (g : Guards i m x) (closed : IsClosed m)
 
   names : symbol_names x ≡ (map (λ (w : GlobalVar). w.name) m.globals ++ names_of m.functions) ++ (map (λ (f : Function). out_prefix ++ f.name) (filter is_wrapped m.functions) ++ names_of (in_wrappers i m))
   names =
-      (λ t. global_names_same x.globals m.globals g.globals t ++ image_names i m x g t)
+      (λ t. names_same x.globals m.globals g.globals t ++ image_names i m x g t)
       ∙ append_assoc (map (λ (w : GlobalVar). w.name) m.globals) (names_of m.functions) (map (λ (f : Function). out_prefix ++ f.name) (filter is_wrapped m.functions) ++ names_of (in_wrappers i m))
 
   few : length m.functions < 4294967295

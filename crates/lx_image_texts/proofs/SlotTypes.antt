@@ -233,7 +233,7 @@ slot_same i m x k f = λ j. find (λ s. gets_same i m x k f s j) (below (length 
 other_same : (i : Interface) (m x : Module) → Half m x → (f s : ℕ) → other_slot i (without_wrappers x) f s ≡ other_slot i m f s
 other_same i m x k f s = λ j. find (λ t. gets_same i m x k f t j && differ i s t) (below (length i.slots))
 
-defined_by : (m : Module) (f : Function) (bs cs : Option (List Block)) → HasMarks m f bs cs → is_some cs ≡ is_some bs
+pub defined_by : (m : Module) (f : Function) (bs cs : Option (List Block)) → HasMarks m f bs cs → is_some cs ≡ is_some bs
 defined_by m f None None h = refl
 defined_by m f (Some bs) (Some cs) h = refl
 defined_by m f None (Some cs) h = absurd h

@@ -1,6 +1,6 @@
 -- A text without a fault is the image of the program that erasing gives.
 use Rattle.std.proofs.Common.{◌≡◌, ℕ, zero, suc, ◌+◌, Bool, true, false, not, ◌||◌, List, [], ◌∷◌, ◌++◌, length, map, take, drop, Option, Some, None, refl, sym, subst, ◌∙◌, ap, arith}
-use Rattle.std.specs.Prelude.{bytes_eq, cond, filter, codes, slice_get, slice_index_or, option_map, flat_map, nat_lt}
+use Rattle.std.specs.Prelude.{cond, filter, codes, slice_get, slice_index_or, option_map, flat_map, nat_lt}
 use Rattle.std.specs.List.{list_all, list_any}
 use Rattle.std.specs.Option.{option_or}
 use Rattle.std.proofs.lemmas.Option.{slice_get_within}
@@ -237,7 +237,7 @@ within_holds i x t o l =
 
 -- globals
 
-not_both : (b : Bool) (f : ImageFault) → cond b (Some f) None ≡ None → b ≡ false
+pub not_both : (b : Bool) (f : ImageFault) → cond b (Some f) None ≡ None → b ≡ false
 not_both true f e = some_none e
 not_both false f e = refl
 
@@ -275,10 +275,6 @@ global_names x (g ∷ gs) e =
 names_kept : (x : Module) (fs : List Function) → names_of (map (program_function x) fs) ≡ names_of fs
 names_kept x [] = refl
 names_kept x (f ∷ fs) = ap (λ (ns : List (List ℕ)). f.name ∷ ns) (names_kept x fs)
-
-distinct_second : (xs ys : List (List ℕ)) → is_distinct (xs ++ ys) ≡ true → is_distinct ys ≡ true
-distinct_second [] ys d = d
-distinct_second (x ∷ xs) ys d = distinct_second xs ys (second_of (not (list_any (bytes_eq x) (xs ++ ys))) (is_distinct (xs ++ ys)) d)
 
 take_front : {A B : Type 0} (xs : List A) (zs : List B) (ys : List A) → length zs ≡ length xs → take (length zs) (xs ++ ys) ≡ xs
 take_front [] [] ys e = refl

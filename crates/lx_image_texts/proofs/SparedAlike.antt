@@ -113,11 +113,11 @@ called_by_name : (m : Module) (b : Bool) (k : ℕ) → callee_operands (callee_i
 called_by_name m true k = refl
 called_by_name m false k = refl
 
-callee_reads : (m : Module) (k : ℕ) (g : Option Function) → callee_operands (callee_for m k g) ≡ []
+pub callee_reads : (m : Module) (k : ℕ) (g : Option Function) → callee_operands (callee_for m k g) ≡ []
 callee_reads m k None = refl
 callee_reads m k (Some g) = called_by_name m (is_wrapped g) k
 
-callees_alike : (m : Module) (y : Callee) → callee_operands (image_callee m y) ≡ callee_operands y
+pub callees_alike : (m : Module) (y : Callee) → callee_operands (image_callee m y) ≡ callee_operands y
 callees_alike m (callee.Register r) = refl
 callees_alike m (callee.Symbol (symbol.Global g)) = refl
 callees_alike m (callee.Symbol (symbol.Function k)) = callee_reads m k (slice_get m.functions k)

@@ -18,7 +18,8 @@ use Rattle.lx_ir.specs.declared.instr.Op.{Op}
 use Rattle.lx_ir.specs.declared.instr.Op.TheVariants as op
 use Rattle.lx_ir.specs.Lookup.{blocks_of, instrs_of, all_instrs}
 use Rattle.lx_ir.specs.Operands.{operands_of, register_types}
-use Rattle.lx_ir.specs.Faults.{Fault, fault_unless, first_some, global_fault, end_fault, label_fault, value_fits, calls_well, form_fits, is_typed, type_fault, earlier_fault, block_phi_faults, FirstOrUnassigned, FirstOfFunctions, FirstBehind, FirstFault}
+use Rattle.lx_ir.specs.Faults.{Fault, first_some, global_fault, end_fault, label_fault, value_fits, calls_well, form_fits, is_typed, type_fault, earlier_fault, block_phi_faults, FirstOrUnassigned, FirstOfFunctions, FirstBehind, FirstFault}
+use Rattle.lx_image_texts.proofs.Faultless.{unless_none}
 
 abbrev pub is_global : Callee → Bool
 is_global (callee.Symbol (symbol.Global g)) = true
@@ -31,10 +32,6 @@ calls_no_global o = true
 -- no call names a global: of a verified module this is so
 abbrev pub CallsNoGlobal : Module → Type 0
 CallsNoGlobal x = list_all (λ i. calls_no_global i.op) (all_instrs x) ≡ true
-
-unless_none : (b : Bool) (x : Fault) → fault_unless b x ≡ None → b ≡ true
-unless_none true x e = refl
-unless_none false x e = some_none e
 
 callee_named : (m : Module) (ret : Option Scalar) (args : List Argument) (y : Callee) → calls_well m ret args y ≡ true → not (is_global y) ≡ true
 callee_named m ret args (callee.Register r) e = refl

@@ -19,7 +19,7 @@ use Rattle.lx_image_texts.specs.Watched.{op_before, IsWatched, AllWatched, IsSam
 
 -- Bare instructions.
 
-kind_none : (b : Bool) (k : Kind) → kind_if b k ≡ None → b ≡ false
+pub kind_none : (b : Bool) (k : Kind) → kind_if b k ≡ None → b ≡ false
 kind_none true k e = cc e
 kind_none false k e = refl
 

@@ -28,12 +28,13 @@ use Rattle.lx_image_texts.specs.ProgramLaws.{IsWell, HasRoom}
 use Rattle.lx_image_texts.proofs.Faultless.{globals_fit}
 use Rattle.lx_image_texts.proofs.FunctionsOfImages.{functions_well}
 use Rattle.lx_image_texts.proofs.LawfulImages.{globals_more}
-use Rattle.lx_image_texts.proofs.LawfulPrograms.{global_names_same, many_globals_same, defined_same}
+use Rattle.lx_image_texts.proofs.LawfulPrograms.{many_globals_same, defined_same}
 use Rattle.lx_image_texts.proofs.Paired.{BesideFunctions, no_functions, functions, image_functions, as_many}
-use Rattle.lx_image_texts.proofs.Programs.{all_of_each, Faultless, faultless_each, behind_globals, before_functions, either}
+use Rattle.lx_image_texts.proofs.Programs.{all_of_each, Faultless, faultless_each, behind_globals, before_functions, either, append_assoc}
 use Rattle.lx_image_texts.proofs.Unassigned.{each_map}
 use Rattle.lx_image_texts.proofs.WrapperCode.{from_text}
 use Rattle.lx_image_texts.proofs.Wrappers.{IsWrapper, each_wrapper, HasText, each_text, wrappers_faultless, wrappers_lawful}
+use Rattle.lx_image_texts.proofs.Complete.{names_same}
 
 -- the functions of the module, and the wrappers behind them
 
@@ -73,10 +74,6 @@ distinct_joined p (n ∷ ns) ms d e a b =
     and_from (not (list_any (bytes_eq n) (ns ++ ms))) (is_distinct (ns ++ ms))
     (ap not (none_joined n ns ms (not-true (list_any (bytes_eq n) ns) (first_of (not (list_any (bytes_eq n) ns)) (is_distinct ns) d)) (none_of p n ms (first_of (p n) (list_all p ns) a) b)))
     (distinct_joined p ns ms (second_of (not (list_any (bytes_eq n) ns)) (is_distinct ns) d) e (second_of (p n) (list_all p ns) a) b)
-
-append_assoc : (xs ys zs : List (List ℕ)) → xs ++ (ys ++ zs) ≡ (xs ++ ys) ++ zs
-append_assoc [] ys zs = refl
-append_assoc (x ∷ xs) ys zs = ap (λ ns. x ∷ ns) (append_assoc xs ys zs)
 
 -- imports stand first
 
@@ -133,7 +130,7 @@ module _ (i : Interface) (m x : Module) (v : IsVerified m) (room : HasRoom i m) 
   names =
       let of_functions : names_of x.functions ≡ names_of m.functions ++ names_of (wrappers_of i m) =
       ap names_of (sym (split_at (length m.functions) x.functions)) ∙ names_append front behind ∙ (λ t. guarded_names m m.functions front g.functions t ++ drop_names i m x g t) in
-      (λ t. global_names_same x.globals m.globals g.globals t ++ of_functions t) ∙ append_assoc (map (λ (w : GlobalVar). w.name) m.globals) (names_of m.functions) (names_of (wrappers_of i m))
+      (λ t. names_same x.globals m.globals g.globals t ++ of_functions t) ∙ append_assoc (map (λ (w : GlobalVar). w.name) m.globals) (names_of m.functions) (names_of (wrappers_of i m))
 
   names_once : is_distinct (symbol_names x) ≡ true
   names_once =

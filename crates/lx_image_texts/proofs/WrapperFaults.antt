@@ -39,6 +39,7 @@ use Rattle.lx_image_texts.proofs.Comparing.{ops, line_is, differ_by, same_text, 
 use Rattle.lx_image_texts.proofs.Ordering.{placed_by}
 use Rattle.lx_image_texts.proofs.Whole.{IsWrapper, are_wrappers, selves}
 use Rattle.lx_image_texts.proofs.Wrapping.{each_filter, each_at}
+use Rattle.lx_image_texts.proofs.Sound.{not_both}
 
 told : (line : ℕ) (name : List ℕ) (place : ℕ) (e : ImageFault) → ◌≡◌ {A = Option ImageFault} (Some (wrapper_fault line name place)) (Some e) → Tells e line name place
 told line name place e h =
@@ -50,10 +51,6 @@ told line name place e h =
 if_fault : (b : Bool) (f e : ImageFault) → cond b (Some f) None ≡ Some e → (b ≡ true) × (◌≡◌ {A = Option ImageFault} (Some f) (Some e))
 if_fault true f e h = (refl, h)
 if_fault false f e h = none_some h
-
-no_fault : (b : Bool) (f : ImageFault) → cond b (Some f) None ≡ None → b ≡ false
-no_fault true f h = some_none h
-no_fault false f h = refl
 
 -- code without a fault
 
@@ -115,7 +112,7 @@ global_owned x g (inl h) = or_left (is_own_name g.name) (init_mentions x g.init)
 global_owned x g (inr h) = or_right (is_own_name g.name) (init_mentions x g.init) (mentioned x h.0 g.init h.1 h.2)
 
 good_global : (x : Module) (g : GlobalVar) → global_fault x g ≡ None → IsOwnGlobal x g → ⊥
-good_global x g h own = clash (is_own_name g.name || init_mentions x g.init) (global_owned x g own) (no_fault (is_own_name g.name || init_mentions x g.init) (wrapper_fault g.line g.name 0) h)
+good_global x g h own = clash (is_own_name g.name || init_mentions x g.init) (global_owned x g own) (not_both (is_own_name g.name || init_mentions x g.init) (wrapper_fault g.line g.name 0) h)
 
 no_global : (x : Module) → first_some (global_fault x) x.globals ≡ None → NoOwnGlobal x
 no_global x h = none_found (λ n g. IsOwnGlobal x g → ⊥) (global_fault x) x.globals (λ n g at none. good_global x g none) h
@@ -138,7 +135,7 @@ own_import f h = (no_body f.blocks (first_of (not (is_defined f)) (is_own_name f
 good_import : (f : Function) → import_fault f ≡ None → IsOwnImport f → ⊥
 good_import f h own =
     clash (not (is_defined f) && is_own_name f.name) (and_from (not (is_defined f)) (is_own_name f.name) (ap (λ (o : Option (List Block)). not (is_some o)) own.0) own.1)
-    (no_fault (not (is_defined f) && is_own_name f.name) (wrapper_fault f.line f.name 0) h)
+    (not_both (not (is_defined f) && is_own_name f.name) (wrapper_fault f.line f.name 0) h)
 
 no_import : (x : Module) → first_some import_fault x.functions ≡ None → NoOwnImport x
 no_import x h = none_found (λ n f. IsOwnImport f → ⊥) import_fault x.functions (λ n f at none. good_import f none) h

@@ -23,6 +23,7 @@ use Rattle.lx_image_texts.specs.Spared.{is_spared}
 use Rattle.lx_image_texts.specs.Guards.{unlined_global, block_text, function_text}
 use Rattle.lx_image_texts.specs.Instrumented.{Leaves, leaves_none, leaves_spared, unless_left, image_code, image_block_text, image_function_text, GuardsBut}
 use Rattle.lx_image_texts.specs.WrapperText.{wrappers_of}
+use Rattle.lx_image_texts.proofs.Paired.{op_of}
 use Rattle.lx_instrument.specs.Made.{numbers_from, called_numbers, called_at, callee_by, op_by, lined, instr_by, block_by, function_by}
 use Rattle.lx_spared.specs.Rooms.{has_room, spared_by}
 
@@ -91,9 +92,6 @@ op_is m (op.Leave f) = refl
 append_three : {A : Type 0} (xs : List A) (y : A) (zs : List A) → (xs ++ y ∷ []) ++ zs ≡ xs ++ (y ∷ zs)
 append_three [] y zs = refl
 append_three (x ∷ xs) y zs = ap (λ ws. x ∷ ws) (append_three xs y zs)
-
-abbrev op_of : Instr → Op
-op_of i = i.op
 
 ops_lined : (line : ℕ) (os : List Op) → map op_of (lined line os) ≡ os
 ops_lined line [] = refl

@@ -1,5 +1,5 @@
 -- The marks of the next instruction are taken, and nothing else changes.
-use Rattle.std.specs.Prelude.{IfSome, IsNone, is_some}
+use Rattle.std.specs.Prelude.{IfSome, IsNone}
 use Rattle.std.proofs.Common.{◌≡◌, ℕ, zero, suc, ◌-◌, ◌<◌, Bool, true, false, Option, Some, None, IsSome, List, [], ◌∷◌, map, refl, sym, ap, ◌∙◌, subst}
 use Rattle.lx_words.specs.Word.{Word}
 use Rattle.lx_ir.specs.declared.instr.Op.{Op}
@@ -166,10 +166,6 @@ pub taken_marks : (c : Code) (f g : KeptFrame) (taken : Option Marks) →
     IfSome taken (λ m. IsSome (runs g)) → (IsNone taken → g ≡ f) → TakesMarks c f g taken
 taken_marks c f g None step there stays = stays refl
 taken_marks c f g (Some m) step there stays = (there, step)
-
-pub no_value : {A : Type 0} (o : Option A) → is_some o ≡ false → o ≡ None
-no_value None e = refl
-no_value (Some x) e = absurd (cc)
 
 -- a function that goes past an instruction of its own has taken the step of the thread
 

@@ -18,7 +18,7 @@ pub limited_is : (l : Layout) → l.size ≤ 4294967296 → limited l ≡ Some l
 limited_is l h = ap (λ b. if b then Some l else None) (le-leb l.size 4294967296 h)
 
 -- the size of a type within the limits, through any number of names that is enough
-size_fits : (types : List NamedType) (n : ℕ) (t : IrType) (j : ℕ) → is_type_within types (suc n) t ≡ true → suc n ≤ j → suc n ≤ 64 → (layout_in (named_layouts types j) t).size ≤ 4294967296
+pub size_fits : (types : List NamedType) (n : ℕ) (t : IrType) (j : ℕ) → is_type_within types (suc n) t ≡ true → suc n ≤ j → suc n ≤ 64 → (layout_in (named_layouts types j) t).size ≤ 4294967296
 size_fits types n t j h a b =
     let fits : (layout_in (named_layouts types 64) t).size ≤ 4294967296 = (within types n t h).size in
     let e : (layout_in (named_layouts types 64) t).size ≡ (layout_in (named_layouts types j) t).size = ap (λ l. l.size) (same_layout types (suc n) t 64 j h b a) in

@@ -15,7 +15,7 @@ use Rattle.lx_ir.specs.TypeNodes.{types_of_list}
 
 -- alignments are above 0
 
-scalar_align : (s : Scalar) → 0 < scalar_size s
+pub scalar_align : (s : Scalar) → 0 < scalar_size s
 scalar_align (Int W1) = omega arith
 scalar_align (Int W8) = omega arith
 scalar_align (Int W16) = omega arith
@@ -52,7 +52,7 @@ type_align types t = layout_align (named_layouts types 64) (λ k. named_align ty
 
 -- fields take room
 
-beside_grows : (packed : Bool) (a b : Layout) → a.size ≤ (beside packed a b).size
+pub beside_grows : (packed : Bool) (a b : Layout) → a.size ≤ (beside packed a b).size
 beside_grows true a b = omega arith
 beside_grows false a b = omega (arith, next_above a.size b.align)
 
@@ -86,13 +86,13 @@ front_le types packed xs i =
 
 -- a type has the same layout through any number of names that is enough
 
-same_fields : (a b : ℕ → Layout) (ok : IrType → Bool) → ((t : IrType) → ok t ≡ true → layout_in a t ≡ layout_in b t) → (packed : Bool) (ts : IrTypes) (laid : Layout) → list_all ok (list_of_types ts) ≡ true → fields_in a packed ts laid ≡ fields_in b packed ts laid
+pub same_fields : (a b : ℕ → Layout) (ok : IrType → Bool) → ((t : IrType) → ok t ≡ true → layout_in a t ≡ layout_in b t) → (packed : Bool) (ts : IrTypes) (laid : Layout) → list_all ok (list_of_types ts) ≡ true → fields_in a packed ts laid ≡ fields_in b packed ts laid
 same_fields a b ok same packed none laid h = refl
 same_fields a b ok same packed (also t ts) laid h =
     let p = and_parts (ok t) (list_all ok (list_of_types ts)) h in
     ap (λ l. fields_in a packed ts (beside packed laid l)) (same t p.0) ∙ same_fields a b ok same packed ts (beside packed laid (layout_in b t)) p.1
 
-same_struct : (a b : ℕ → Layout) (ok : IrType → Bool) → ((t : IrType) → ok t ≡ true → layout_in a t ≡ layout_in b t) → (t : IrType) → is_struct t ≡ true → list_all ok (fields_of t) ≡ true → layout_in a t ≡ layout_in b t
+pub same_struct : (a b : ℕ → Layout) (ok : IrType → Bool) → ((t : IrType) → ok t ≡ true → layout_in a t ≡ layout_in b t) → (t : IrType) → is_struct t ≡ true → list_all ok (fields_of t) ≡ true → layout_in a t ≡ layout_in b t
 same_struct a b ok same (One s) s' h = cc
 same_struct a b ok same (Array n t) s' h = cc
 same_struct a b ok same (Struct ts) s' h = ap padded (same_fields a b ok same false ts (layout 0 1) h)

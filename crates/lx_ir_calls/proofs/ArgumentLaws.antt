@@ -4,7 +4,6 @@ use Rattle.std.specs.Prelude.{if◌then◌else◌, not}
 use Rattle.lx_ir_tokens.specs.declared.token.Tok.{Tok}
 use Rattle.lx_ir_tokens.specs.declared.token.Kind.{Kind}
 use Rattle.lx_ir_tokens.specs.declared.token.Kind.TheVariants as kinds
-use Rattle.lx_ir_tokens.specs.declared.token.Mark.{Mark}
 use Rattle.lx_ir_tokens.specs.declared.token.Mark.TheVariants.{Comma, CloseParenthesis}
 use Rattle.lx_ir_tokens.specs.declared.keyword.Keyword.TheVariants as keywords
 use Rattle.lx_ir.specs.declared.types.Scalar.{Scalar}
@@ -32,6 +31,7 @@ use Rattle.lx_ir_operands.specs.Operands.{argument}
 use Rattle.lx_ir_operands.specs.Grammar.{IsPassed, Repeated}
 use Rattle.lx_ir_operands.proofs.Chains.{then_finds}
 use Rattle.lx_ir_operands.proofs.PassedLaws.{passed_again, passed_found}
+use Rattle.lx_ir_operands.proofs.ListedLaws.{scalar_no_mark}
 use Rattle.lx_ir_calls.specs.Arguments.{is_stray_at_value, strict_value_at, passed_value_at, argument_at, is_scalar_word, given_type_refusal, given_type_at, given_argument_at, next_argument_at}
 use Rattle.lx_ir_calls.specs.Grammar.{IsArgument, IsGivenArgument, IsNextArgument}
 
@@ -186,12 +186,8 @@ next_finds_given context ty ts us v e =
 
 -- Arguments in parentheses.
 
-scalar_is_no_mark : (m : Mark) (k : Kind) (ty : Scalar) → scalar_in k ≡ Some ty → is_mark m k ≡ false
-scalar_is_no_mark m (kinds.Word w) ty e = refl
-scalar_is_no_mark m k ty e = cc
-
 argument_opens : (context : Context) (a : Argument) (ts us : List Tok) → IsArgument context a ts → has (is_mark CloseParenthesis) (ts ++ us) ≡ false
-argument_opens context a ts us (f, b, (t, e, g), r, w) = rw (w, g) (scalar_is_no_mark CloseParenthesis t.kind a.ty e)
+argument_opens context a ts us (f, b, (t, e, g), r, w) = rw (w, g) (scalar_no_mark CloseParenthesis t.kind a.ty e)
 
 arguments_open : (context : Context) (xs : List Argument) (ts us : List Tok) → AreItems (IsArgument context) xs ts → has (is_mark CloseParenthesis) (ts ++ us) ≡ false
 arguments_open context [] ts us e = absurd e

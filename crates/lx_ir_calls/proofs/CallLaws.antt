@@ -28,11 +28,11 @@ use Rattle.lx_ir_constants.proofs.ListLaws.{Found}
 use Rattle.lx_ir_constants.proofs.PointerLaws.{form_finds}
 use Rattle.lx_ir_operands.specs.Steps.{attributes_at}
 use Rattle.lx_ir_operands.specs.Operands.{argument, instruction_in}
-use Rattle.lx_ir_operands.specs.Grammar.{First, Flagged, IsAttribute, IsPassed, Repeated, Times, is_kind}
+use Rattle.lx_ir_operands.specs.Grammar.{First, Flagged, IsAttribute, IsPassed, Repeated, Times}
 use Rattle.lx_ir_operands.specs.Laws.{EndsCall}
 use Rattle.lx_ir_operands.proofs.AttributeLaws.{attributes_again, attributes_found}
 use Rattle.lx_ir_operands.proofs.Chains.{then_finds}
-use Rattle.lx_ir_operands.proofs.PassedLaws.{parameter_is, align_is, passed_found}
+use Rattle.lx_ir_operands.proofs.PassedLaws.{parameter_is, align_is, passed_found, dereferenceable_is, captures_is}
 use Rattle.lx_ir_operands.proofs.FlagLaws.{NoFlag, flagged_reads, flagged_finds}
 use Rattle.lx_ir_calls.specs.declared.writes.BlockWrite.TheVariants as writes
 use Rattle.lx_ir_calls.specs.declared.image_lines.ImageLine.TheVariants as lines
@@ -173,14 +173,6 @@ result_is_no_flag true k ret e = cc
 result_is_no_flag false (kinds.Word (keywords.Scalar w)) ret e = refl
 result_is_no_flag false (kinds.Word keywords.Void) ret e = refl
 result_is_no_flag false k ret e = cc
-
-dereferenceable_is : (k : Kind) → is_kind keywords.Dereferenceable k ≡ true → k ≡ kinds.Word keywords.Dereferenceable
-dereferenceable_is (kinds.Word keywords.Dereferenceable) h = refl
-dereferenceable_is k h = cc
-
-captures_is : (k : Kind) → is_kind keywords.Captures k ≡ true → k ≡ kinds.Word keywords.Captures
-captures_is (kinds.Word keywords.Captures) h = refl
-captures_is k h = cc
 
 passed_no_flag : (ts us : List Tok) → IsPassed ts → has is_flag_word (ts ++ us) ≡ false
 passed_no_flag ts us (inl (t, k, g)) = rw g (ap is_flag_word (parameter_is t.kind k))

@@ -1,9 +1,8 @@
 -- Statements that were found are read again by a context that knows all names.
-use Rattle.std.proofs.Common.{◌≡◌, ◌⊎◌, inl, inr, ℕ, zero, suc, ◌+◌, ◌-◌, ◌<◌, ◌≤◌, Bool, true, false, List, [], ◌∷◌, ◌++◌, length, drop, Result, Ok, Err, refl, sym, ap, ◌∙◌, subst, arith, Option, Some, None, append_assoc}
+use Rattle.std.proofs.Common.{◌≡◌, ◌⊎◌, inl, inr, ℕ, zero, suc, ◌+◌, ◌-◌, ◌<◌, ◌≤◌, Bool, true, false, List, [], ◌∷◌, ◌++◌, length, Result, Ok, Err, refl, sym, ap, ◌∙◌, subst, Option, Some, None, append_assoc}
 use Rattle.std.specs.Prelude.{if◌then◌else◌}
 use Rattle.std.specs.List.{AllZip, AllByRecursion}
-use Rattle.std.proofs.Math.Seq.{drop-append_seam}
-use Rattle.std.proofs.lemmas.List.{length-append, append-nil}
+use Rattle.std.proofs.lemmas.List.{append-nil}
 use Rattle.lx_words.specs.declared.token.Token.{Token}
 use Rattle.lx_ir.specs.declared.module.Function.{Function}
 use Rattle.lx_ir_tokens.specs.declared.token.Tok.{Tok}
@@ -25,6 +24,7 @@ use Rattle.lx_ir_read.specs.declared.draft.Draft.{Draft}
 use Rattle.lx_ir_read.specs.Tables.{tokens_left}
 use Rattle.lx_ir_read.specs.Again.{registers_in, with_registers, kept, import_of, with_declared, with_defined, again_at, all_again}
 use Rattle.lx_ir_read.specs.Fault.{line_shown}
+use Rattle.lx_ir_lawful.proofs.SizedTypes.{left_there}
 use Rattle.lx_ir_complete.specs.First.{AreFound}
 use Rattle.lx_ir_complete.proofs.RoundTripFirsts.{statement_begins, begins_longer, written_same}
 
@@ -39,11 +39,11 @@ found_follows form places names defined (s ∷ ss) (f ∷ fs) ts (front, back, i
 
 -- What is defined.
 
-defined_if : (b : Bool) (d e : Draft) → d.defined ≡ e.defined → (if b then d else e).defined ≡ d.defined
+pub defined_if : (b : Bool) (d e : Draft) → d.defined ≡ e.defined → (if b then d else e).defined ≡ d.defined
 defined_if true d e same = refl
 defined_if false d e same = sym same
 
-kept_defined : (c : Context) (registers : Numbering) (line : ℕ) (d : Draft) (s : Statement) → (kept c registers line d s).defined ≡ d.defined
+pub kept_defined : (c : Context) (registers : Numbering) (line : ℕ) (d : Draft) (s : Statement) → (kept c registers line d s).defined ≡ d.defined
 kept_defined c registers line d (statements.Type n t) = refl
 kept_defined c registers line d (statements.Global n a t i) = refl
 kept_defined c registers line d (statements.Import n r ps) = defined_if (is_block_write c n) d (with_declared d (import_of (bytes_of c n) r ps line)) refl
@@ -54,12 +54,6 @@ names_defined c d defined (statements.Type n t) e = refl
 names_defined c d defined (statements.Global n a t i) e = refl
 names_defined c d defined (statements.Import n r ps) e = ap (λ b. if b then defined else with_symbol defined n) (written_same c d n e)
 names_defined c d defined (statements.Function n r ps bs) e = refl
-
--- the tokens that are left at a place
-pub left_there : (before ts toks : List Tok) (left : ℕ) → left ≡ length ts → toks ≡ before ++ ts → tokens_left left toks ≡ ts
-left_there before ts toks left e w =
-    let count : length (before ++ ts) - length ts ≡ length before = omega (arith, length-append before ts) in
-    ap (λ n. drop (length toks - n) toks) e ∙ ap (λ v. drop (length v - length ts) v) w ∙ ap (λ n. drop n (before ++ ts)) count ∙ drop-append_seam before ts
 
 module _ (places : List Token) (full : Context) where
   abbrev pub registers_at : Found → Numbering

@@ -10,6 +10,7 @@ use Rattle.lx_ir_calls.specs.declared.intrinsics.TextForm.{TextForm}
 use Rattle.lx_ir_calls.specs.declared.intrinsics.TextForm.TheVariants.{Program, Image}
 use Rattle.lx_ir_complete.specs.Printed.{IsForeign, IsCalm, AreCalm}
 use Rattle.lx_ir_read.specs.Reading.{is_own, is_early, first_early}
+use Rattle.lx_ir_lawful.proofs.OwnNames.{taken_whole}
 
 abbrev pub is_program : TextForm → Bool
 is_program Program = true
@@ -18,10 +19,6 @@ is_program Image = false
 pub program_is : (form : TextForm) → is_program form ≡ true → form ≡ Program
 program_is Program e = refl
 program_is Image e = absurd (true≢false (sym e))
-
-taken_whole : (ts : List Tok) → take (length ts) ts ≡ ts
-taken_whole [] = refl
-taken_whole (t ∷ ts) = ap (λ us. t ∷ us) (taken_whole ts)
 
 no_own : (form : TextForm) (names : List (List ℕ)) (k : Kind) (name : ℕ) → (is_program form ≡ true → IsForeign names k name) → is_own form names k name ≡ false
 no_own Program names kinds.Global name h = h refl

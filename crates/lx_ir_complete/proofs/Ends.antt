@@ -27,7 +27,7 @@ use Rattle.lx_ir_constants.proofs.InitLaws.{init_again}
 use Rattle.lx_ir_calls.specs.declared.intrinsics.TextForm.{TextForm}
 use Rattle.lx_ir_statements.specs.declared.head.Head.{Head}
 use Rattle.lx_ir_statements.specs.Numbers.{has_number}
-use Rattle.lx_ir_statements.specs.Words.{is_any_word, is_linkage_word, import_attributes_at}
+use Rattle.lx_ir_statements.specs.Words.{is_any_word, import_attributes_at}
 use Rattle.lx_ir_statements.specs.HeadGrammar.{IsResult, IsHead}
 use Rattle.lx_ir_statements.proofs.WordLaws.{result_reads, function_attributes_again}
 use Rattle.lx_ir_statements.proofs.ParameterLaws.{heads_again}
@@ -39,11 +39,12 @@ use Rattle.lx_ir_statements.specs.declared.form.Statement.{Statement}
 use Rattle.lx_ir_statements.specs.declared.form.Statement.TheVariants as statements
 use Rattle.lx_ir_statements.specs.declared.defined.Defined.{Defined}
 use Rattle.lx_ir_statements.specs.Defined.{is_block_write, is_imported_twice}
-use Rattle.lx_ir_statements.specs.Statements.{symbol_name, storage_in, global_align_at, import_name_at, new_function_name_at, import_behind, new_type_at, type_statement_at, global_at, function_behind, statement_by, statement_at}
-use Rattle.lx_ir_statements.specs.Grammar.{IsSymbol, IsNewType, IsGlobal, is_declare_word, is_define_word, IsImport, IsFunction, IsStatement}
+use Rattle.lx_ir_statements.specs.Statements.{symbol_name, global_align_at, import_name_at, new_function_name_at, import_behind, new_type_at, type_statement_at, global_at, function_behind, statement_by, statement_at}
+use Rattle.lx_ir_statements.specs.Grammar.{IsSymbol, IsNewType, IsGlobal, IsImport, IsFunction, IsStatement}
 use Rattle.lx_ir_statements.proofs.HeadWords.{linkage_over}
 use Rattle.lx_ir_statements.proofs.TypeNames.{local_name_is, new_type_again}
-use Rattle.lx_ir_statements.proofs.GlobalLaws.{new_symbol_reads}
+use Rattle.lx_ir_statements.proofs.GlobalLaws.{new_symbol_reads, storage_no_linkage}
+use Rattle.lx_ir_statements.proofs.StatementLaws.{declare_is, define_is}
 use Rattle.lx_ir_lawful.specs.Alike.{knowing_registers, AlikeStatements}
 use Rattle.lx_ir_lawful.specs.ForgottenLaws.{StatementsAreForgotten}
 use Rattle.lx_ir_lawful.proofs.SeenTypes.{unnamed, written_seen}
@@ -58,18 +59,6 @@ ended s last = last >>= λ x. Ok (s, x.1)
 symbol_is : (k : Kind) (n name : ℕ) → symbol_name k n ≡ Some name → k ≡ kinds.Global
 symbol_is kinds.Global n name e = refl
 symbol_is k n name e = cc
-
-declare_is : (k : Kind) → is_declare_word k ≡ true → k ≡ kinds.Word (keywords.Statement words.Declare)
-declare_is (kinds.Word (keywords.Statement words.Declare)) e = refl
-declare_is k e = cc
-
-define_is : (k : Kind) → is_define_word k ≡ true → k ≡ kinds.Word (keywords.Statement words.Define)
-define_is (kinds.Word (keywords.Statement words.Define)) e = refl
-define_is k e = cc
-
-storage_no_linkage : (k : Kind) (constant : Bool) → storage_in k ≡ Some constant → is_linkage_word k ≡ false
-storage_no_linkage (kinds.Word (keywords.Statement w)) constant e = refl
-storage_no_linkage k constant e = cc
 
 abbrev function_goes : Kind → Bool
 function_goes k = is_mark Hash k || is_any_word k

@@ -1,52 +1,36 @@
 -- Statements that the grammar says are there are read again by a context that knows their names.
-use Rattle.std.proofs.Common.{◌≡◌, ℕ, ◌-◌, Bool, true, false, List, [], ◌∷◌, ◌++◌, length, drop, Result, Ok, Err, refl, sym, ap, ◌∙◌, subst, arith, append_assoc}
+use Rattle.std.proofs.Common.{◌≡◌, ◌-◌, true, List, [], ◌∷◌, ◌++◌, length, Result, Ok, Err, refl, sym, ap, ◌∙◌, subst, append_assoc}
 use Rattle.std.specs.Prelude.{if◌then◌else◌}
-use Rattle.std.proofs.Math.Seq.{drop-append_seam}
-use Rattle.std.proofs.lemmas.List.{length-append}
 use Rattle.lx_words.specs.declared.token.Token.{Token}
 use Rattle.lx_ir_tokens.specs.declared.token.Tok.{Tok}
 use Rattle.lx_ir_terms.specs.declared.fault.Fault.{Fault}
-use Rattle.lx_ir_terms.specs.Context.{Context, bytes_of}
+use Rattle.lx_ir_terms.specs.Context.{Context}
 use Rattle.lx_ir_terms.specs.Reading.{Read, ◌>>=◌}
 use Rattle.lx_ir_terms.proofs.Parts.{ok_same}
 use Rattle.lx_ir_calls.specs.declared.intrinsics.TextForm.{TextForm}
 use Rattle.lx_ir_statements.specs.BlockLaws.{BodiesAreRead}
 use Rattle.lx_ir_statements.specs.declared.form.Statement.{Statement}
 use Rattle.lx_ir_statements.specs.declared.form.Statement.TheVariants as statements
-use Rattle.lx_ir_statements.specs.Defined.{with_statement, is_block_write}
+use Rattle.lx_ir_statements.specs.Defined.{with_statement}
 use Rattle.lx_ir_statements.specs.Statements.{statement_at}
 use Rattle.lx_ir_statements.specs.Grammar.{IsStatement}
 use Rattle.lx_ir_statements.specs.Laws.{may_follow, StatementsAreRead}
-use Rattle.lx_ir_tables.specs.Numbering.{Numbering, table_of, own_numbers}
+use Rattle.lx_ir_tables.specs.Numbering.{table_of, own_numbers}
 use Rattle.lx_ir_lawful.specs.ForgottenLaws.{StatementsAreForgotten}
 use Rattle.lx_ir_read.specs.declared.first.Found.{Found}
 use Rattle.lx_ir_read.specs.declared.draft.Draft.{Draft}
 use Rattle.lx_ir_read.specs.First.{unknown_context}
 use Rattle.lx_ir_read.specs.Tables.{tokens_left}
-use Rattle.lx_ir_read.specs.Again.{registers_in, with_registers, import_of, with_declared, with_defined, kept, again_at, all_again}
+use Rattle.lx_ir_read.specs.Again.{registers_in, with_registers, with_defined, kept, again_at, all_again}
 use Rattle.lx_ir_read.specs.Fault.{line_shown}
 use Rattle.lx_ir_read.specs.Grammar.{AreStatements, Adds, AddAll}
+use Rattle.lx_ir_lawful.proofs.SizedTypes.{left_there}
 use Rattle.lx_ir_complete.proofs.RoundTripFirsts.{defined_alike}
 use Rattle.lx_ir_complete.proofs.Ends.{ended, ReadsAlike, statement_alike}
 use Rattle.lx_ir_complete.proofs.Firsts.{follows}
-
--- the tokens that are left at a place
-left_there : (before ts toks : List Tok) (left : ℕ) → left ≡ length ts → toks ≡ before ++ ts → tokens_left left toks ≡ ts
-left_there before ts toks left e w =
-    let count : length (before ++ ts) - length ts ≡ length before = omega (arith, length-append before ts) in
-    ap (λ n. drop (length toks - n) toks) e ∙ ap (λ v. drop (length v - length ts) v) w ∙ ap (λ n. drop n (before ++ ts)) count ∙ drop-append_seam before ts
+use Rattle.lx_ir_complete.proofs.Again.{kept_defined}
 
 -- What is kept of a statement defines no name that was not defined before it is kept.
-
-defined_if : (b : Bool) (d e : Draft) → d.defined ≡ e.defined → (if b then d else e).defined ≡ d.defined
-defined_if true d e same = refl
-defined_if false d e same = sym same
-
-kept_defined : (c : Context) (registers : Numbering) (line : ℕ) (d : Draft) (s : Statement) → (kept c registers line d s).defined ≡ d.defined
-kept_defined c registers line d (statements.Type n t) = refl
-kept_defined c registers line d (statements.Global n a t i) = refl
-kept_defined c registers line d (statements.Import n r ps) = defined_if (is_block_write c n) d (with_declared d (import_of (bytes_of c n) r ps line)) refl
-kept_defined c registers line d (statements.Function n r ps bs) = refl
 
 -- what the last part is read as, where the whole is read so
 ended_as : (last : Read (Unit {0})) (t s : Statement) (us : List Tok) → ended t last ≡ Ok (s, us) → (last ≡ Ok (tt, us)) × (t ≡ s)

@@ -14,11 +14,11 @@ use Rattle.lx_ir.specs.declared.instr.Argument.{Argument}
 use Rattle.lx_ir.specs.declared.instr.Instr.{Instr}
 use Rattle.lx_ir.specs.Operands.{given_by, operands_where}
 use Rattle.lx_ir_tokens.specs.Names.{number_of}
+use Rattle.lx_ir_tokens.proofs.Numbered.{named}
 use Rattle.lx_ir_tables.specs.Numbering.{Numbering, numbering, with_thing, is_new}
 use Rattle.lx_ir_tables.specs.Registers.{with_given, with_given_by, with_all_given, with_read, with_operands, with_read_by, with_all_read, with_parameters, registers_of}
 use Rattle.lx_ir_read.specs.Again.{register_name, local_names, nameless}
 use Rattle.lx_ir_complete.specs.KnownTables.{named_things}
-use Rattle.lx_ir_complete.proofs.Placed.{name_at_number}
 
 -- Tables that grow by things with names alone.
 
@@ -68,7 +68,7 @@ all_read_grows : (lines : Bool) (bs : List Block) (t : Numbering) → Grows t (w
 all_read_grows lines [] t = grown t
 all_read_grows lines (b ∷ bs) t = on t (with_read_by lines t b.instrs) (with_all_read lines t (b ∷ bs)) (read_by_grows lines b.instrs t) (all_read_grows lines bs (with_read_by lines t b.instrs))
 
-parameters_added : (names : List (List ℕ)) (count : ℕ) (ps : List Parameter) (done : List (Option ℕ)) → with_parameters names (numbering count done) ps ≡ numbering count (done ++ map (λ p. number_of names p.name) ps)
+pub parameters_added : (names : List (List ℕ)) (count : ℕ) (ps : List Parameter) (done : List (Option ℕ)) → with_parameters names (numbering count done) ps ≡ numbering count (done ++ map (λ p. number_of names p.name) ps)
 parameters_added names count [] done = ap (numbering count) (sym (append-nil done))
 parameters_added names count (p ∷ ps) done =
     parameters_added names count ps (done ++ number_of names p.name ∷ []) ∙ ap (numbering count) (append_assoc done (number_of names p.name ∷ []) (map (λ q. number_of names q.name) ps))
@@ -90,7 +90,7 @@ registers_grow names ps bs =
 same_things : (c : ℕ) (xs ys : List (Option ℕ)) → numbering c xs ≡ numbering c ys → xs ≡ ys
 same_things c xs ys e = ap (λ (t : Numbering). t.things) e
 
-named_parameters : (names : List (List ℕ)) (ps : List Parameter) → map (number_of names) (map (λ p. p.name) ps) ≡ map (λ p. number_of names p.name) ps
+pub named_parameters : (names : List (List ℕ)) (ps : List Parameter) → map (number_of names) (map (λ p. p.name) ps) ≡ map (λ p. number_of names p.name) ps
 named_parameters names [] = refl
 named_parameters names (p ∷ ps) = ap (λ xs. number_of names p.name ∷ xs) (named_parameters names ps)
 
@@ -104,7 +104,7 @@ told names (l ∷ ls) [] e = cc e
 told names (l ∷ ls) (n ∷ ns) e =
     let one : number_of names l ≡ Some n = cc e in
     let more : map (number_of names) ls ≡ map Some ns = cc e in
-    let at = name_at_number names l n one in
+    let at = named names l n one in
     let here : register_name names (number_of names l) ≡ l = ap (register_name names) one ∙ ap (λ o. unwrap_or o []) at in
     ap (λ x. x ∷ map (register_name names) (map (number_of names) ls)) here ∙ ap (λ xs. l ∷ xs) (told names ls ns more)
 

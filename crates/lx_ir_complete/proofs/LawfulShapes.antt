@@ -11,7 +11,8 @@ use Rattle.lx_ir.specs.declared.types.Scalar.TheVariants.{Int, Ptr}
 use Rattle.lx_ir.specs.declared.types.NamedType.{NamedType}
 use Rattle.lx_ir.specs.IrType.{IrType, One, Array, Struct, Packed, Named, IrTypes, none, also}
 use Rattle.lx_ir.specs.Layout.{Layout, layout, scalar_size, beside, padded, layout_in, fields_in, layout_of_entry, named_layouts, size_of, list_of_types, entry_or, fields_of, is_struct, is_type_within}
-use Rattle.lx_ir.proofs.Layouts.{fields_grow, within, same_layout}
+use Rattle.lx_ir.proofs.Layouts.{fields_grow, within}
+use Rattle.lx_ir.proofs.Fits.{size_fits}
 use Rattle.lx_ir_offsets.specs.Shapes.{Shape, shape, layout_of_shape, with_field, empty_shape, endless, shape_of, fields_shape, shapes_through, named_shapes, is_past_limits, is_outside, is_inside, are_inside}
 
 -- the shape has this layout, is within the limit on sizes, and nests at most so deep
@@ -88,13 +89,6 @@ module _ (types : List NamedType) (n j : ℕ)
       → Shows (unwrap_or (option_map (λ e. shape_of (shapes_through types j) e.ty) o) endless) (layout_of_entry (named_layouts types j) o) (suc n)
   entry_shows k None e p le = cc e
   entry_shows k (Some t) e p le = struct_shows t.ty e p le
-
--- the size of a type within the limits, through any number of names that is enough
-size_fits : (types : List NamedType) (n : ℕ) (t : IrType) (j : ℕ) → is_type_within types (suc n) t ≡ true → suc n ≤ j → suc n ≤ 64 → (layout_in (named_layouts types j) t).size ≤ 4294967296
-size_fits types n t j h a b =
-    let fits : (layout_in (named_layouts types 64) t).size ≤ 4294967296 = (within types n t h).size in
-    let e : (layout_in (named_layouts types 64) t).size ≡ (layout_in (named_layouts types j) t).size = ap (λ l. l.size) (same_layout types (suc n) t 64 j h b a) in
-    omega (arith, fits, e)
 
 type_shows : (types : List NamedType) (n : ℕ) (t : IrType) (j : ℕ) → is_type_within types n t ≡ true → n ≤ j → n ≤ 64 → Shows (shape_of (shapes_through types j) t) (layout_in (named_layouts types j) t) n
 type_shows types zero (One s) j h a b = scalar_shows s 0

@@ -1,19 +1,11 @@
 -- A text's table of names has no name twice.
-use Rattle.std.proofs.Common.{◌≡◌, ◌∙◌, ◌⊎◌, inl, inr, ℕ, zero, suc, ◌≤◌, ◌<◌, true, false, Option, Some, None, is_some, List, [], ◌∷◌, ◌++◌, length, slice_get, fold, refl, sym, ap}
+use Rattle.std.proofs.Common.{◌≡◌, ◌∙◌, ◌⊎◌, inl, inr, ℕ, ◌≤◌, ◌<◌, true, false, Option, Some, None, is_some, List, [], ◌∷◌, ◌++◌, length, slice_get, fold, refl, sym, ap}
 use Rattle.std.specs.Prelude.{if◌then◌else◌}
 use Rattle.lx_words.specs.declared.token.Token.{Token}
 use Rattle.lx_ir_tokens.specs.Names.{number_of}
 use Rattle.lx_ir_tokens.specs.Reading.{said_at, with_said, names_of}
+use Rattle.lx_ir_tokens.proofs.Distinct.{nowhere, where_it_stands}
 use Rattle.lx_ir_complete.specs.KnownTables.{AreOnce}
-use Rattle.lx_ir_complete.proofs.Placed.{nowhere}
-
--- what stands in a table with one name more
-where_it_stands : (names : List (List ℕ)) (new : List ℕ) (i : ℕ) (name : List ℕ) → slice_get (names ++ new ∷ []) i ≡ Some name → (slice_get names i ≡ Some name) ⊎ ((i ≡ length names) × (new ≡ name))
-where_it_stands [] new zero name h = inr (refl, cc)
-where_it_stands [] new (suc i) name h = inl cc
-where_it_stands (x ∷ xs) new zero name h = inl h
-where_it_stands (x ∷ xs) new (suc i) name h =
-    elim (where_it_stands xs new i name h) [ inl at ↦ inl at | inr last ↦ inr (ap suc last.0, last.1) ]
 
 longer : (names : List (List ℕ)) (new : List ℕ) → number_of names new ≡ None → AreOnce names → AreOnce (names ++ new ∷ [])
 longer names new none once i j name at also = by (where_it_stands names new i name at) (where_it_stands names new j name also)

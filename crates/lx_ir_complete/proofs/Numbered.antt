@@ -1,5 +1,5 @@
 -- The registers of a function are numbered as the function numbers them.
-use Rattle.std.proofs.Common.{◌≡◌, ℕ, zero, suc, ◌+◌, ◌<◌, ◌≤◌, List, [], ◌∷◌, ◌++◌, length, map, take, Bool, true, false, not, ◌&&◌, ◌||◌, bytes_eq, true≢false, refl, sym, ap, ◌∙◌, subst, arith, Option, Some, None, slice_get, nat_eq, nat_lt, append_assoc}
+use Rattle.std.proofs.Common.{◌≡◌, ℕ, zero, suc, ◌+◌, ◌<◌, ◌≤◌, List, [], ◌∷◌, ◌++◌, length, map, take, Bool, true, false, not, ◌&&◌, ◌||◌, bytes_eq, true≢false, refl, sym, ap, ◌∙◌, subst, arith, Option, Some, None, slice_get, nat_eq, nat_lt}
 use Rattle.std.specs.Prelude.{if◌then◌else◌, fold, flat_map, filter_map}
 use Rattle.std.specs.Option.{option_flatten}
 use Rattle.std.specs.List.{AllZip, list_any}
@@ -9,7 +9,6 @@ use Rattle.std.proofs.lemmas.Bool.{and_parts, ltb-true, eqb-true}
 use Rattle.std.proofs.lemmas.List.{length-map, length-append, map-append, take_all, take_at, append-nil}
 use Rattle.std.proofs.lemmas.Option.{slice_get_within, slice_get_past, slice_get-map}
 use Rattle.lx_words.proofs.Tests.{not_less}
-use Rattle.lx_ir.specs.declared.module.Parameter.{Parameter}
 use Rattle.lx_ir.specs.declared.module.Block.{Block}
 use Rattle.lx_ir.specs.declared.module.Function.{Function}
 use Rattle.lx_ir.specs.declared.instr.Instr.{Instr}
@@ -19,33 +18,22 @@ use Rattle.lx_ir.specs.Operands.{register_count, given_numbers, given_by}
 use Rattle.lx_ir.specs.Text.{register_names}
 use Rattle.lx_ir.specs.Lawful.{is_distinct, counts_from, first_come, read_numbers, numbers_read, numbers_registers}
 use Rattle.lx_ir_tokens.specs.Names.{number_of}
+use Rattle.lx_ir_tokens.proofs.Numbered.{named}
 use Rattle.lx_ir_terms.specs.Context.{Context, entry, nothing, register_or, register_number}
-use Rattle.lx_ir_tables.specs.Numbering.{Numbering, numbering, has_name, number_from, number_named, numbers_from, table_of, with_thing, own_numbers}
+use Rattle.lx_ir_tables.specs.Numbering.{Numbering, numbering, has_name, number_from, number_named, table_of, with_thing}
 use Rattle.lx_ir_tables.specs.Registers.{with_parameters, with_all_given, with_all_read, registers_of}
+use Rattle.lx_ir_tables.proofs.Noting.{numbers_long}
 use Rattle.lx_ir_lawful.specs.Alike.{knowing_registers, AlikeRegisters, AlikeOps, AlikeInstrs, AlikeBlocks}
+use Rattle.lx_ir_lawful.proofs.LawfulBodies.{first_come_le}
+use Rattle.lx_ir_lawful.proofs.RegisterTables.{own_at}
 use Rattle.lx_ir_complete.specs.Said.{SameOps, SameBlocks}
 use Rattle.lx_ir_complete.specs.KnownTables.{AreOnce, named_things, HasRegisters}
 use Rattle.lx_ir_complete.specs.KnownLaws.{unknown}
-use Rattle.lx_ir_complete.proofs.Placed.{name_at_number}
 use Rattle.lx_ir_complete.proofs.TableNumbers.{entry_is}
-use Rattle.lx_ir_complete.proofs.Traced.{first_come_le, given_blocks, read_blocks}
+use Rattle.lx_ir_complete.proofs.Traced.{given_blocks, read_blocks, is_named}
+use Rattle.lx_ir_complete.proofs.KeptNames.{parameters_added, named_parameters}
 
 -- Tables.
-
-own_at : (s c i : ℕ) → i < c → slice_get (own_numbers s c) i ≡ Some (Some (s + i))
-own_at s zero i lt = absurd (omega arith)
-own_at s (suc c) zero lt = let e : s ≡ s + 0 = omega arith in ap (λ n. Some (Some n)) e
-own_at s (suc c) (suc i) lt =
-    let e : suc s + i ≡ s + suc i = omega arith in
-    own_at (suc s) c i (omega arith) ∙ ap (λ n. Some (Some n)) e
-
-length_numbers : (s c : ℕ) (things : List (Option ℕ)) → length (numbers_from s c things) ≡ c
-length_numbers s zero things = refl
-length_numbers s (suc c) things = ap suc (length_numbers (suc s) c things)
-
-is_named : (n : ℕ) (x : Option ℕ) → has_name n x ≡ true → x ≡ Some n
-is_named n None e = cc
-is_named n (Some m) e = ap Some (eqb-true m n e)
 
 -- the thing that has a number
 abbrev Thing : List (Option ℕ) → ℕ → ℕ → ℕ → Type 0
@@ -80,7 +68,7 @@ within_or_past n c true e things r is lt = (less, by (number_named things n) ref
         subst (λ i. slice_get things i ≡ Some (Some n)) place at.2
 within_or_past n c false e things r is lt =
     let past : c ≤ n = omega (arith, not_less n c e) in
-    let none : slice_get (table_of (numbering c things)) n ≡ None = slice_get_past (table_of (numbering c things)) n (subst (λ l. l ≤ n) (sym (length_numbers 0 c things)) past) in
+    let none : slice_get (table_of (numbering c things)) n ≡ None = slice_get_past (table_of (numbering c things)) n (subst (λ l. l ≤ n) (sym (numbers_long 0 c things)) past) in
     let it : nothing ≡ r = ap (λ o. register_or (option_flatten o)) (sym none) ∙ is in
     absurd (omega (arith, it, lt))
 
@@ -112,15 +100,6 @@ bodies_alike c d (x ∷ ds) (b ∷ bs) (e ∷ es) same a =
 
 -- Parameters.
 
-parameters_added : (names : List (List ℕ)) (count : ℕ) (ps : List Parameter) (done : List (Option ℕ)) → with_parameters names (numbering count done) ps ≡ numbering count (done ++ map (λ p. number_of names p.name) ps)
-parameters_added names count [] done = ap (numbering count) (sym (append-nil done))
-parameters_added names count (p ∷ ps) done =
-    parameters_added names count ps (done ++ number_of names p.name ∷ []) ∙ ap (numbering count) (append_assoc done (number_of names p.name ∷ []) (map (λ q. number_of names q.name) ps))
-
-named_parameters : (names : List (List ℕ)) (ps : List Parameter) → map (number_of names) (map (λ p. p.name) ps) ≡ map (λ p. number_of names p.name) ps
-named_parameters names [] = refl
-named_parameters names (p ∷ ps) = ap (λ xs. number_of names p.name ∷ xs) (named_parameters names ps)
-
 -- Things at places.
 
 thing_named : (names ws : List (List ℕ)) (i n : ℕ) → slice_get (map (number_of names) ws) i ≡ Some (Some n) → (w : List ℕ) × (slice_get ws i ≡ Some w) × (number_of names w ≡ Some n)
@@ -135,7 +114,7 @@ distinct_places : (names said : List (List ℕ)) → AreOnce said → (i j n : �
 distinct_places names said once i j n a b =
     let x = thing_named names said i n a in
     let y = thing_named names said j n b in
-    let same : x.0 ≡ y.0 = some_same x.0 y.0 (sym (name_at_number names x.0 n x.2) ∙ name_at_number names y.0 n y.2) in
+    let same : x.0 ≡ y.0 = some_same x.0 y.0 (sym (named names x.0 n x.2) ∙ named names y.0 n y.2) in
     once i j y.0 (x.1 ∙ ap Some same) y.1
   where
     some_same : (x y : List ℕ) → Some x ≡ Some y → x ≡ y
@@ -188,7 +167,7 @@ module _ (f : Function) (c : Context) (few : register_count f < nothing) (has : 
       here.1 ∙ ap (λ x. Some (Some x)) own
 
   within : (i n : ℕ) → slice_get things i ≡ Some (Some n) → n < length c.names
-  within i n at = let w = thing_named c.names (register_names f) i n at in slice_get_within c.names n w.0 (name_at_number c.names w.0 n w.2)
+  within i n at = let w = thing_named c.names (register_names f) i n at in slice_get_within c.names n w.0 (named c.names w.0 n w.2)
 
   parameters_first : with_parameters c.names (numbering (length c.names) []) f.params ≡ numbering (length c.names) (take (length f.params) things)
   parameters_first =

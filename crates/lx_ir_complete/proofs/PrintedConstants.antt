@@ -7,6 +7,7 @@ use Rattle.lx_words.specs.declared.word.Width.{Width}
 use Rattle.lx_words.specs.declared.word.Width.TheVariants.{W8, W64}
 use Rattle.lx_words.specs.Width.{modulus}
 use Rattle.lx_words.specs.Word.{Word, signed}
+use Rattle.lx_words.proofs.Masks.{make_word}
 use Rattle.lx_ir.specs.declared.types.Scalar.{Scalar}
 use Rattle.lx_ir.specs.declared.types.Scalar.TheVariants.{Int, Ptr}
 use Rattle.lx_ir.specs.declared.module.Blank.{Blank}
@@ -41,7 +42,7 @@ use Rattle.lx_ir_complete.proofs.Joining.{beside, same_text, reads_as, space, ma
 use Rattle.lx_ir_complete.proofs.Elements.{StaysBehind, element, index_kinds, one_named, then_named, element_stays}
 use Rattle.lx_ir_complete.proofs.Names.{global}
 use Rattle.lx_ir_complete.proofs.Sayings.{Saying}
-use Rattle.lx_ir_complete.proofs.SignedNumbers.{made, says_word, number, word_number}
+use Rattle.lx_ir_complete.proofs.SignedNumbers.{says_word, number, word_number}
 use Rattle.lx_ir_complete.proofs.Words.{a_scalar, a_blank, blank_word, a_conversion, a_null, truth, falsehood, to}
 use Rattle.lx_ir.specs.declared.instr.Conversion.TheVariants as conversion
 use Rattle.lx_ir.proofs.Equality.{scalar_is}
@@ -130,7 +131,7 @@ module _ {plain : Bool} {m : Module} {context : Context} (given : Saying plain m
   flat_symbol : (s : Symbol) → is_lawful_symbol m s ≡ true → Prints plain context.names (symbol_text m s) (IsFlatPointer context (symbol_pointer s))
   flat_symbol s h = symbol_token s h (λ tok e at. (tok, ap (λ k. flat_pointer_of context k tok.name) e ∙ ap (option_map symbol_pointer) at, refl))
 
-  address_prints : (n : ℕ) → n < 2 ^ 64 → Prints plain context.names (codes "inttoptr (i64 " ++ offset_text n ++ codes " to ptr)") (IsAddress (made W64 n))
+  address_prints : (n : ℕ) → n < 2 ^ 64 → Prints plain context.names (codes "inttoptr (i64 " ++ offset_text n ++ codes " to ptr)") (IsAddress (make_word W64 n))
   address_prints n lt =
       let all =
       word is_address_word (a_conversion conversion.IntToPtr) refl
@@ -142,15 +143,15 @@ module _ {plain : Bool} {m : Module} {context : Context} (given : Saying plain m
 
   -- an address behind a name
   abbrev element_of : Symbol → ℕ → Element
-  element_of s n = record { ty = One (Int W8); base = symbol_pointer s; indices = made W64 n ∷ [] }
+  element_of s n = record { ty = One (Int W8); base = symbol_pointer s; indices = make_word W64 n ∷ [] }
 
   element_goes : (s : Symbol) (n : ℕ) → n < 2 ^ 64 → address_of context (element_of s n) ≡ pointer.Symbol s n
   element_goes s n lt = ap (pointer.Symbol s) (offset_is _ n (says_word W64 n lt).bits lt)
 
   -- what stands behind `getelementptr`, in the grammar
-  moved_says : (depth : ℕ) (s : Symbol) (n : ℕ) (ts : List Tok) → IsMoved context s (made W64 n) ts
+  moved_says : (depth : ℕ) (s : Symbol) (n : ℕ) (ts : List Tok) → IsMoved context s (make_word W64 n) ts
       → (IsOpened then IsWritten context (One (Int W8)) then IsMark Comma then Is is_pointer_word then (λ us. IsFlatPointer context (symbol_pointer s) us ⊎ IsPointerExpression context depth (symbol_pointer s) us)
-      then IsMark Comma then AreItems IsIndex (made W64 n ∷ []) then IsMark CloseParenthesis) ts
+      then IsMark Comma then AreItems IsIndex (make_word W64 n ∷ []) then IsMark CloseParenthesis) ts
   moved_says depth s n ts e =
       let e2 = e.3 in
       let e3 = e2.3 in
@@ -161,8 +162,8 @@ module _ {plain : Bool} {m : Module} {context : Context} (given : Saying plain m
       let e8 = e7.3 in
       let ty : IsWritten context (One (Int W8)) e2.0 = ((e2.2.0, ap (λ q. flat_of context q e2.2.0.name) e2.2.1, e2.2.2), given.knows.limits (One (Int W8)) refl) in
       let base : IsFlatPointer context (symbol_pointer s) e5.0 = (e5.2.0, ap (λ q. flat_pointer_of context q e5.2.0.name) e5.2.1 ∙ ap (option_map symbol_pointer) e5.2.2, e5.2.3) in
-      let index : IsIndex (made W64 n) (e7.0 ++ e8.0) = (e7.0, e8.0, (e7.2.0, ap integer_in e7.2.1, e7.2.2), (e8.2.0, ap (number_in W64) e8.2.3 ∙ e8.2.4, e8.2.5), refl) in
-      let indices : (AreItems IsIndex (made W64 n ∷ []) then IsMark CloseParenthesis) e6.1 =
+      let index : IsIndex (make_word W64 n) (e7.0 ++ e8.0) = (e7.0, e8.0, (e7.2.0, ap integer_in e7.2.1, e7.2.2), (e8.2.0, ap (number_in W64) e8.2.3 ∙ e8.2.4, e8.2.5), refl) in
+      let indices : (AreItems IsIndex (make_word W64 n ∷ []) then IsMark CloseParenthesis) e6.1 =
       (e7.0 ++ e8.0, e8.1, (e7.0 ++ e8.0, [], index, refl, sym (append-nil (e7.0 ++ e8.0))), e8.3, e7.4 ∙ ap (λ v. e7.0 ++ v) e8.4 ∙ sym (append_assoc e7.0 e8.0 e8.1))
       in
       (e.0, e.1, ([], e.0, refl, e.2, refl), (e2.0, e2.1, ty, (e3.0, e3.1, e3.2, (e4.0, e4.1, (e4.2.0, ap is_pointer_word e4.2.1, e4.2.2), (e5.0, e5.1, inl base, (e6.0, e6.1, e6.2, indices, e6.4), e5.4), e4.4), e3.4), e2.4), e.4)
@@ -176,12 +177,12 @@ module _ {plain : Bool} {m : Module} {context : Context} (given : Saying plain m
       (marked Comma refl (space (beside (kind_word (a_scalar Ptr)) refl (space
       (beside (symbol_token {p = IsNamed context s} s h (λ tok e at. (tok, e, at, refl))) refl
       (marked Comma refl (space (beside (kind_word (a_scalar (Int W64))) refl (space
-      (beside (number given.laws {p = IsNumber (made W64 n)} W64 n lt (λ tok minus e says. (tok, Some (signed (made W64 n)), minus, e, says, refl))) refl
+      (beside (number given.laws {p = IsNumber (make_word W64 n)} W64 n lt (λ tok minus e says. (tok, Some (signed (make_word W64 n)), minus, e, says, refl))) refl
       (last_mark CloseParenthesis refl))))))))))))
       in
-      let whole = element {p = Is is_element_word} (λ tok e. (tok, ap is_element_word e, refl)) behind (λ toks more seen. moved_stays context s (made W64 n) toks more (behind.says toks seen)) in
+      let whole = element {p = Is is_element_word} (λ tok e. (tok, ap is_element_word e, refl)) behind (λ toks more seen. moved_stays context s (make_word W64 n) toks more (behind.says toks seen)) in
       same_text (simp append_assoc)
-      (reads_as {p = Is is_element_word then IsMoved context s (made W64 n)} {q = IsElement context (λ q us. IsFlatPointer context q us ⊎ IsPointerExpression context depth q us) (element_of s n)}
+      (reads_as {p = Is is_element_word then IsMoved context s (make_word W64 n)} {q = IsElement context (λ q us. IsFlatPointer context q us ⊎ IsPointerExpression context depth q us) (element_of s n)}
       (λ ts e. (e.0, e.1, e.2, moved_says depth s n e.1 e.3, e.4))
       whole)
 
@@ -199,7 +200,7 @@ module _ {plain : Bool} {m : Module} {context : Context} (given : Saying plain m
   long_prints depth pointer.Null l h k = cc l
   long_prints depth (pointer.Blank b) l h k = cc l
   long_prints depth (pointer.Number n) l h k =
-      reads_as {p = IsAddress (made W64 n)} (λ ts e. inr (made W64 n, e, refl)) (address_prints n (ltb-true n (2 ^ 64) k))
+      reads_as {p = IsAddress (make_word W64 n)} (λ ts e. inr (make_word W64 n, e, refl)) (address_prints n (ltb-true n (2 ^ 64) k))
   long_prints depth (pointer.Symbol s zero) l h k = cc l
   long_prints depth (pointer.Symbol s (suc n)) l h k =
       let lt : suc n < 2 ^ 64 = ltb-true (suc n) (2 ^ 64) k in
@@ -238,9 +239,9 @@ module _ {plain : Bool} {m : Module} {context : Context} (given : Saying plain m
   long_constant zero p l h k le = absurd (omega arith)
   long_constant (suc depth) p l h k le = reads_as {p = IsPointerExpression context (suc depth) p} (λ ts e. inr e) (long_prints depth p l h k)
 
-  number_constant : (depth : ℕ) (ty : Scalar) (w : Width) (n : ℕ) → Int w ≡ ty → n < modulus w → Prints plain context.names (number_text w n) (IsConstant context depth ty (constant.Number (made w n)))
+  number_constant : (depth : ℕ) (ty : Scalar) (w : Width) (n : ℕ) → Int w ≡ ty → n < modulus w → Prints plain context.names (number_text w n) (IsConstant context depth ty (constant.Number (make_word w n)))
   number_constant depth ty w n e lt =
-      subst (λ s. Prints plain context.names (number_text w n) (IsConstant context depth s (constant.Number (made w n)))) e
+      subst (λ s. Prints plain context.names (number_text w n) (IsConstant context depth s (constant.Number (make_word w n)))) e
       (number given.laws w n lt (λ tok minus is says. inl (tok, ap (λ q. flat_constant_of context (Int w) q tok.name) is ∙ ap (option_map constant.Number) says, refl)))
 
   pub constant_prints : (depth : ℕ) (ty : Scalar) (c : Constant) → is_lawful_constant m ty c ≡ true → is_kept_constant c ≡ true → nesting_of_constant c ≤ depth → Prints plain context.names (constant_text m c) (IsConstant context depth ty c)

@@ -1,8 +1,8 @@
 -- The text of a function says it, the lines of its instructions aside.
-use Rattle.std.proofs.Common.{◌≡◌, ℕ, suc, ◌+◌, ◌≤◌, List, [], ◌∷◌, ◌++◌, map, length, take, Bool, true, false, ◌&&◌, refl, sym, ap, ◌∙◌, subst, arith, Option, Some, None, nat_eq, bytes_eq, not, length-append}
-use Rattle.std.specs.Prelude.{flat_map, filter_map, nat_le, nat_lt, if◌then◌else◌}
+use Rattle.std.proofs.Common.{◌≡◌, ℕ, suc, ◌+◌, ◌≤◌, List, [], ◌∷◌, ◌++◌, map, length, take, Bool, true, false, ◌&&◌, refl, sym, ap, ◌∙◌, subst, arith, Option, Some, None, nat_eq, bytes_eq, length-append}
+use Rattle.std.specs.Prelude.{flat_map, filter_map, nat_lt, if◌then◌else◌}
 use Rattle.std.specs.List.{list_all, list_any, cons_option}
-use Rattle.std.proofs.lemmas.Bool.{and_parts, and_from, or_parts, or_from, eqb-true, not-true}
+use Rattle.std.proofs.lemmas.Bool.{and_parts, and_from, or_parts, or_from}
 use Rattle.std.proofs.lemmas.List.{take_at, length-map}
 use Rattle.std.proofs.lemmas.List.Elements.{filter_map-append}
 use Rattle.std.proofs.lemmas.List.Folds.{list_all-append}
@@ -13,11 +13,12 @@ use Rattle.lx_ir.specs.declared.instr.Instr.{Instr}
 use Rattle.lx_ir.specs.Lookup.{blocks_of, blocks_of_option}
 use Rattle.lx_ir.specs.Operands.{given_by, register_count, given_numbers}
 use Rattle.lx_ir.specs.Text.{register_names, blocks_text, defined_text}
-use Rattle.lx_ir.specs.Lawful.{is_name, is_label, is_distinct, is_lawful_op, ends_once, is_lawful_block, counts_from, first_come, read_numbers, numbers_registers, parameter_names, is_lawful_body, is_own_name}
+use Rattle.lx_ir.specs.Lawful.{is_name, is_label, is_distinct, is_lawful_op, ends_once, is_lawful_block, counts_from, read_numbers, numbers_registers, parameter_names, is_lawful_body, is_own_name}
 use Rattle.lx_ir_terms.specs.Context.{Context}
 use Rattle.lx_ir_terms.specs.Grammar.{◌then◌}
 use Rattle.lx_ir_calls.specs.declared.intrinsics.TextForm.{TextForm}
 use Rattle.lx_ir_calls.specs.declared.intrinsics.TextForm.TheVariants.{Program}
+use Rattle.lx_ir_lawful.proofs.LawfulBodies.{first_come_le}
 use Rattle.lx_ir_complete.specs.Lines.{PrintsLines}
 use Rattle.lx_ir_complete.specs.Kept.{is_kept_op}
 use Rattle.lx_ir_complete.specs.Knows.{may_stand}
@@ -27,6 +28,7 @@ use Rattle.lx_ir_complete.proofs.PrintedBlocks.{gives, given_count, counts, all_
 use Rattle.lx_ir_complete.proofs.PrintedHeads.{opening_prints}
 use Rattle.lx_ir_complete.proofs.StatementLines.{lines, lines_as}
 use Rattle.lx_ir_complete.proofs.Standing.{Stand}
+use Rattle.lx_ir_complete.proofs.TableNumbers.{distinct_front}
 
 -- Counting what is given.
 
@@ -78,14 +80,6 @@ blocks_given (b ∷ bs) =
     ap length (filter_map-append (λ i. given_by i.op) b.instrs (instrs bs)) ∙ length-append (all_given b.instrs) (all_given (instrs bs))
     ∙ ap (λ n. n + length (all_given (instrs bs))) (given_length b.instrs) ∙ ap (λ n. given_count b.instrs + n) (blocks_given bs)
 
-grows : (n last : ℕ) (ks : List ℕ) → first_come n last ks ≡ true → n ≤ last
-grows n last [] h = let same : n ≡ last = eqb-true n last h in omega arith
-grows n last (k ∷ ks) h = by (nat_eq k n) (and_parts (nat_le k n) _ h).1 (grows (suc n) last ks) (grows n last ks)
-  where
-    by : (v : Bool) → first_come (if v then suc n else n) last ks ≡ true → (first_come (suc n) last ks ≡ true → suc n ≤ last) → (first_come n last ks ≡ true → n ≤ last) → n ≤ last
-    by true q more same = let le = more q in omega (arith, le)
-    by false q more same = same q
-
 -- What instructions and blocks owe.
 
 module _ (form : TextForm) (m : Module) (f : Function) where
@@ -115,12 +109,6 @@ fewer x (z ∷ xs) ys h =
     let both = or_parts (bytes_eq x z) (list_any (bytes_eq x) (xs ++ ys)) h in
     or_from (bytes_eq x z) (list_any (bytes_eq x) xs) both.0 (fewer x xs ys both.1)
 
-distinct_front : (xs ys : List (List ℕ)) → is_distinct (xs ++ ys) ≡ true → is_distinct xs ≡ true
-distinct_front [] ys h = refl
-distinct_front (x ∷ xs) ys h =
-    let both = and_parts (not (list_any (bytes_eq x) (xs ++ ys))) (is_distinct (xs ++ ys)) h in
-    and_from (not (list_any (bytes_eq x) xs)) (is_distinct xs) (ap not (fewer x xs ys (not-true (list_any (bytes_eq x) (xs ++ ys)) both.0))) (distinct_front xs ys both.1)
-
 module _ {plain : Bool} {m : Module} {f : Function} {context : Context} (sayings : Saying plain m context) (registers : Registers f context) (form : TextForm) (program : plain ≡ true → form ≡ Program) where
   some_blocks : (d : is_distinct (register_names f) ≡ true) (n : length (register_names f) ≡ register_count f) (cs : List Block) → nat_lt 0 (length cs) ≡ true → list_all (is_ready_block form m f) cs ≡ true → blocks_count (length f.params) cs ≡ true
       → length f.params + block_counts cs ≤ register_count f → is_distinct (block_names cs) ≡ true → PrintsLines plain context.names (blocks_text m f cs) (Body sayings registers form program d n (length f.params) cs)
@@ -140,7 +128,7 @@ module _ {plain : Bool} {m : Module} {f : Function} {context : Context} (sayings
       let numbered = and_parts (counts_from (length f.params) (given_numbers f)) _ six.1 in
       let given_is : given_numbers f ≡ all_given (instrs bs) = ap (λ cs. all_given (instrs cs)) has in
       let counts_is : blocks_count (length f.params) bs ≡ true = sym (blocks_counted (length f.params) bs) ∙ ap (counts_from (length f.params)) (sym given_is) ∙ numbered.0 in
-      let most : length f.params + length (given_numbers f) ≤ register_count f = grows (length f.params + length (given_numbers f)) (register_count f) (read_numbers f) numbered.1 in
+      let most : length f.params + length (given_numbers f) ≤ register_count f = first_come_le (length f.params + length (given_numbers f)) (register_count f) (read_numbers f) numbered.1 in
       let size : length f.params + block_counts bs ≤ register_count f = omega (arith, most, ap length given_is, blocks_given bs) in
       let ready = ready_blocks form m f bs (ap (list_all (is_lawful_block m f)) (sym has) ∙ five.1) k in
       let labels : is_distinct (block_names bs) ≡ true = ap (λ cs. is_distinct (map (λ b. b.name) cs)) (sym has) ∙ four.1 in

@@ -5,6 +5,7 @@ use Rattle.std.specs.List.{list_all}
 use Rattle.std.proofs.lemmas.Bool.{and_parts, ltb-true}
 use Rattle.lx_words.specs.declared.word.Width.{Width}
 use Rattle.lx_words.specs.Width.{modulus}
+use Rattle.lx_words.proofs.Masks.{make_word}
 use Rattle.lx_ir.specs.declared.types.Scalar.{Scalar}
 use Rattle.lx_ir.specs.declared.types.Scalar.TheVariants.{Int}
 use Rattle.lx_ir.specs.declared.module.Blank.{Blank}
@@ -39,7 +40,7 @@ use Rattle.lx_ir_complete.proofs.Joining.{beside, same_text, reads_as, nothing, 
 use Rattle.lx_ir_complete.proofs.PrintedConstants.{symbol_token, cast_prints, long_constant}
 use Rattle.lx_ir_complete.proofs.PrintedTypes.{spaced, type_prints}
 use Rattle.lx_ir_complete.proofs.Sayings.{Saying}
-use Rattle.lx_ir_complete.proofs.SignedNumbers.{made, number}
+use Rattle.lx_ir_complete.proofs.SignedNumbers.{number}
 use Rattle.lx_ir_complete.proofs.Strings.{string}
 use Rattle.lx_ir_complete.proofs.Words.{a_blank, blank_word, a_null, truth, falsehood}
 
@@ -55,7 +56,7 @@ in_struct item ms = IsMark OpenBrace then AreListed item ms then IsMark CloseBra
 abbrev in_packed : {M : Type 0} → (M → Part) → List M → Part
 in_packed item ms = IsMark Less then IsMark OpenBrace then (AreListed item ms then IsMark CloseBrace) then IsMark Greater
 
--- initialisers with their types, made into members
+-- initialisers with their types, make_word into members
 abbrev pub members : {M : Type 0} → (M → Part) → (IrType → Init → M) → List IrType → Inits → List M
 members item make ts no_more = []
 members item make [] (more i is) = []
@@ -97,9 +98,9 @@ said_bytes context name bs e = ap (λ o. unwrap_or o []) e
 module _ {plain : Bool} {m : Module} {context : Context} (given : Saying plain m context) where
   -- Initialisers without others in them.
 
-  number_item : (depth : ℕ) (s : Scalar) (w : Width) (n : ℕ) → Int w ≡ s → n < modulus w → Prints plain context.names (number_text w n) (IsLeaf context depth (One s) (Plain (constant.Number (made w n))))
+  number_item : (depth : ℕ) (s : Scalar) (w : Width) (n : ℕ) → Int w ≡ s → n < modulus w → Prints plain context.names (number_text w n) (IsLeaf context depth (One s) (Plain (constant.Number (make_word w n))))
   number_item depth s w n e lt =
-      subst (λ r. Prints plain context.names (number_text w n) (IsLeaf context depth (One r) (Plain (constant.Number (made w n))))) e
+      subst (λ r. Prints plain context.names (number_text w n) (IsLeaf context depth (One r) (Plain (constant.Number (make_word w n))))) e
       (number given.laws w n lt (λ tok minus is says. inl (tok, ap (λ q. flat_init_of context (One (Int w)) q tok.name) is ∙ ap (option_map (λ x. Plain (constant.Number x))) says, refl)))
 
   expression_item : {t : List ℕ} (depth : ℕ) (ty : IrType) (c : Constant) → Prints plain context.names t (IsExpression context depth c) → Prints plain context.names t (IsLeaf context depth ty (Plain c))

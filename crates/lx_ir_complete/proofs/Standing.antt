@@ -1,27 +1,17 @@
 -- Numbers that stand for names.
-use Rattle.std.proofs.Common.{◌≡◌, ℕ, zero, suc, ◌<◌, List, [], ◌∷◌, ◌++◌, length, take, Bool, true, false, not, refl, sym, ap, ◌∙◌, subst, arith, Some, slice_get, bytes_eq, nat_eq, true≢false}
+use Rattle.std.proofs.Common.{◌≡◌, ℕ, zero, suc, ◌<◌, List, [], ◌∷◌, ◌++◌, length, take, true, false, not, refl, sym, ap, ◌∙◌, subst, arith, Some, slice_get, bytes_eq, nat_eq, true≢false}
 use Rattle.std.specs.Prelude.{if◌then◌else◌}
 use Rattle.std.specs.List.{AllZip, list_any}
-use Rattle.std.proofs.lemmas.Bool.{and_parts, or_parts, or_from, eqb-true, not-true}
-use Rattle.std.proofs.lemmas.Slice.Eq.{bytes_eq-Decides}
+use Rattle.std.proofs.lemmas.Bool.{and_parts, or_parts, or_from, not-true}
 use Rattle.lx_words.proofs.Lists.{eq_turned}
 use Rattle.lx_ir.specs.Lawful.{is_distinct}
 use Rattle.lx_ir.specs.Text.{name_at}
 use Rattle.lx_ir_statements.specs.Numbers.{has_number, with_number}
+use Rattle.lx_ir_complete.proofs.TableNumbers.{other_number}
 
 -- each number is that of the name at its place
 abbrev pub Stand : List (List ℕ) → List ℕ → List (List ℕ) → Type 0
 Stand names numbers said = AllZip (λ n name. slice_get names n ≡ Some name) numbers said
-
-other_number : (names : List (List ℕ)) (n r : ℕ) (name said : List ℕ) (v : Bool) → nat_eq n r ≡ v → slice_get names n ≡ Some name → slice_get names r ≡ Some said → bytes_eq name said ≡ false → v ≡ false
-other_number names n r name said false e h k d = refl
-other_number names n r name said true e h k d =
-    let same : n ≡ r = eqb-true n r e in
-    let names_same : name ≡ said = some_same name said (sym h ∙ ap (slice_get names) same ∙ k) in
-    absurd (true≢false (sym ((bytes_eq-Decides name said).1 names_same) ∙ d))
-  where
-    some_same : (x y : List ℕ) → Some x ≡ Some y → x ≡ y
-    some_same x y q = cc q
 
 -- the number of a name that is not among those
 pub absent : (names : List (List ℕ)) (numbers : List ℕ) (said : List (List ℕ)) (n : ℕ) (name : List ℕ) → Stand names numbers said → slice_get names n ≡ Some name → list_any (bytes_eq name) said ≡ false → has_number numbers n ≡ false

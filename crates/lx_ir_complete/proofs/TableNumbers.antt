@@ -12,15 +12,15 @@ use Rattle.lx_ir.specs.declared.module.Symbol.{Symbol}
 use Rattle.lx_ir.specs.Lawful.{is_distinct}
 use Rattle.lx_ir.specs.Text.{name_at}
 use Rattle.lx_ir_terms.specs.Context.{entry}
-use Rattle.lx_ir_tables.specs.Numbering.{numbering, has_name, number_from, number_named, numbers_from, table_of, symbol_by, symbols_by}
+use Rattle.lx_ir_tables.specs.Numbering.{numbering, has_name, number_from, number_named, table_of, symbol_by, symbols_by}
 use Rattle.lx_ir_tokens.specs.Names.{number_of}
+use Rattle.lx_ir_tokens.proofs.Numbered.{named}
+use Rattle.lx_ir_lawful.proofs.FewNames.{some_same}
+use Rattle.lx_ir_lawful.proofs.RegisterTables.{entry_from}
 use Rattle.lx_ir_complete.specs.KnownTables.{AreOnce}
-use Rattle.lx_ir_complete.proofs.Placed.{name_at_number, number_at_place}
+use Rattle.lx_ir_complete.proofs.Placed.{number_at_place}
 
 -- Distinct names.
-
-some_same : (x y : List ℕ) → Some x ≡ Some y → x ≡ y
-some_same x y q = cc q
 
 none_at : (p : List ℕ → Bool) (names : List (List ℕ)) (k : ℕ) → list_any p names ≡ false → k < length names → p (name_at names k) ≡ false
 none_at p [] k h lt = absurd (omega arith)
@@ -57,7 +57,7 @@ distinct_back (x ∷ xs) ys h = distinct_back xs ys (and_parts (not (list_any (b
 
 -- Numbers of names.
 
-other_number : (names : List (List ℕ)) (n r : ℕ) (name said : List ℕ) (v : Bool) → nat_eq n r ≡ v → slice_get names n ≡ Some name → slice_get names r ≡ Some said → bytes_eq name said ≡ false → v ≡ false
+pub other_number : (names : List (List ℕ)) (n r : ℕ) (name said : List ℕ) (v : Bool) → nat_eq n r ≡ v → slice_get names n ≡ Some name → slice_get names r ≡ Some said → bytes_eq name said ≡ false → v ≡ false
 other_number names n r name said false e h k d = refl
 other_number names n r name said true e h k d =
     let same : n ≡ r = eqb-true n r e in
@@ -71,7 +71,7 @@ module _ (names : List (List ℕ)) (once : AreOnce names) where
 
   elsewhere : (n : ℕ) (said other : List ℕ) (o : Option ℕ) → number_of names other ≡ o → slice_get names n ≡ Some said → bytes_eq other said ≡ false → has_name n o ≡ false
   elsewhere n said other None e at d = refl
-  elsewhere n said other (Some k) e at d = other_number names k n other said (nat_eq k n) refl (name_at_number names other k e) at d
+  elsewhere n said other (Some k) e at d = other_number names k n other said (nat_eq k n) refl (named names other k e) at d
 
   -- no thing has this name
   pub absent : (said : List (List ℕ)) (j name : ℕ) (text : List ℕ) → slice_get names name ≡ Some text → list_any (bytes_eq text) said ≡ false → number_from j (map (number_of names) said) name ≡ None
@@ -94,13 +94,6 @@ module _ (names : List (List ℕ)) (once : AreOnce names) where
       ap (λ b. if b then Some j else number_from (suc j) (map (number_of names) ws) name) other ∙ found ws (suc j) k name both.1 (omega arith) at ∙ ap (λ n. Some n) place
 
 -- Tables.
-
-entry_from : (s c i : ℕ) (things : List (Option ℕ)) → i < c → slice_get (numbers_from s c things) i ≡ Some (number_named things (s + i))
-entry_from s zero i things lt = absurd (omega arith)
-entry_from s (suc c) zero things lt = let here : s ≡ s + 0 = omega arith in ap (λ n. Some (number_named things n)) here
-entry_from s (suc c) (suc i) things lt =
-    let here : suc s + i ≡ s + suc i = omega arith in
-    entry_from (suc s) c i things (omega arith) ∙ ap (λ n. Some (number_named things n)) here
 
 pub entry_is : (c i : ℕ) (things : List (Option ℕ)) → i < c → slice_get (table_of (numbering c things)) i ≡ Some (number_named things i)
 entry_is c i things lt = let here : 0 + i ≡ i = omega arith in entry_from 0 c i things lt ∙ ap (λ n. Some (number_named things n)) here

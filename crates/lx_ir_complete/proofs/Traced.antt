@@ -23,6 +23,7 @@ use Rattle.lx_ir_tables.specs.Numbering.{Numbering, numbering, has_name, number_
 use Rattle.lx_ir_tables.specs.Registers.{with_given, with_given_by, with_all_given, with_read, with_operands, with_read_by, with_all_read}
 use Rattle.lx_ir_lawful.specs.Alike.{AlikeRegisters, AlikeValues, AlikeArguments, AlikeGiven, AlikeOps}
 use Rattle.lx_ir_lawful.proofs.ReadWhere.{read_where}
+use Rattle.lx_ir_lawful.proofs.LawfulBodies.{first_come_le}
 
 -- Lists.
 
@@ -31,13 +32,9 @@ first_come_step : (b : Bool) (n last : ℕ) (ks : List ℕ) → ((m : ℕ) → f
 first_come_step true n last ks more h = let le : suc n ≤ last = more (suc n) h in omega (arith, le)
 first_come_step false n last ks more h = more n h
 
-pub first_come_le : (n last : ℕ) (ks : List ℕ) → first_come n last ks ≡ true → n ≤ last
-first_come_le n last [] h = let e : n ≡ last = eqb-true n last h in omega (arith, e)
-first_come_le n last (k ∷ ks) h = first_come_step (nat_eq k n) n last ks (λ m g. first_come_le m last ks g) (and_parts (nat_le k n) (first_come (if nat_eq k n then suc n else n) last ks) h).1
-
 -- Things that have a name.
 
-is_named : (n : ℕ) (x : Option ℕ) → has_name n x ≡ true → x ≡ Some n
+pub is_named : (n : ℕ) (x : Option ℕ) → has_name n x ≡ true → x ≡ Some n
 is_named n None e = cc
 is_named n (Some m) e = ap Some (eqb-true m n e)
 

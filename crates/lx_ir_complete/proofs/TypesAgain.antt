@@ -29,9 +29,10 @@ use Rattle.lx_ir_complete.proofs.PrintedInits.{said_bytes}
 use Rattle.lx_ir_complete.specs.Statements.{Own, OfType, OfGlobal, OfFunction}
 use Rattle.lx_ir_read.specs.declared.first.Found.{Found}
 use Rattle.lx_ir_read.specs.Tables.{tokens_left, naming_types, is_type, type_in, type_read, type_again, with_type_again}
+use Rattle.lx_ir_lawful.proofs.SizedTypes.{left_there}
 use Rattle.lx_ir_complete.specs.KnownLaws.{unknown}
 use Rattle.lx_ir_complete.specs.First.{AreFound}
-use Rattle.lx_ir_complete.proofs.Again.{left_there, found_follows}
+use Rattle.lx_ir_complete.proofs.Again.{found_follows}
 
 -- Types by a context that knows the names of types alone.
 

@@ -9,6 +9,7 @@ use Rattle.lx_ir_tokens.specs.declared.keyword.ConversionWord.TheVariants.{IntTo
 use Rattle.lx_ir_tokens.specs.declared.keyword.InstructionWord.TheVariants.{Conversion, GetElementPtr}
 use Rattle.lx_ir_tokens.specs.declared.keyword.Keyword.TheVariants as keywords
 use Rattle.lx_words.specs.declared.word.Width.{Width}
+use Rattle.lx_words.proofs.Tests.{if_second, if_neither}
 use Rattle.lx_ir.specs.declared.types.Scalar.{Scalar}
 use Rattle.lx_ir.specs.declared.module.Pointer.{Pointer}
 use Rattle.lx_ir.specs.declared.module.Constant.{Constant}
@@ -25,6 +26,7 @@ use Rattle.lx_ir_constants.specs.Grammar.{IsOpened, IsPointer, IsPointerExpressi
 use Rattle.lx_ir_constants.proofs.ListLaws.{Found}
 use Rattle.lx_ir_constants.proofs.PointerLaws.{form_reads, form_finds, opened_reads, opened_finds}
 use Rattle.lx_ir_constants.proofs.PointersAgree.{pointer_again, pointer_found, expression_again, expression_found, expression_begins}
+use Rattle.lx_ir_constants.proofs.ConstantStops.{constant_by}
 
 -- A `ptrtoint`.
 
@@ -76,21 +78,13 @@ begins_cast : (ts : List Tok) → has is_cast_word ts ≡ true → has begins_ex
 begins_cast [] h = cc
 begins_cast (t ∷ ts) h = rw h refl
 
-either : (b c : Bool) → c ≡ true → (if b then true else c) ≡ true
-either true c h = refl
-either false c h = h
-
 begins_as_pointer : (ts : List Tok) → has begins_pointer ts ≡ true → has begins_expression ts ≡ true
 begins_as_pointer [] h = cc
-begins_as_pointer (t ∷ ts) h = either (is_cast_word t.kind) (begins_pointer t.kind) h
-
-neither : (b c : Bool) → (if b then true else c) ≡ true → b ≡ false → c ≡ true
-neither true c h e = cc
-neither false c h e = h
+begins_as_pointer (t ∷ ts) h = if_second (is_cast_word t.kind) (begins_pointer t.kind) h
 
 a_pointer : (ts : List Tok) → has begins_expression ts ≡ true → has is_cast_word ts ≡ false → has begins_pointer ts ≡ true
 a_pointer [] h e = cc
-a_pointer (t ∷ ts) h e = neither (is_cast_word t.kind) (begins_pointer t.kind) h e
+a_pointer (t ∷ ts) h e = if_neither (is_cast_word t.kind) (begins_pointer t.kind) h e
 
 -- Expressions.
 
@@ -150,9 +144,6 @@ pub constant_again : (context : Context) (depth : ℕ) (ty : Scalar) (c : Consta
 unfolding constant_at
 constant_again context depth ty c ts us (inl (k, e, f)) = rw (f, flat_begins context ty k.kind k.name c e, e) refl
 constant_again context depth ty c ts us (inr i) = let r = expression_reads context depth c ts us i in rw r.0 r.1
-
-abbrev constant_by : Bool → Read Constant → Read Constant → Read Constant
-constant_by b expression flat = if b then expression else flat
 
 constant_step : (context : Context) (depth : ℕ) (ty : Scalar) (b : Bool) (ts us : List Tok) (c : Constant) → has begins_expression ts ≡ b → constant_by b (expression_at context depth ts) (flat_constant_at context ty ts) ≡ Ok (c, us) → Found (IsConstant context depth ty) c ts us
 constant_step context depth ty true ts us c o e =

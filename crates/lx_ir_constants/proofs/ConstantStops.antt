@@ -30,7 +30,7 @@ use Rattle.lx_ir_constants.specs.declared.element.Element.{Element}
 use Rattle.lx_ir_constants.specs.Constants.{number_in, number_refusal, number_at, is_flag_word, skipped, when, word_refusal, opened_at, is_pointer_word, is_long_word, form_type_at, is_element_word, is_address_word, is_cast_word, flat_pointer_of, flat_pointer_at, constant_refusal, address_of, index_at, element_behind, address_behind, begins_pointer, nested_pointer_at, pointer_at, flat_constant_of, flat_constant_at, cast_behind, address_constant_at, begins_expression, expression_at, constant_at, is_register, first_name, value_at}
 use Rattle.lx_ir_constants.specs.Grammar.{IsIndex, IsPointer}
 use Rattle.lx_ir_constants.proofs.PointerLaws.{form_reads, form_finds, flags_found, flags_over, opened_reads, opened_finds, index_reads, index_finds}
-use Rattle.lx_ir_constants.proofs.PointersAgree.{pointer_again, pointer_found, no_element, an_address}
+use Rattle.lx_ir_constants.proofs.PointersAgree.{pointer_again, pointer_found, no_element, an_address, pointer_by}
 
 -- Flags, and a rule behind them.
 
@@ -118,9 +118,6 @@ too_deep {A} ts f e =
     let s : at OutOfProfile ts ≡ f = cc in
     at_once (λ us. Err (at OutOfProfile us)) ts f OutOfProfile (sym s) (λ t more us w. refl)
 
-abbrev pointer_by : Bool → Read Pointer → Read Pointer → Read Pointer
-pointer_by b nested flat = if b then nested else flat
-
 shallow : (context : Context) (b : Bool) (ts : List Tok) (f : Fault) → has begins_pointer ts ≡ b → pointer_by b (Err (at OutOfProfile ts)) (flat_pointer_at context ts) ≡ Err f → Stops (pointer_at context zero) ts f
 unfolding pointer_at
 shallow context true ts f o e = guard_stops begins_pointer (pointer_at context zero) (λ us. Err (at OutOfProfile us)) true (λ vs k. rw k refl) ts f o (too_deep ts f e)
@@ -165,7 +162,7 @@ pub expression_stops : (context : Context) (l : context.limits ≡ None) (depth 
 expression_stops context l zero ts f e = too_deep ts f e
 expression_stops context l (suc depth) ts f e = expression_step context l depth (has is_cast_word ts) ts f refl e
 
-abbrev constant_by : Bool → Read Constant → Read Constant → Read Constant
+abbrev pub constant_by : Bool → Read Constant → Read Constant → Read Constant
 constant_by b expression flat = if b then expression else flat
 
 constant_step : (context : Context) (l : context.limits ≡ None) (depth : ℕ) (ty : Scalar) (b : Bool) (ts : List Tok) (f : Fault) → has begins_expression ts ≡ b → constant_by b (expression_at context depth ts) (flat_constant_at context ty ts) ≡ Err f → Stops (constant_at context depth ty) ts f

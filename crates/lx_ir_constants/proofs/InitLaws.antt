@@ -15,9 +15,10 @@ use Rattle.lx_ir_terms.specs.Reading.{Read, ◌>>=◌, at, has, behind, is_mark,
 use Rattle.lx_ir_terms.specs.Types.{is_opening, flat_of, depth_limit, written_type_at}
 use Rattle.lx_ir_terms.specs.Grammar.{Part, Picks, Is, IsMark, ◌then◌, IsType, IsWritten}
 use Rattle.lx_ir_terms.specs.Laws.{Reads, Finds}
-use Rattle.lx_ir_terms.proofs.Marks.{mark_is, other_mark, Next, next_token}
+use Rattle.lx_ir_terms.proofs.Marks.{other_mark, Next, next_token}
 use Rattle.lx_ir_terms.proofs.Parts.{Joined, Mapped, next_reads, bind_reads, last_reads, behind_reads, pick_finds, next_finds, bind_finds, last_finds, bind_ok, ok_same}
 use Rattle.lx_ir_terms.proofs.Written.{written_again}
+use Rattle.lx_ir_terms.proofs.TypeLaws.{opens}
 use Rattle.lx_ir_constants.specs.declared.inits.Member.{Member}
 use Rattle.lx_ir_constants.specs.declared.inits.Members.{Members}
 use Rattle.lx_ir_constants.specs.Constants.{begins_expression}
@@ -109,10 +110,6 @@ brackets_close : Closes CloseBracket
 brackets_close = record { bracket = refl; brace = refl; less = refl; comma = refl }
 
 -- Groups.
-
-opens : (m : Mark) (ts : List Tok) → is_opening (kinds.Mark m) ≡ true → has (is_mark m) ts ≡ true → has is_opening ts ≡ true
-opens m [] o h = cc
-opens m (t ∷ ts) o h = ap is_opening (mark_is m t.kind h) ∙ o
 
 group_again : (context : Context) (init : IrType → Init → Part) (member : List Tok → Read Member) → ((m : Member) → Reads member m (IsMember context init m)) → (i : Init) (ts us : List Tok) → IsGroup (IsMember context init) i ts → (has is_opening (ts ++ us) ≡ true) × (group_at member (ts ++ us) ≡ Ok (i, us))
 group_again context init member h i ts us (inl (ms, g, e)) =

@@ -19,6 +19,7 @@ use Rattle.lx_ir_terms.proofs.Marks.{other_mark}
 use Rattle.lx_ir_terms.proofs.Parts.{next_reads, next_finds}
 use Rattle.lx_ir_terms.proofs.Stopping.{Refuses, pick_stops, next_stops, bind_stops, last_stops, guard_stops, behind_stops}
 use Rattle.lx_ir_terms.proofs.Written.{written_again, written_found, written_stops}
+use Rattle.lx_ir_terms.proofs.TypesFound.{third}
 use Rattle.lx_ir_constants.specs.declared.inits.Member.{Member}
 use Rattle.lx_ir_constants.specs.declared.inits.Members.{Members}
 use Rattle.lx_ir_constants.specs.Constants.{constant_refusal, begins_expression, expression_at}
@@ -26,7 +27,7 @@ use Rattle.lx_ir_constants.specs.Inits.{flat_init_of, flat_init_at, leaf_at, mem
 use Rattle.lx_ir_constants.specs.InitGrammar.{IsMember, IsInit}
 use Rattle.lx_ir_constants.proofs.ConstantStops.{expression_stops, too_deep}
 use Rattle.lx_ir_constants.proofs.InitLaws.{members_closed_at, member_reads, closed_reads, braces, init_again}
-use Rattle.lx_ir_constants.proofs.InitsFound.{member_found, ListOf, closed_found, third, init_found}
+use Rattle.lx_ir_constants.proofs.InitsFound.{member_found, ListOf, closed_found, init_found, init_by}
 
 -- Leaves.
 
@@ -82,7 +83,7 @@ either_way close member true ts = refl
 either_way close member false ts = shut close (items_at member ts)
 
 -- the same rule, written otherwise
-same_stops : {A : Type 0} (read r : List Tok → Read A) → ((vs : List Tok) → read vs ≡ r vs) → (ts : List Tok) (f : Fault) → Stops r ts f → Stops read ts f
+pub same_stops : {A : Type 0} (read r : List Tok → Read A) → ((vs : List Tok) → read vs ≡ r vs) → (ts : List Tok) (f : Fault) → Stops r ts f → Stops read ts f
 same_stops read r h ts f s = record { front = s.front; rest = s.rest; whole = s.whole; left = s.left; again = λ t more us c. h (s.front ++ t ∷ us) ∙ s.again t more us c }
 
 members_stop : (close : Mark) (member : List Tok → Read Member) (part : Member → Part) → ((m : Member) → Reads member m (part m)) → Finds member part → Refuses member → Refuses (members_closed_at close member)
@@ -124,9 +125,6 @@ group_step context init member reads finds stops false false ts f o p q e =
     let l = third ts o p q in
     guard_stops (is_mark Less) (group_at member) (λ us. packed_group_behind member (behind us)) true (λ vs k. rw (other_mark Less OpenBracket vs refl k, other_mark Less OpenBrace vs refl k) refl) ts f l
     (behind_stops (is_mark Less) (packed_group_behind member) ts f l (packed_stops context init member reads finds stops (behind ts) f e))
-
-abbrev init_by : Bool → Read Init → Read Init → Read Init
-init_by b nested leaf = if b then nested else leaf
 
 shallow : (context : Context) (l : context.limits ≡ None) (ty : IrType) (b : Bool) (ts : List Tok) (f : Fault) → has is_opening ts ≡ b → init_by b (Err (at OutOfProfile ts)) (leaf_at context zero ty ts) ≡ Err f → Stops (init_at context zero ty) ts f
 unfolding init_at

@@ -1,8 +1,7 @@
 -- Initialisers: what is read is in the grammar.
-use Rattle.std.proofs.Common.{◌≡◌, ℕ, zero, suc, Bool, true, false, List, [], ◌∷◌, ◌++◌, Ok, Err, inl, inr, refl, sym, ap, ◌∙◌, subst}
+use Rattle.std.proofs.Common.{◌≡◌, ℕ, zero, suc, Bool, true, false, List, [], ◌∷◌, ◌++◌, Ok, Err, inl, inr, refl, ap, ◌∙◌, subst}
 use Rattle.std.specs.Prelude.{if◌then◌else◌}
 use Rattle.lx_ir_tokens.specs.declared.token.Tok.{Tok}
-use Rattle.lx_ir_tokens.specs.declared.token.Kind.{Kind}
 use Rattle.lx_ir_tokens.specs.declared.token.Mark.{Mark}
 use Rattle.lx_ir_tokens.specs.declared.token.Mark.TheVariants.{OpenBrace, CloseBrace, OpenBracket, CloseBracket, Less, Greater}
 use Rattle.lx_ir.specs.declared.module.Brackets.TheVariants as brackets
@@ -17,6 +16,7 @@ use Rattle.lx_ir_terms.specs.Laws.{Reads, Finds}
 use Rattle.lx_ir_terms.proofs.Marks.{Next, next_token}
 use Rattle.lx_ir_terms.proofs.Parts.{Joined, Mapped, pick_finds, next_finds, bind_finds, last_finds, bind_ok, ok_same}
 use Rattle.lx_ir_terms.proofs.Written.{written_found}
+use Rattle.lx_ir_terms.proofs.TypesFound.{third}
 use Rattle.lx_ir_constants.specs.declared.inits.Member.{Member}
 use Rattle.lx_ir_constants.specs.declared.inits.Members.{Members}
 use Rattle.lx_ir_constants.specs.Constants.{begins_expression, expression_at, constant_refusal}
@@ -110,13 +110,6 @@ packed_token : (part : Member → Part) (i : Init) (k : Tok) (ts : List Tok) →
 packed_token part i k ts l (o, (f, b, po, (all, (f2, b2, (ms, p, a), (c, m, e), w2)), w)) =
     inr (inr (ms, (k ∷ [], ts, (k, l, refl), (f, b, po, (f2, b2, p, m, w2), w), refl), ap (λ x. group brackets.Packed x) a ∙ e))
 
-third_mark : (k : Kind) → is_opening k ≡ true → is_mark OpenBracket k ≡ false → is_mark OpenBrace k ≡ false → is_mark Less k ≡ true
-third_mark k o a b = simp (sym o, a, b) refl
-
-pub third : (ts : List Tok) → has is_opening ts ≡ true → has (is_mark OpenBracket) ts ≡ false → has (is_mark OpenBrace) ts ≡ false → has (is_mark Less) ts ≡ true
-third [] o a b = cc
-third (t ∷ ts) o a b = third_mark t.kind o a b
-
 abbrev group_by : Bool → Bool → (List Tok → Read Member) → List Tok → Read Init
 group_by a b member ts =
     if a then (bracketed_at member (behind ts) >>= λ ms. Ok (group brackets.Array ms.0, ms.1))
@@ -139,7 +132,7 @@ group_step member part h false false ts us i o p q e =
     (λ all. last_finds (mark_at Greater) (λ c. group brackets.Packed all) _ (next_finds (is_mark Greater)))) (behind ts) us i e in
     (n.token ∷ w.0, packed_token part i n.token w.0 n.kind w.1, n.whole ∙ ap (λ r. n.token ∷ r) w.2)
 
-abbrev init_by : Bool → Read Init → Read Init → Read Init
+abbrev pub init_by : Bool → Read Init → Read Init → Read Init
 init_by b nested leaf = if b then nested else leaf
 
 shallow : (context : Context) (ty : IrType) (b : Bool) (ts us : List Tok) (i : Init) → init_by b (Err (at OutOfProfile ts)) (leaf_at context zero ty ts) ≡ Ok (i, us) → Found (IsInit context zero ty) i ts us

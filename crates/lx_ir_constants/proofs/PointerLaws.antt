@@ -30,7 +30,7 @@ when_true : (b : Bool) → b ≡ true → when b ≡ Some tt
 when_true true e = refl
 when_true false e = cc
 
-when_some : (b : Bool) (x : Unit {0}) → when b ≡ Some x → b ≡ true
+pub when_some : (b : Bool) (x : Unit {0}) → when b ≡ Some x → b ≡ true
 when_some true x e = refl
 when_some false x e = cc
 

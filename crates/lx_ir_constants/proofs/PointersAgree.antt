@@ -10,6 +10,7 @@ use Rattle.lx_ir_tokens.specs.declared.keyword.InstructionWord.TheVariants.{Conv
 use Rattle.lx_ir_tokens.specs.declared.keyword.Keyword.TheVariants as keywords
 use Rattle.lx_words.specs.declared.word.Width.TheVariants.{W64}
 use Rattle.lx_words.specs.Word.{Word}
+use Rattle.lx_words.proofs.Tests.{if_second, if_neither}
 use Rattle.lx_ir.specs.declared.module.Pointer.{Pointer}
 use Rattle.lx_ir.specs.declared.module.Pointer.TheVariants as pointers
 use Rattle.lx_ir_terms.specs.declared.fault.FaultKind.TheVariants.{OutOfProfile}
@@ -64,21 +65,13 @@ address_finds ts us p g =
 
 -- What begins a pointer.
 
-either : (b c : Bool) → c ≡ true → (if b then true else c) ≡ true
-either true c h = refl
-either false c h = h
-
-neither : (b c : Bool) → (if b then true else c) ≡ true → b ≡ false → c ≡ true
-neither true c h e = cc
-neither false c h e = h
-
 begins_element : (ts : List Tok) → has is_element_word ts ≡ true → has begins_pointer ts ≡ true
 begins_element [] h = cc
 begins_element (t ∷ ts) h = rw h refl
 
 begins_address : (ts : List Tok) → has is_address_word ts ≡ true → has begins_pointer ts ≡ true
 begins_address [] h = cc
-begins_address (t ∷ ts) h = either (is_element_word t.kind) (is_address_word t.kind) h
+begins_address (t ∷ ts) h = if_second (is_element_word t.kind) (is_address_word t.kind) h
 
 address_kind : (k : Kind) → is_address_word k ≡ true → is_element_word k ≡ false
 address_kind (kinds.Word (keywords.Instruction (Conversion IntToPtr))) h = refl
@@ -90,7 +83,7 @@ no_element (t ∷ ts) h = address_kind t.kind h
 
 pub an_address : (ts : List Tok) → has begins_pointer ts ≡ true → has is_element_word ts ≡ false → has is_address_word ts ≡ true
 an_address [] h e = cc
-an_address (t ∷ ts) h e = neither (is_element_word t.kind) (is_address_word t.kind) h e
+an_address (t ∷ ts) h e = if_neither (is_element_word t.kind) (is_address_word t.kind) h e
 
 flat_begins_nothing : (context : Context) (k : Kind) (name : ℕ) (p : Pointer) → flat_pointer_of context k name ≡ Some p → begins_pointer k ≡ false
 flat_begins_nothing context (kinds.Word (keywords.Constant w)) name p e = refl
@@ -160,7 +153,7 @@ flat_finds context depth ts us p g =
 as_pointer : (context : Context) (depth : ℕ) (p : Pointer) (ts us : List Tok) → Found (IsPointerExpression context depth) p ts us → Found (IsPointer context depth) p ts us
 as_pointer context depth p ts us w = (w.0, inr w.1, w.2)
 
-abbrev pointer_by : Bool → Read Pointer → Read Pointer → Read Pointer
+abbrev pub pointer_by : Bool → Read Pointer → Read Pointer → Read Pointer
 pointer_by b nested flat = if b then nested else flat
 
 shallow : (context : Context) (b : Bool) (ts us : List Tok) (p : Pointer) → pointer_by b (Err (at OutOfProfile ts)) (flat_pointer_at context ts) ≡ Ok (p, us) → Found (IsPointer context zero) p ts us

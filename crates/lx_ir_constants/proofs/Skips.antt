@@ -1,8 +1,9 @@
 -- Tokens passed over.
-use Rattle.std.proofs.Common.{◌≡◌, ◌≤◌, ◌<◌, Bool, true, false, List, [], ◌∷◌, length, refl, ap, arith}
+use Rattle.std.proofs.Common.{◌≡◌, ◌≤◌, ◌<◌, Bool, true, false, List, [], ◌∷◌, refl, ap}
 use Rattle.lx_ir_tokens.specs.declared.token.Tok.{Tok}
 use Rattle.lx_ir_tokens.specs.declared.token.Kind.{Kind}
 use Rattle.lx_ir_terms.specs.Reading.{has, behind}
+use Rattle.lx_ir_terms.proofs.Loop.{behind_shorter}
 use Rattle.lx_ir_constants.specs.Constants.{skipped}
 
 pub none_skipped : (p : Kind → Bool) (ts : List Tok) → has p ts ≡ false → skipped p ts ≡ ts
@@ -13,8 +14,4 @@ pub one_skipped : (p : Kind → Bool) (ts : List Tok) → has p ts ≡ true → 
 one_skipped p [] h = cc
 one_skipped p (t ∷ ts) h = rw h refl
 
-pub shorter : (p : Kind → Bool) (ts : List Tok) → has p ts ≡ true → length (behind ts) < length ts
-shorter p [] h = cc
-shorter p (t ∷ ts) h = omega arith
-
-pub ruleset skips = (none_skipped, one_skipped, shorter)
+pub ruleset skips = (none_skipped, one_skipped, behind_shorter)

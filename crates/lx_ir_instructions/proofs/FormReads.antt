@@ -35,7 +35,7 @@ use Rattle.lx_ir_constants.proofs.ValueLaws.{value_again}
 use Rattle.lx_ir_operands.specs.Steps.{has_further, align_at, unbroken_at}
 use Rattle.lx_ir_operands.specs.Operands.{address_at, again_at, argument, cases_at, edge_at, flagged_scalar_at, flagged_type_at, flagged_typed_at, instruction_in, is_label_word, is_truth_word, named_type_refusal, next_label_at, second_at, truth_type_at, typed_at}
 use Rattle.lx_ir_operands.specs.Grammar.{AreInRow, First, Flagged, IsAddress, IsAgain, IsAlign, IsCase, IsEdge, IsLabel, IsLocal, IsNextLabel, IsScalar, IsSecond, IsTyped}
-use Rattle.lx_ir_operands.proofs.FlagLaws.{NoFlag, flagged_reads, flagged_scalar_reads, flagged_truth_reads, flagged_type_reads, flagged_typed_reads, typed_reads}
+use Rattle.lx_ir_operands.proofs.FlagLaws.{NoFlag, flagged_reads, flagged_scalar_reads, flagged_truth_reads, flagged_type_reads, flagged_typed_reads, typed_reads, scalar_no_flag, truth_no_flag}
 use Rattle.lx_ir_operands.proofs.OperandLaws.{address_reads, again_reads, local_reads, next_label_reads, second_reads}
 use Rattle.lx_ir_operands.proofs.ListedLaws.{cases_reads, edges_again, indices_again}
 use Rattle.lx_ir_operands.proofs.PassedLaws.{align_again}
@@ -151,10 +151,6 @@ flagged_result_reads r = flagged_reads (pick_at (λ t. result_in t.kind) passing
 ret_void_reads : (context : Context) → Reads (ret_behind context) (op.Ret None) (Flagged (Picks (λ t. result_in t.kind) None))
 ret_void_reads context ts us i = rw (flagged_result_reads None ts us i) refl
 
-scalar_no_flag : (k : Kind) (ty : Scalar) → scalar_in k ≡ Some ty → is_flag_word k ≡ false
-scalar_no_flag (kinds.Word (keywords.Scalar w)) ty e = refl
-scalar_no_flag k ty e = cc
-
 scalar_result : (k : Kind) (ty : Scalar) → scalar_in k ≡ Some ty → result_in k ≡ Some (Some ty)
 scalar_result (kinds.Word (keywords.Scalar w)) ty e = ap Some e
 scalar_result k ty e = cc
@@ -204,10 +200,6 @@ branch_at_reads : (context : Context) (c : Value) (a b : List ℕ) → Reads (br
 branch_at_reads context c a b ts us (f, r, (t, k, g), i, w) =
     let no_label : has is_label_word (ts ++ us) ≡ false = rw (w, g) (truth_no_label t.kind k) in
     rw no_label (branch_reads context c a b ts us (f, r, (t, k, g), i, w))
-
-truth_no_flag : (k : Kind) → is_truth_word k ≡ true → is_flag_word k ≡ false
-truth_no_flag (kinds.Word keywords.Flag) e = cc
-truth_no_flag k e = refl
 
 br_reads : (context : Context) (c : Value) (a b : List ℕ) → Reads (br_behind context) (op.Branch c a b) (Flagged (Is is_truth_word) then IsValue context (Int W1) c then IsNextLabel context a then IsNextLabel context b)
 br_reads context c a b ts us i =

@@ -9,10 +9,10 @@ use Rattle.lx_ir.specs.declared.module.Symbol.{Symbol}
 use Rattle.lx_ir.specs.declared.module.Symbol.TheVariants as symbol
 use Rattle.lx_ir.specs.Text.{name_at}
 use Rattle.lx_ir_tokens.specs.Names.{number_of}
+use Rattle.lx_ir_tokens.proofs.Numbered.{named}
 use Rattle.lx_ir_terms.specs.Context.{entry}
 use Rattle.lx_ir_tables.specs.Numbering.{has_name, number_from, number_named, numbers_from, table_of, symbol_by, symbols_by}
 use Rattle.lx_ir_lawful.specs.NamedThings.{named_things}
-use Rattle.lx_ir_lawful.proofs.Placed.{name_at_number}
 
 -- Tables.
 
@@ -51,7 +51,7 @@ module _ (names : List (List ℕ)) where
       → (if b then Some j else number_from (suc j) (map (number_of names) ws) n) ≡ Some k → Placed (w ∷ ws) j n k
   placed_by true w ws j n k here rest e =
       let same : j ≡ k = same_Some j k e in
-      (0, omega (arith, same), omega arith, name_at_number names w n (named_is n (number_of names w) here))
+      (0, omega (arith, same), omega arith, named names w n (named_is n (number_of names w) here))
   placed_by false w ws j n k here rest e =
       let (i, place, less, at) = rest e in
       (suc i, omega (arith, place), omega (arith, less), at)

@@ -17,11 +17,11 @@ use Rattle.lx_ir_tokens.specs.declared.read.IrTokens.{IrTokens}
 use Rattle.lx_ir_tokens.specs.Said.{name_said, bytes_said, kind_of, said}
 use Rattle.lx_ir_tokens.specs.Names.{number_of}
 use Rattle.lx_ir_tokens.specs.Reading.{said_at, with_said, names_of, IsTokOf, ReadsAs}
+use Rattle.lx_ir_tokens.proofs.Numbered.{named}
 use Rattle.lx_ir_lawful.specs.NamedThings.{somes, numbers_of, has_numbers}
 use Rattle.lx_ir_lawful.specs.TokenNames.{counted_mark, mark_count}
-use Rattle.lx_ir_lawful.proofs.Placed.{name_at_number}
 
-some_same : (x y : List ℕ) → Some x ≡ Some y → x ≡ y
+pub some_same : (x y : List ℕ) → Some x ≡ Some y → x ≡ y
 some_same x y e = cc e
 
 module _ (names : List (List ℕ)) where
@@ -33,7 +33,7 @@ module _ (names : List (List ℕ)) where
       by : (nat_eq n k ≡ true) ⊎ (list_any (nat_eq n) (numbers_of names said) ≡ true) → (bytes_eq x y || list_any (bytes_eq x) said) ≡ true
       by (inl q) =
           let s : n ≡ k = eqb-true n k q in
-          let same : x ≡ y = some_same x y (sym (name_at_number names x n at) ∙ ap (slice_get names) s ∙ name_at_number names y k e) in
+          let same : x ≡ y = some_same x y (sym (named names x n at) ∙ ap (slice_get names) s ∙ named names y k e) in
           ap (λ b. b || list_any (bytes_eq x) said) ((bytes_eq-Decides x y).1 same)
       by (inr q) = or_right (bytes_eq x y) (list_any (bytes_eq x) said) (rest q)
 
@@ -74,7 +74,7 @@ module _ (names : List (List ℕ)) where
       by : (nat_eq q k ≡ true) ⊎ (list_any (nat_eq q) (numbers_of names said) ≡ true) → q < length names
       by (inl g) =
           let s : q ≡ k = eqb-true q k g in
-          let lt : k < length names = slice_get_within names k y (name_at_number names y k e) in
+          let lt : k < length names = slice_get_within names k y (named names y k e) in
           omega (arith, s, lt)
       by (inr g) = rest g
 

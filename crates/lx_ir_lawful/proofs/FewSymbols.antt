@@ -1,8 +1,7 @@
 -- A module has no more things than its text has bytes.
-use Rattle.std.proofs.Common.{◌≡◌, ℕ, zero, suc, ◌+◌, ◌≤◌, Bool, true, false, not, List, [], ◌∷◌, ◌++◌, length, Option, Some, None, ap, ◌∙◌, subst, arith}
-use Rattle.std.specs.Prelude.{if◌then◌else◌, count_by}
+use Rattle.std.proofs.Common.{◌≡◌, ℕ, zero, suc, ◌+◌, ◌≤◌, Bool, true, false, List, [], ◌∷◌, ◌++◌, length, Option, Some, None, ap, ◌∙◌, subst, arith}
+use Rattle.std.specs.Prelude.{if◌then◌else◌}
 use Rattle.std.proofs.lemmas.List.{length-append}
-use Rattle.std.proofs.lemmas.List.Sums.{length-filter, count_by-le-length}
 use Rattle.std.proofs.lemmas.Slice.Zip.{AllZip-long}
 use Rattle.lx_words.specs.declared.token.TokenRule.{TokenRule}
 use Rattle.lx_words.specs.declared.token.TokenRule.TheVariants.{Ir}
@@ -18,8 +17,9 @@ use Rattle.lx_ir.specs.declared.module.GlobalVar.{GlobalVar}
 use Rattle.lx_ir.specs.declared.module.Function.{Function}
 use Rattle.lx_ir_tokens.specs.declared.token.Tok.{Tok}
 use Rattle.lx_ir_tokens.specs.declared.read.IrTokens.{IrTokens}
-use Rattle.lx_ir_tokens.specs.Lines.{kept_tokens, is_silent, from_line}
+use Rattle.lx_ir_tokens.specs.Lines.{kept_tokens}
 use Rattle.lx_ir_tokens.specs.Reading.{IsTokOf, ReadsAs}
+use Rattle.lx_ir_tokens.proofs.KeptLines.{fewer_kept}
 use Rattle.lx_ir_terms.specs.Context.{Context, bytes_of}
 use Rattle.lx_ir_calls.specs.declared.intrinsics.TextForm.{TextForm}
 use Rattle.lx_ir_statements.specs.declared.form.Statement.{Statement}
@@ -65,19 +65,12 @@ scanned_few : (text : List ℕ) (tokens : List Token) (stop : Option Stop) → S
 scanned_few text tokens None (at, line, r) = reached_few Ir text tokens at line [] r
 scanned_few text tokens (Some stop) (at, more, r, nothing) = reached_few Ir text tokens at stop.line (stop.byte ∷ more) r
 
-kept_few : (text : List ℕ) (tokens : List Token) → length (kept_tokens text tokens) ≤ length tokens
-unfolding kept_tokens
-kept_few text tokens =
-    let some : length (kept_tokens text tokens) ≡ count_by (λ t. not (is_silent text (from_line t.line tokens))) tokens = length-filter (λ t. not (is_silent text (from_line t.line tokens))) tokens in
-    let few = count_by-le-length (λ t. not (is_silent text (from_line t.line tokens))) tokens in
-    omega (arith, some, few)
-
 -- a text has no more tokens than bytes
 pub tokens_few : (text : List ℕ) (ir : IrTokens) → ReadsAs text ir → length ir.toks ≤ length text
 tokens_few text ir reads =
     let long : length ir.toks ≡ length ir.places = AllZip-long (IsTokOf text ir.names) ir.places ir.toks reads.toks in
     let same : length ir.places ≡ length (kept_tokens text reads.tokens) = ap length reads.places in
-    let kept = kept_few text reads.tokens in
+    let kept = fewer_kept text reads.tokens in
     let all = scanned_few text reads.tokens ir.stop reads.scans in
     omega (arith, long, same, kept, all)
 

@@ -30,7 +30,7 @@ use Rattle.lx_ir_read.specs.Grammar.{AreStatements, AddAll, IsModule}
 use Rattle.lx_ir_lawful.proofs.Sizes.{left_there}
 use Rattle.lx_ir_lawful.specs.FunctionLaws.{last_context}
 
-one_more : (p : Function → Bool) (xs : List Function) (x : Function) → list_all p xs ≡ true → p x ≡ true → list_all p (xs ++ x ∷ []) ≡ true
+pub one_more : (p : Function → Bool) (xs : List Function) (x : Function) → list_all p xs ≡ true → p x ≡ true → list_all p (xs ++ x ∷ []) ≡ true
 one_more p xs x h g = list_all-append p xs (x ∷ []) ∙ and_from (list_all p xs) (p x && true) h (and_from (p x) true g refl)
 
 -- the function that is kept of a statement which the first reading found there

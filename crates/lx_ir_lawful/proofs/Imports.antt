@@ -29,6 +29,7 @@ use Rattle.lx_ir_read.specs.Fault.{line_shown}
 use Rattle.lx_ir_read.specs.Reading.{tables_of, full_context}
 use Rattle.lx_ir_read.specs.Grammar.{AddAll, IsModule}
 use Rattle.lx_ir_lawful.specs.OnceLaws.{HasLawfulImports, is_first_or_defined, has_plain_name}
+use Rattle.lx_ir_lawful.proofs.FunctionWalk.{one_more}
 
 -- Names of block writes.
 
@@ -69,9 +70,6 @@ import_is : (name : List ℕ) (ret : Option Scalar) (params : List Scalar) (line
 import_is name ret params line =
     and_from true (is_lawful_import (import_of name ret params line)) refl
     (and_from (list_all (λ p. nat_eq (length p.name) 0) (map nameless params)) true (nameless_all params) refl)
-
-one_more : (p : Function → Bool) (xs : List Function) (x : Function) → list_all p xs ≡ true → p x ≡ true → list_all p (xs ++ x ∷ []) ≡ true
-one_more p xs x h g = list_all-append p xs (x ∷ []) ∙ and_from (list_all p xs) (p x && true) h (and_from (p x) true g refl)
 
 record Apart (d : Draft) : Type 0 where
   imports : list_all is_import d.imports ≡ true

@@ -36,12 +36,9 @@ use Rattle.lx_ir_statements.specs.declared.defined.Defined.{Defined}
 use Rattle.lx_ir_statements.specs.Defined.{nothing_defined, is_block_write}
 use Rattle.lx_ir_statements.specs.Statements.{symbol_name, new_function_name_at, function_behind, statement_by, statement_at}
 use Rattle.lx_ir_statements.specs.Grammar.{IsSymbol, is_declare_word, is_define_word, IsFunction, IsStatement}
+use Rattle.lx_ir_statements.proofs.StatementLaws.{define_is}
 
 -- The first token of a statement.
-
-define_is : (k : Kind) → is_define_word k ≡ true → k ≡ kinds.Word (keywords.Statement words.Define)
-define_is (kinds.Word (keywords.Statement words.Define)) e = refl
-define_is k e = absurd (cc e)
 
 declare_is_not : (k : Kind) → is_declare_word k ≡ true → is_define_word k ≡ false
 declare_is_not (kinds.Word (keywords.Statement words.Declare)) e = refl

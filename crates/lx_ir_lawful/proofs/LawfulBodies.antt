@@ -10,7 +10,6 @@ use Rattle.std.proofs.lemmas.List.Folds.{list_all-append}
 use Rattle.lx_words.specs.declared.token.Token.{Token}
 use Rattle.lx_words.proofs.Tests.{three_true, eq_self, less_true as less_test}
 use Rattle.lx_ir_tokens.specs.declared.token.Tok.{Tok}
-use Rattle.lx_ir_tokens.specs.declared.token.Kind.{Kind}
 use Rattle.lx_ir_tokens.specs.declared.token.Kind.TheVariants as kinds
 use Rattle.lx_ir_tokens.specs.Names.{number_of}
 use Rattle.lx_ir.specs.declared.types.Scalar.{Scalar}
@@ -27,9 +26,9 @@ use Rattle.lx_ir.specs.Operands.{operands_of, operands_where, labels_of, registe
 use Rattle.lx_ir.specs.Lawful.{is_name, is_label, is_distinct, is_lawful_value, is_lawful_op, is_lawful_block, has_form, ends_once, counts_from, register_in, registers_in, numbers_read, first_come, numbers_registers}
 use Rattle.lx_ir_lawful.proofs.LawfulLimits.{lawful}
 use Rattle.lx_ir_terms.specs.Context.{Context, nothing}
-use Rattle.lx_ir_constants.specs.Constants.{is_register}
 use Rattle.lx_ir_calls.specs.declared.intrinsics.TextForm.{TextForm}
 use Rattle.lx_ir_statements.specs.declared.head.Head.{Head}
+use Rattle.lx_ir_statements.proofs.ImportLaws.{register_is}
 use Rattle.lx_ir_tables.specs.Numbering.{numbering, table_of}
 use Rattle.lx_ir_tables.specs.Registers.{with_parameters, with_all_given, with_all_read, registers_of}
 use Rattle.lx_ir_lawful.specs.Tells.{Tells}
@@ -57,7 +56,7 @@ step_le : (b : Bool) (n last : ℕ) (ks : List ℕ) → ((m : ℕ) → first_com
 step_le true n last ks more h = more (suc n) h
 step_le false n last ks more h = more n h
 
-first_come_le : (n last : ℕ) (ks : List ℕ) → first_come n last ks ≡ true → n ≤ last
+pub first_come_le : (n last : ℕ) (ks : List ℕ) → first_come n last ks ≡ true → n ≤ last
 first_come_le n last [] h = let e : n ≡ last = eqb-true n last h in omega (arith, e)
 first_come_le n last (k ∷ ks) h = by (nat_eq k n) (step_le (nat_eq k n) n last ks (λ m g. first_come_le m last ks g) (and_parts (nat_le k n) (first_come (if nat_eq k n then suc n else n) last ks) h).1)
   where
@@ -158,14 +157,9 @@ parameters_added names count [] done = ap (numbering count) (sym (append-nil don
 parameters_added names count (p ∷ ps) done =
     parameters_added names count ps (done ++ number_of names p.name ∷ []) ∙ ap (numbering count) (append_assoc done (number_of names p.name ∷ []) (map (number_of names) (said_by ps)))
 
--- what is told of tokens is told of the names behind `%`
-local_kind : (k : Kind) → is_register k ≡ true → k ≡ kinds.Local
-local_kind kinds.Local h = refl
-local_kind k h = absurd (cc h)
-
 locals_named : (names : List (List ℕ)) (ts : List Tok) → AllByRecursion (IsTokenNamed names) ts → AllNamed (IsNamed names) ts
 locals_named names [] h = tt
-locals_named names (t ∷ ts) h = ((λ e. h.0.local (local_kind t.kind e)), locals_named names ts h.1)
+locals_named names (t ∷ ts) h = ((λ e. h.0.local (register_is t.kind e)), locals_named names ts h.1)
 
 -- Functions.
 

@@ -10,7 +10,7 @@ use Rattle.lx_ir.specs.declared.types.Scalar.TheVariants.{Int, Ptr}
 use Rattle.lx_ir.specs.declared.types.NamedType.{NamedType}
 use Rattle.lx_ir.specs.IrType.{IrType, One, Array, Struct, Packed, Named, IrTypes, none, also}
 use Rattle.lx_ir.specs.Layout.{Layout, layout, scalar_size, beside, padded, layout_in, fields_in, layout_of, layout_of_entry, named_layouts, size_of, unnamed, entry_or, fields_of, list_of_types, is_struct, is_scalar, names_struct, parts_of, is_type_within}
-use Rattle.lx_ir.proofs.Layouts.{same_layout}
+use Rattle.lx_ir.proofs.Layouts.{same_layout, beside_grows, same_struct}
 use Rattle.lx_ir_offsets.specs.Shapes.{Shape, shape, layout_of_shape, with_field, empty_shape, shape_of, fields_shape, named_shapes, is_past_limits, is_outside, is_inside, are_inside}
 use Rattle.lx_ir_lawful.specs.LimitLaws.{are_written_inside}
 use Rattle.lx_ir_lawful.proofs.StableLimits.{before_nests, field_nests, inner_nests, names_of}
@@ -40,10 +40,6 @@ kept x h = omega arith
 
 kept_is : (x : ℕ) → min x 4294967297 ≤ 4294967296 → min x 4294967297 ≡ x
 kept_is x h = omega arith
-
-beside_grows : (packed : Bool) (a b : Layout) → a.size ≤ (beside packed a b).size
-beside_grows true a b = omega arith
-beside_grows false a b = omega (arith, next_above a.size b.align)
 
 -- the fields before are no larger
 before_small : (shapes : List Shape) (packed : Bool) (ts : IrTypes) (s : Shape) → (fields_shape shapes packed ts s).size ≤ 4294967296 → s.size ≤ 4294967296
@@ -110,19 +106,6 @@ module _ (types : List NamedType) (n : ℕ) (few : n ≤ 64)
   struct_lies (Named k) e h d few' = absurd (cc e)
 
 -- The same layout through 63 names as through 64.
-
-same_fields : (a b : ℕ → Layout) (ok : IrType → Bool) → ((t : IrType) → ok t ≡ true → layout_in a t ≡ layout_in b t) → (packed : Bool) (ts : IrTypes) (laid : Layout) → list_all ok (list_of_types ts) ≡ true → fields_in a packed ts laid ≡ fields_in b packed ts laid
-same_fields a b ok same packed none laid h = refl
-same_fields a b ok same packed (also t ts) laid h =
-    let p = and_parts (ok t) (list_all ok (list_of_types ts)) h in
-    ap (λ l. fields_in a packed ts (beside packed laid l)) (same t p.0) ∙ same_fields a b ok same packed ts (beside packed laid (layout_in b t)) p.1
-
-same_struct : (a b : ℕ → Layout) (ok : IrType → Bool) → ((t : IrType) → ok t ≡ true → layout_in a t ≡ layout_in b t) → (t : IrType) → is_struct t ≡ true → list_all ok (fields_of t) ≡ true → layout_in a t ≡ layout_in b t
-same_struct a b ok same (One s) e h = absurd (cc e)
-same_struct a b ok same (Array n t) e h = absurd (cc e)
-same_struct a b ok same (Struct ts) e h = ap padded (same_fields a b ok same false ts (layout 0 1) h)
-same_struct a b ok same (Packed ts) e h = same_fields a b ok same true ts (layout 0 1) h
-same_struct a b ok same (Named k) e h = absurd (cc e)
 
 -- Types.
 

@@ -17,7 +17,7 @@ use Rattle.lx_ir_read.specs.Fault.{name_at}
 use Rattle.lx_ir_read.specs.Reading.{is_own, is_early, first_early}
 use Rattle.lx_ir_lawful.proofs.SymbolThings.{global_is, AllGlobals}
 
-taken_whole : (ts : List Tok) → take (length ts) ts ≡ ts
+pub taken_whole : (ts : List Tok) → take (length ts) ts ≡ ts
 taken_whole [] = refl
 taken_whole (t ∷ ts) = ap (λ us. t ∷ us) (taken_whole ts)
 

@@ -13,6 +13,7 @@ use Rattle.lx_ir.specs.declared.module.Module.{Module}
 use Rattle.lx_ir.specs.Lawful.{is_lawful_body}
 use Rattle.lx_ir_tokens.specs.declared.token.Tok.{Tok}
 use Rattle.lx_ir_tokens.specs.Names.{number_of}
+use Rattle.lx_ir_tokens.proofs.Numbered.{named as name_at_number}
 use Rattle.lx_ir_terms.specs.Context.{Context, nothing, bytes_of}
 use Rattle.lx_ir_calls.specs.declared.intrinsics.TextForm.{TextForm}
 use Rattle.lx_ir_statements.specs.declared.form.Statement.{Statement}
@@ -30,7 +31,6 @@ use Rattle.lx_ir_lawful.specs.Tells.{Tells}
 use Rattle.lx_ir_lawful.specs.Said.{Names}
 use Rattle.lx_ir_lawful.specs.NamedThings.{has_numbers, named_things, AreOnce}
 use Rattle.lx_ir_lawful.specs.TokenNames.{mark_count, IsTokenNamed}
-use Rattle.lx_ir_lawful.proofs.Placed.{name_at_number}
 use Rattle.lx_ir_lawful.specs.BodyLaws.{said_by, ReadBody, LawfulBody}
 use Rattle.lx_ir_lawful.proofs.LawfulBodies.{body_lawful}
 use Rattle.lx_ir_lawful.proofs.Once.{dropped}

@@ -12,7 +12,7 @@ use Rattle.lx_ir_lawful.specs.Alike.{knowing_registers, AlikeRegisters}
 abbrev pub unknown : List (List ℕ) → Context
 unknown names = knowing_registers names (own_numbers 0 (length names))
 
-own_at : (s c i : ℕ) → i < c → slice_get (own_numbers s c) i ≡ Some (Some (s + i))
+pub own_at : (s c i : ℕ) → i < c → slice_get (own_numbers s c) i ≡ Some (Some (s + i))
 own_at s zero i lt = absurd (omega arith)
 own_at s (suc c) zero lt = let e : s ≡ s + 0 = omega arith in ap (λ n. Some (Some n)) e
 own_at s (suc c) (suc i) lt =
@@ -23,7 +23,7 @@ length_own : (s c : ℕ) → length (own_numbers s c) ≡ c
 length_own s zero = refl
 length_own s (suc c) = ap suc (length_own (suc s) c)
 
-entry_from : (s c i : ℕ) (things : List (Option ℕ)) → i < c → slice_get (numbers_from s c things) i ≡ Some (number_named things (s + i))
+pub entry_from : (s c i : ℕ) (things : List (Option ℕ)) → i < c → slice_get (numbers_from s c things) i ≡ Some (number_named things (s + i))
 entry_from s zero i things lt = absurd (omega arith)
 entry_from s (suc c) zero things lt = let here : s ≡ s + 0 = omega arith in ap (λ n. Some (number_named things n)) here
 entry_from s (suc c) (suc i) things lt =

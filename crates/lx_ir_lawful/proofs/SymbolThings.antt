@@ -23,8 +23,9 @@ use Rattle.lx_ir_statements.specs.HeadGrammar.{IsResultWord, IsResult}
 use Rattle.lx_ir_statements.specs.declared.form.Statement.{Statement}
 use Rattle.lx_ir_statements.specs.declared.form.Statement.TheVariants as statements
 use Rattle.lx_ir_statements.specs.declared.defined.Defined.{Defined}
-use Rattle.lx_ir_statements.specs.Statements.{symbol_name}
 use Rattle.lx_ir_statements.specs.Grammar.{is_declare_word, is_define_word, IsSymbol, IsStatement}
+use Rattle.lx_ir_statements.proofs.StatementLaws.{declare_is, define_is}
+use Rattle.lx_ir_lawful.proofs.SymbolsOnce.{symbol_is}
 
 -- a global, an import or a function of this name, or nothing behind `@`
 pub data Thing : Type 0 where
@@ -127,10 +128,6 @@ behind_free (t ∷ f) b h = ap (λ v. if v then Some t.name else first_global (f
 goes_over : (f b ts back : List Tok) → AllByRecursion (λ t. is_global t.kind ≡ false) f → ts ≡ f ++ b → first_global (ts ++ back) ≡ first_global (b ++ back)
 goes_over f b ts back free w = ap (λ v. first_global (v ++ back)) w ∙ ap first_global (append_assoc f b back) ∙ behind_free f (b ++ back) free
 
-symbol_is : (k : Kind) (n name : ℕ) → symbol_name k n ≡ Some name → (k ≡ kinds.Global) × (n ≡ name)
-symbol_is kinds.Global n name e = let s : n ≡ name = cc in (refl, s)
-symbol_is k n name e = absurd (cc e)
-
 said : (name : ℕ) (f b ts back : List Tok) → IsSymbol name f → ts ≡ f ++ b → first_global (ts ++ back) ≡ Some name
 said name f b ts back (t, e, g) w =
     let is = symbol_is t.kind t.name name e in
@@ -150,14 +147,6 @@ begins_before t f b ts rest whole back k o e w g same first = begins t f (b ++ r
 local_is : (k : Kind) (n name : ℕ) → local_name k n ≡ Some name → k ≡ kinds.Local
 local_is kinds.Local n name e = refl
 local_is k n name e = absurd (cc e)
-
-declare_is : (k : Kind) → is_declare_word k ≡ true → k ≡ kinds.Word (keywords.Statement words.Declare)
-declare_is (kinds.Word (keywords.Statement words.Declare)) e = refl
-declare_is k e = absurd (cc e)
-
-define_is : (k : Kind) → is_define_word k ≡ true → k ≡ kinds.Word (keywords.Statement words.Define)
-define_is (kinds.Word (keywords.Statement words.Define)) e = refl
-define_is k e = absurd (cc e)
 
 -- The tokens of a statement tell which thing it defines, by whatever context they are read.
 pub told_by_tokens : (c : Context) (form : TextForm) (places : List Token) (defined : Defined) (s : Statement) (ts us back : List Tok) → IsStatement c form places defined s ts us → thing_at (ts ++ back) ≡ thing_of s

@@ -88,7 +88,7 @@ new_number : (ns : List ℕ) (n : ℕ) → has_number (ns ++ n ∷ []) n ≡ tru
 new_number [] n = ap (λ b. b || false) (eq_self n)
 new_number (m ∷ ns) n = or_right (nat_eq n m) (has_number (ns ++ n ∷ []) n) (new_number ns n)
 
-symbol_is : (k : Kind) (n name : ℕ) → symbol_name k n ≡ Some name → (k ≡ kinds.Global) × (n ≡ name)
+pub symbol_is : (k : Kind) (n name : ℕ) → symbol_name k n ≡ Some name → (k ≡ kinds.Global) × (n ≡ name)
 symbol_is kinds.Global n name e = let s : n ≡ name = cc in (refl, s)
 symbol_is k n name e = absurd (cc e)
 

@@ -1,24 +1,13 @@
 -- A field is less deep than its struct.
-use Rattle.std.proofs.Common.{◌≡◌, ℕ, zero, suc, ◌<◌, List, [], ◌∷◌, length, get_or, ap, ◌∙◌, ◌≤◌, refl, slice_get, Option, Some, None, sym, arith}
+use Rattle.std.proofs.Common.{◌≡◌, ℕ, ◌<◌, List, [], ◌∷◌, length, get_or, ap, ◌∙◌, ◌≤◌, refl, slice_get, Option, Some, None, sym}
 use Rattle.lx_words.specs.Word.{Word}
 use Rattle.lx_ir.specs.Fitting.{◌>>?◌}
 use Rattle.lx_ir_offsets.specs.Offsets.{field_number, field_type}
-use Rattle.lx_ir.specs.IrType.{IrType, depth, depths}
+use Rattle.lx_ir.specs.IrType.{IrType}
 use Rattle.lx_ir.specs.TypeNodes.{types_of_list}
 use Rattle.lx_ir.specs.Layout.{list_of_types}
 use Rattle.std.proofs.lemmas.Option.{slice_get_past, slice_get_read}
-
-depth_at : (ts : List IrType) (i : ℕ) (d : IrType) → i < length ts → depth (get_or ts i d) < depths (types_of_list ts)
-depth_at [] i d h = omega arith
-depth_at (t ∷ ts) zero d h = omega arith
-depth_at (t ∷ ts) (suc i) d h = let r : depth (get_or ts i d) < depths (types_of_list ts) = depth_at ts i d (omega arith) in omega arith
-
-pub depth_of_item : (ts : List IrType) (i : ℕ) (x : IrType) → i < length ts → x ≡ get_or ts i x → depth x < depths (types_of_list ts)
-depth_of_item ts i x h e = let a : depth (get_or ts i x) < depths (types_of_list ts) = depth_at ts i x h in let k : depth x ≡ depth (get_or ts i x) = ap depth e in omega arith
-
-list_back : (ts : List IrType) → list_of_types (types_of_list ts) ≡ ts
-list_back [] = refl
-list_back (t ∷ ts) = ap (λ us. t ∷ us) (list_back ts)
+use Rattle.lx_ir.proofs.Layouts.{list_back}
 
 -- a field by its number
 pub field_here : (ts : List IrType) (k : ℕ) (x : IrType) → k < length ts → x ≡ get_or ts k x → slice_get (list_of_types (types_of_list ts)) k ≡ Some x

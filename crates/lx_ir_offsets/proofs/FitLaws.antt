@@ -10,7 +10,7 @@ some_bind : {A B : Type 0} (o : Option A) (f : A → Option B) (y : B) → (o >>
 some_bind (Some x) f y e = (x, refl, e)
 some_bind None f y e = cc
 
-within : (b : Bool) (l m : Layout) → (if b then Some l else None) ≡ Some m → m ≡ l
+pub within : (b : Bool) (l m : Layout) → (if b then Some l else None) ≡ Some m → m ≡ l
 within true l m e = let s : l ≡ m = cc in sym s
 within false l m e = cc
 

@@ -17,14 +17,11 @@ use Rattle.lx_ir_offsets.specs.Offsets as offsets
 use Rattle.lx_ir_offsets.specs.Laws.{AreThese, FitsAreLayouts}
 use Rattle.lx_ir_offsets.specs.DistanceLaws.{CountFields, CountParts}
 use Rattle.lx_ir_offsets.proofs.Moduli.{modulo_below, modulo_sum, modulo_product}
+use Rattle.lx_ir_offsets.proofs.FitLaws.{within}
 
 some_bind : {A B : Type 0} (o : Option A) (f : A → Option B) (y : B) → (o >>? f) ≡ Some y → (x : A) × (o ≡ Some x) × (f x ≡ Some y)
 some_bind (Some x) f y e = (x, refl, e)
 some_bind None f y e = cc
-
-within : (b : Bool) (l m : Layout) → (if b then Some l else None) ≡ Some m → m ≡ l
-within true l m e = let s : l ≡ m = cc in sym s
-within false l m e = cc
 
 abbrev begins : ℕ → IrType → Part
 begins n t = record { offset = pos n; ty = t }

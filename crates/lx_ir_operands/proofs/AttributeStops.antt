@@ -14,7 +14,7 @@ use Rattle.lx_ir_terms.specs.Reading.{Read, ◌>>=◌, at, has, is_mark, picked}
 use Rattle.lx_ir_terms.specs.Words.{count_over}
 use Rattle.lx_ir_terms.specs.Laws.{Stops}
 use Rattle.lx_ir_terms.proofs.Marks.{mark_is}
-use Rattle.lx_ir_terms.proofs.Stopping.{next_stops, first_same}
+use Rattle.lx_ir_terms.proofs.Stopping.{next_stops, first_same, same_head}
 use Rattle.lx_ir_constants.specs.Constants.{word_refusal}
 use Rattle.lx_ir_operands.specs.Steps.{steps_at, may_be_label, has_attribute, is_idle_word, is_text, attribute_in, attribute_tail, one_attribute_at, attributes_at}
 use Rattle.lx_ir_operands.specs.Grammar.{IsAttribute}
@@ -85,9 +85,6 @@ word_reads t us w k a =
 
 word_refused : (t : Tok) (us : List Tok) → is_mark Hash t.kind ≡ false → attribute_in t.kind ≡ None → one_attribute_at (t ∷ us) ≡ Err (at (word_refusal t.kind) (t ∷ us))
 word_refused t us h a = rw (h, a) refl
-
-same_head : (t u : Tok) (ts us : List Tok) → t ∷ ts ≡ u ∷ us → t ≡ u
-same_head t u ts us e = cc
 
 word_stops : (t : Tok) (ts : List Tok) (f : Fault) (w : Keyword) (found : Option Keyword) → t.kind ≡ kinds.Word w → is_idle_word t.kind ≡ true → Behind ts → attribute_in t.kind ≡ found → (picked found (word_refusal t.kind) (t ∷ ts) >>= λ v. attribute_tail v.0 v.1) ≡ Err f → Guarded (t ∷ ts) f
 word_stops t ts f w None k i b a e =

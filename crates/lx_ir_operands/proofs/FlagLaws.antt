@@ -49,7 +49,7 @@ flagged_finds read part h ts us x e =
 
 -- Types behind flags.
 
-scalar_no_flag : (k : Kind) (ty : Scalar) → scalar_in k ≡ Some ty → is_flag_word k ≡ false
+pub scalar_no_flag : (k : Kind) (ty : Scalar) → scalar_in k ≡ Some ty → is_flag_word k ≡ false
 scalar_no_flag (kinds.Word (keywords.Scalar w)) ty e = refl
 scalar_no_flag k ty e = cc
 
@@ -62,7 +62,7 @@ flagged_scalar_reads ty = flagged_reads (pick_at (λ t. scalar_in t.kind) passin
 pub flagged_scalar_finds : Finds flagged_scalar_at (λ ty. Flagged (IsScalar ty))
 flagged_scalar_finds = flagged_finds (pick_at (λ t. scalar_in t.kind) passing.word_refusal) IsScalar (pick_finds (λ t. scalar_in t.kind) passing.word_refusal)
 
-truth_no_flag : (k : Kind) → is_truth_word k ≡ true → is_flag_word k ≡ false
+pub truth_no_flag : (k : Kind) → is_truth_word k ≡ true → is_flag_word k ≡ false
 truth_no_flag (kinds.Word (keywords.Scalar w)) h = refl
 truth_no_flag k h = cc
 

@@ -77,7 +77,7 @@ edges_found context ty = unbroken_found (edge_at context ty) (IsEdge context ty)
 
 -- Indices.
 
-scalar_no_mark : (m : Mark) (k : Kind) (ty : Scalar) → scalar_in k ≡ Some ty → is_mark m k ≡ false
+pub scalar_no_mark : (m : Mark) (k : Kind) (ty : Scalar) → scalar_in k ≡ Some ty → is_mark m k ≡ false
 scalar_no_mark m (kinds.Word w) ty e = refl
 scalar_no_mark m k ty e = cc
 

@@ -24,6 +24,7 @@ use Rattle.lx_ir_terms.proofs.Stopping.{Refuses, pick_stops, next_stops, bind_st
 use Rattle.lx_ir_constants.specs.Constants.{when, word_refusal}
 use Rattle.lx_ir_constants.proofs.ConstantStops.{form_stops}
 use Rattle.lx_ir_constants.proofs.PointerLaws.{form_reads, form_finds}
+use Rattle.lx_ir_constants.proofs.InitStops.{same_stops}
 use Rattle.lx_ir_operands.specs.Steps.{steps_at, items_while, has_further, unbroken_at, is_metadata_name, one_metadata_at, has_comma, metadata_at, is_align, one_align_at, align_at}
 use Rattle.lx_ir_operands.specs.Operands.{typed_at, edge_at, case_at, has_case, some_cases_at, cases_at}
 use Rattle.lx_ir_operands.specs.Grammar.{IsMetadata, IsPassed, IsTyped, IsEdge, IsCase}
@@ -143,10 +144,6 @@ row_stops go step part through finds stops ts f e =
       left = s.left;
       again = λ t more us c. s.again (length (s.front ++ t ∷ us)) t more us c (omega arith);
     }
-
--- the same rule, written otherwise
-same_stops : {A : Type 0} (read r : List Tok → Read A) → ((vs : List Tok) → read vs ≡ r vs) → (ts : List Tok) (f : Fault) → Stops r ts f → Stops read ts f
-same_stops read r h ts f s = record { front = s.front; rest = s.rest; whole = s.whole; left = s.left; again = λ t more us c. h (s.front ++ t ∷ us) ∙ s.again t more us c }
 
 -- Lists with commas, up to metadata.
 

@@ -39,7 +39,7 @@ address_finds context =
     (λ x. then_finds (form_type_at is_pointer_word) (λ w. value_at context Ptr w.1) _ _ (form_finds is_pointer_word refusal) (λ y. value_found context Ptr))
 
 -- what is kept of an operand, where the form wrote this type before
-abbrev kept : Scalar → Argument → Value
+abbrev pub kept : Scalar → Argument → Value
 kept ty a = kept_value ty a.ty a.value
 
 pub again_reads : (context : Context) (ty : Scalar) (b : Value) → Reads (again_at context ty) b (IsAgain context ty b)

@@ -30,9 +30,9 @@ use Rattle.lx_ir_constants.proofs.ConstantLaws.{constant_again, constant_found}
 use Rattle.lx_ir_constants.proofs.ConstantStops.{flagged_stops, form_stops, too_deep, constant_stops, value_stops}
 use Rattle.lx_ir_constants.proofs.PointerLaws.{form_reads, form_finds}
 use Rattle.lx_ir_constants.proofs.ValueLaws.{value_again, value_found}
-use Rattle.lx_ir_operands.specs.Operands.{argument, flagged_scalar_at, is_stray_at_type, strict_type_at, flagged_type_at, is_truth_word, named_type_refusal, truth_type_at, typed_at, flagged_typed_at, second_at, address_at, kept_constant, kept_value, again_at, is_label_word, local_in, local_at, label_at, next_label_at, edge_at, case_at}
+use Rattle.lx_ir_operands.specs.Operands.{argument, flagged_scalar_at, is_stray_at_type, strict_type_at, flagged_type_at, is_truth_word, named_type_refusal, truth_type_at, typed_at, flagged_typed_at, second_at, address_at, kept_constant, again_at, is_label_word, local_in, local_at, label_at, next_label_at, edge_at, case_at}
 use Rattle.lx_ir_operands.specs.Grammar.{IsScalar, IsLocal}
-use Rattle.lx_ir_operands.proofs.OperandLaws.{local_reads, local_finds}
+use Rattle.lx_ir_operands.proofs.OperandLaws.{local_reads, local_finds, kept}
 
 -- Types behind flags.
 
@@ -81,10 +81,6 @@ address_stops context free =
     bind_stops (mark_at Comma) (λ c. form_type_at is_pointer_word c.1 >>= λ w. value_at context Ptr w.1) _ (λ x. next_reads (is_mark Comma)) (next_finds (is_mark Comma)) (next_stops (is_mark Comma))
     (λ c. bind_stops (form_type_at is_pointer_word) (λ w. value_at context Ptr w.1) _ (λ x. form_reads is_pointer_word refusal) (form_finds is_pointer_word refusal) (form_stops is_pointer_word refusal)
     (λ w. value_stops context free Ptr))
-
--- what is kept of an operand, where the form wrote this type before
-abbrev kept : Scalar → Argument → Value
-kept ty a = kept_value ty a.ty a.value
 
 pub again_stops : (context : Context) (free : context.limits ≡ None) (ty : Scalar) → Refuses (again_at context ty)
 again_stops context free ty =

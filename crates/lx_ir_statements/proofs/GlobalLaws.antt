@@ -24,6 +24,7 @@ use Rattle.lx_ir_constants.specs.Inits.{init_at}
 use Rattle.lx_ir_constants.specs.InitGrammar.{IsInit}
 use Rattle.lx_ir_constants.proofs.InitLaws.{init_again}
 use Rattle.lx_ir_constants.proofs.InitsFound.{init_found}
+use Rattle.lx_ir_constants.proofs.PointerLaws.{when_some}
 use Rattle.lx_ir_operands.specs.Steps.{is_align, one_align_at}
 use Rattle.lx_ir_operands.specs.Grammar.{IsCount, IsAlign}
 use Rattle.lx_ir_statements.specs.Numbers.{has_number, has_some}
@@ -43,7 +44,7 @@ symbol_reads name ts us (t, e, g) = rw (g, e) refl
 pub new_symbol_reads : (defined : Defined) (name : ℕ) → has_number defined.symbols name ≡ false → Reads (new_symbol_at defined) name (IsSymbol name)
 new_symbol_reads defined name new ts us (t, e, g) = rw (g, e, new) refl
 
-abbrev unless : {A : Type 0} → Bool → Read A → Read A → Read A
+abbrev pub unless : {A : Type 0} → Bool → Read A → Read A → Read A
 unless b other read = if b then other else read
 
 -- a name that was found is new
@@ -64,7 +65,7 @@ new_symbol_found defined ts us name e = new_found_by defined (has_some defined.s
 
 -- Globals.
 
-storage_no_linkage : (k : Kind) (constant : Bool) → storage_in k ≡ Some constant → is_linkage_word k ≡ false
+pub storage_no_linkage : (k : Kind) (constant : Bool) → storage_in k ≡ Some constant → is_linkage_word k ≡ false
 storage_no_linkage (kinds.Word (keywords.Statement w)) constant e = refl
 storage_no_linkage k constant e = cc
 
@@ -107,16 +108,12 @@ count_finds ts us x e =
     let w = pick_finds (λ t. count_in t.kind) always_refused ts a.0.1 a.0.0 a.1 in
     (w.0, (a.0.0, w.1), w.2 ∙ ap (λ r. w.0 ++ r) (ok_same tt x a.0.1 us a.2).1)
 
-when_true : (b : Bool) (x : Unit {0}) → when b ≡ Some x → b ≡ true
-when_true true x e = refl
-when_true false x e = cc
-
 one_align_finds : Finds one_align_at (λ (x : Unit {0}). Is is_align then IsCount)
 one_align_finds ts us x e =
     let a = bind_ok (pick_at (λ t. when (is_align t.kind)) word_refusal ts) (λ a. count_over a.1) (x, us) e in
     let w = pick_finds (λ t. when (is_align t.kind)) word_refusal ts a.0.1 a.0.0 a.1 in
     let n = count_finds a.0.1 us x a.2 in
-    (w.0 ++ n.0, (w.0, n.0, (w.1.0, when_true (is_align w.1.0.kind) a.0.0 w.1.1, w.1.2), n.1, refl), w.2 ∙ ap (λ r. w.0 ++ r) n.2 ∙ sym (append_assoc w.0 n.0 us))
+    (w.0 ++ n.0, (w.0, n.0, (w.1.0, when_some (is_align w.1.0.kind) a.0.0 w.1.1, w.1.2), n.1, refl), w.2 ∙ ap (λ r. w.0 ++ r) n.2 ∙ sym (append_assoc w.0 n.0 us))
 
 abbrev align_by : Bool → List Tok → Read (Unit {0})
 align_by b ts = if b then one_align_at (behind ts) else Ok (tt, ts)

@@ -45,7 +45,7 @@ ends_no_name : (us : List Tok) → has ends_parameter us ≡ true → (has is_an
 ends_no_name [] e = cc
 ends_no_name (u ∷ us) e = end_no_name u.kind e
 
-register_is : (k : Kind) → is_register k ≡ true → k ≡ kinds.Local
+pub register_is : (k : Kind) → is_register k ≡ true → k ≡ kinds.Local
 register_is kinds.Local e = refl
 register_is k e = cc
 

@@ -72,11 +72,11 @@ follow_no_word (t ∷ us) e = begins_no_word t.kind e
 
 -- Words.
 
-declare_is : (k : Kind) → is_declare_word k ≡ true → k ≡ kinds.Word (keywords.Statement words.Declare)
+pub declare_is : (k : Kind) → is_declare_word k ≡ true → k ≡ kinds.Word (keywords.Statement words.Declare)
 declare_is (kinds.Word (keywords.Statement words.Declare)) e = refl
 declare_is k e = cc
 
-define_is : (k : Kind) → is_define_word k ≡ true → k ≡ kinds.Word (keywords.Statement words.Define)
+pub define_is : (k : Kind) → is_define_word k ≡ true → k ≡ kinds.Word (keywords.Statement words.Define)
 define_is (kinds.Word (keywords.Statement words.Define)) e = refl
 define_is k e = cc
 

@@ -22,6 +22,7 @@ use Rattle.lx_ir_terms.specs.Grammar.{Part, Picks, Is, IsMark, ◌then◌, IsTyp
 use Rattle.lx_ir_terms.proofs.Marks.{mark_is}
 use Rattle.lx_ir_terms.proofs.Parts.{pick_finds, next_finds, bind_ok, ok_same}
 use Rattle.lx_ir_terms.proofs.Written.{written_found}
+use Rattle.lx_ir_terms.proofs.Stopping.{same_head}
 use Rattle.lx_ir_constants.specs.Constants.{first_name}
 use Rattle.lx_ir_calls.specs.declared.intrinsics.TextForm.{TextForm}
 use Rattle.lx_ir_operands.specs.Grammar.{Repeated, IsAttribute}
@@ -44,7 +45,7 @@ use Rattle.lx_ir_statements.specs.declared.defined.Defined.{Defined}
 use Rattle.lx_ir_statements.specs.Defined.{is_block_write, is_imported_twice, names_block_write}
 use Rattle.lx_ir_statements.specs.Statements.{is_type_word, opens_struct, refused_here, struct_at, new_type_at, type_statement_at, symbol_name, next_symbol, symbol_at, import_name_at, new_function_name_at, global_at, import_behind, function_behind, statement_by, statement_at}
 use Rattle.lx_ir_statements.specs.Grammar.{IsTypeName, IsStruct, IsNewType, IsSymbol, is_declare_word, is_define_word, IsImport, IsOpening, IsFunction, IsStatement}
-use Rattle.lx_ir_statements.proofs.GlobalLaws.{next_is, global_found}
+use Rattle.lx_ir_statements.proofs.GlobalLaws.{next_is, global_found, unless}
 
 -- Types with names.
 
@@ -61,9 +62,6 @@ flat_local context kinds.Text n s g e = cc
 flat_local context kinds.Bytes n s g e = cc
 flat_local context (kinds.Mark m) n s g e = cc
 
-first_same : (t u : Tok) (ts us : List Tok) → t ∷ ts ≡ u ∷ us → t ≡ u
-first_same t u ts us e = cc
-
 no_mark : (m : Mark) (k : Kind) → is_mark m k ≡ true → k ≡ kinds.Local → ⊥
 no_mark m k o e = let h : kinds.Mark m ≡ kinds.Local = sym (mark_is m k o) ∙ e in cc
 
@@ -76,14 +74,14 @@ record OnlyName (ty : IrType) (front : List Tok) (t : Tok) : Type 0 where
 opened_elsewhere : (m : Mark) (u t : Tok) (f b front rest ts : List Tok) → is_mark m u.kind ≡ true → t.kind ≡ kinds.Local → f ≡ u ∷ [] → front ≡ f ++ b → t ∷ ts ≡ front ++ rest → ⊥
 opened_elsewhere m u t f b front rest ts o l g w e =
     let whole : t ∷ ts ≡ u ∷ (b ++ rest) = e ∙ rw (w, g) refl in
-    no_mark m u.kind o (ap (λ x. x.kind) (sym (first_same t u ts (b ++ rest) whole)) ∙ l)
+    no_mark m u.kind o (ap (λ x. x.kind) (sym (same_head t u ts (b ++ rest) whole)) ∙ l)
 
 only_name : (context : Context) (ty : IrType) (depth : ℕ) (front rest ts : List Tok) (t : Tok) → t.kind ≡ kinds.Local → IsType context ty depth front → t ∷ ts ≡ front ++ rest → OnlyName ty front t
 only_name context (One s) depth front rest ts t l (u, e, g) w =
-    let same = first_same t u ts rest (w ∙ rw g refl) in
+    let same = same_head t u ts rest (w ∙ rw g refl) in
     absurd (flat_local context u.kind u.name s (ap (λ x. x.kind) (sym same) ∙ l) e)
 only_name context (Named k) depth front rest ts t l (u, e, g) w =
-    let same = first_same t u ts rest (w ∙ rw g refl) in
+    let same = same_head t u ts rest (w ∙ rw g refl) in
     record { number = k; is = refl; alone = g ∙ ap (λ x. x ∷ []) (sym same) }
 only_name context (Array n ty) zero front rest ts t l e w = absurd e
 only_name context (Array n ty) (suc depth) front rest ts t l (f, b, (u, o, g), r, v) w = absurd (opened_elsewhere OpenBracket u t f b front rest ts o l g v w)
@@ -165,9 +163,6 @@ new_type_found context t ts us s l e =
     let e2 = q'.2 ∙ ap (λ r. q'.0 ++ r) e3 ∙ sym (append_assoc q'.0 (w'.0 ++ b'.0) b.0.1) in
     let e1 = n'.2 ∙ ap (λ r. n'.0 ++ r) e2 ∙ sym (append_assoc n'.0 (q'.0 ++ (w'.0 ++ b'.0)) b.0.1) in
     (b.0.0, n'.0 ++ (q'.0 ++ (w'.0 ++ b'.0)), (n'.0, q'.0 ++ (w'.0 ++ b'.0), n'.1, (q'.0, w'.0 ++ b'.0, q'.1, (w'.0, b'.0, w'.1, b'.1, refl), refl), refl), l'.0, e1 ∙ ap (λ r. (n'.0 ++ (q'.0 ++ (w'.0 ++ b'.0))) ++ r) l'.1)
-
-abbrev unless : {A : Type 0} → Bool → Read A → Read A → Read A
-unless b other read = if b then other else read
 
 module _ (context : Context) (form : TextForm) (places : List Token) (defined : Defined) where
   abbrev Found : Statement → List Tok → List Tok → Type 0

@@ -17,7 +17,7 @@ use Rattle.lx_ir_terms.proofs.Marks.{Next, next_token}
 abbrev pub Refuses : {A : Type 0} → (List Tok → Read A) → Type 0
 Refuses read = (ts : List Tok) (f : Fault) → read ts ≡ Err f → Stops read ts f
 
-same_head : (t u : Tok) (ts us : List Tok) → t ∷ ts ≡ u ∷ us → t ≡ u
+pub same_head : (t u : Tok) (ts us : List Tok) → t ∷ ts ≡ u ∷ us → t ≡ u
 same_head t u ts us e = cc
 
 no_head : (u : Tok) (us : List Tok) → [] ≡ u ∷ us → ⊥

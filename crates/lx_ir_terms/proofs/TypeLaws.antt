@@ -34,7 +34,7 @@ unfolding type_at
 flat_again context t zero ts us (k, e, f) = rw (f, (flat_opens_nothing context k.kind k.name t e).0, e) refl
 flat_again context t (suc depth) ts us (k, e, f) = rw (f, (flat_opens_nothing context k.kind k.name t e).0, e) refl
 
-opens : (m : Mark) (ts : List Tok) → is_opening (kinds.Mark m) ≡ true → has (is_mark m) ts ≡ true → has is_opening ts ≡ true
+pub opens : (m : Mark) (ts : List Tok) → is_opening (kinds.Mark m) ≡ true → has (is_mark m) ts ≡ true → has is_opening ts ≡ true
 opens m [] o h = cc
 opens m (t ∷ ts) o h = ap is_opening (mark_is m t.kind h) ∙ o
 

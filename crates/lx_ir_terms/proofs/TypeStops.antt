@@ -1,12 +1,11 @@
 -- A token at which the reading of a type stops cannot stand there.
-use Rattle.std.proofs.Common.{◌≡◌, ℕ, zero, suc, Bool, true, false, List, [], ◌∷◌, ◌++◌, Result, Ok, Err, refl, sym, ap, ◌∙◌, subst}
+use Rattle.std.proofs.Common.{◌≡◌, ℕ, zero, suc, Bool, true, false, List, [], ◌∷◌, ◌++◌, Result, Ok, Err, refl, sym, ◌∙◌, subst}
 use Rattle.std.specs.Prelude.{if◌then◌else◌}
 use Rattle.lx_ir_tokens.specs.declared.token.Tok.{Tok}
-use Rattle.lx_ir_tokens.specs.declared.token.Kind.{Kind}
 use Rattle.lx_ir_tokens.specs.declared.token.Mark.TheVariants.{OpenBrace, CloseBrace, OpenBracket, CloseBracket, Less, Greater}
 use Rattle.lx_ir.specs.IrType.{IrType, Array, Struct, Packed}
 use Rattle.lx_ir.specs.TypeNodes.{types_of_list}
-use Rattle.lx_ir.specs.Layout.{list_of_types}
+use Rattle.lx_ir.proofs.Layouts.{list_back}
 use Rattle.lx_ir_terms.specs.declared.fault.Fault.{Fault}
 use Rattle.lx_ir_terms.specs.declared.fault.FaultKind.TheVariants.{OutOfProfile}
 use Rattle.lx_ir_terms.specs.Context.{Context}
@@ -19,7 +18,7 @@ use Rattle.lx_ir_terms.proofs.Parts.{pick_reads, next_reads, pick_finds, next_fi
 use Rattle.lx_ir_terms.proofs.Stopping.{Refuses, pick_stops, next_stops, bind_stops, last_stops, guard_stops, behind_stops, at_once}
 use Rattle.lx_ir_terms.proofs.ListStops.{listed_stops}
 use Rattle.lx_ir_terms.proofs.TypeLaws.{type_again, fields_again}
-use Rattle.lx_ir_terms.proofs.TypesFound.{type_found, fields_found, FieldsOf}
+use Rattle.lx_ir_terms.proofs.TypesFound.{type_found, fields_found, FieldsOf, third, type_by}
 
 array_stops : (item : List Tok → Read IrType) (part : IrType → Part) → ((t : IrType) → Reads item t (part t)) → Finds item part → Refuses item → Refuses (array_behind item)
 array_stops item part reads finds stops =
@@ -27,10 +26,6 @@ array_stops item part reads finds stops =
     (λ n. bind_stops (next_at is_times) (λ x. item x.1 >>= λ t. mark_at CloseBracket t.1 >>= λ c. Ok (Array n t.0, c.1)) _ (λ x. next_reads is_times) (next_finds is_times) (next_stops is_times)
     (λ x. bind_stops item (λ t. mark_at CloseBracket t.1 >>= λ c. Ok (Array n t.0, c.1)) part reads finds stops
     (λ t. last_stops (mark_at CloseBracket) (λ c. Array n t) (next_stops (is_mark CloseBracket)))))
-
-list_back : (ts : List IrType) → list_of_types (types_of_list ts) ≡ ts
-list_back [] = refl
-list_back (t ∷ ts) = ap (λ us. t ∷ us) (list_back ts)
 
 fields_reads : (context : Context) (depth : ℕ) (xs : List IrType) → Reads (listed_at CloseBrace (type_at context depth)) xs (FieldsOf context depth xs)
 fields_reads context depth xs = subst (λ ys. Reads (listed_at CloseBrace (type_at context depth)) ys (FieldsOf context depth xs)) (list_back xs) (fields_again context (types_of_list xs) depth)
@@ -50,13 +45,6 @@ packed_stops context depth h =
 abbrev nested_by : Bool → Bool → (List Tok → Read IrType) → List Tok → Read IrType
 nested_by a b item ts = if a then array_behind item (behind ts) else if b then struct_behind item (behind ts) else packed_behind item (behind ts)
 
-third_mark : (k : Kind) → is_opening k ≡ true → is_mark OpenBracket k ≡ false → is_mark OpenBrace k ≡ false → is_mark Less k ≡ true
-third_mark k o a b = simp (sym o, a, b) refl
-
-third : (ts : List Tok) → has is_opening ts ≡ true → has (is_mark OpenBracket) ts ≡ false → has (is_mark OpenBrace) ts ≡ false → has (is_mark Less) ts ≡ true
-third [] o a b = cc
-third (t ∷ ts) o a b = third_mark t.kind o a b
-
 nested_step : (context : Context) (depth : ℕ) → Refuses (type_at context depth) → (a b : Bool) (ts : List Tok) (f : Fault) → has is_opening ts ≡ true → has (is_mark OpenBracket) ts ≡ a → has (is_mark OpenBrace) ts ≡ b → nested_by a b (type_at context depth) ts ≡ Err f → Stops (nested_at (type_at context depth)) ts f
 nested_step context depth h true b ts f o p q e =
     let item = type_at context depth in
@@ -71,9 +59,6 @@ nested_step context depth h false false ts f o p q e =
     let l = third ts o p q in
     guard_stops (is_mark Less) (nested_at item) (λ us. packed_behind item (behind us)) true (λ vs k. rw (other_mark Less OpenBracket vs refl k, other_mark Less OpenBrace vs refl k) refl) ts f l
     (behind_stops (is_mark Less) (packed_behind item) ts f l (packed_stops context depth h (behind ts) f e))
-
-abbrev type_by : Bool → Read IrType → Read IrType → Read IrType
-type_by b nested flat = if b then nested else flat
 
 flat_stops : (context : Context) → Refuses (flat_at context)
 flat_stops context = pick_stops (flat_in context) flat_refusal

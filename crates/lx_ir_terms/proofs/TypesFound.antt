@@ -180,10 +180,10 @@ abbrev nested_by : Bool → Bool → (List Tok → Read IrType) → List Tok →
 nested_by a b item ts = if a then array_behind item (behind ts) else if b then struct_behind item (behind ts) else packed_behind item (behind ts)
 
 -- the three marks that open a type
-third_mark : (k : Kind) → is_opening k ≡ true → is_mark OpenBracket k ≡ false → is_mark OpenBrace k ≡ false → is_mark Less k ≡ true
+pub third_mark : (k : Kind) → is_opening k ≡ true → is_mark OpenBracket k ≡ false → is_mark OpenBrace k ≡ false → is_mark Less k ≡ true
 third_mark k o a b = simp (sym o, a, b) refl
 
-third : (ts : List Tok) → has is_opening ts ≡ true → has (is_mark OpenBracket) ts ≡ false → has (is_mark OpenBrace) ts ≡ false → has (is_mark Less) ts ≡ true
+pub third : (ts : List Tok) → has is_opening ts ≡ true → has (is_mark OpenBracket) ts ≡ false → has (is_mark OpenBrace) ts ≡ false → has (is_mark Less) ts ≡ true
 third [] o a b = cc
 third (t ∷ ts) o a b = third_mark t.kind o a b
 
@@ -192,7 +192,7 @@ nested_found context depth h true b ts us t o p q e = with_mark context (suc dep
 nested_found context depth h false true ts us t o p q e = with_mark context (suc depth) OpenBrace t ts us q (struct_found context depth h (behind ts) us t e)
 nested_found context depth h false false ts us t o p q e = with_mark context (suc depth) Less t ts us (third ts o p q) (packed_found context depth h (behind ts) us t e)
 
-abbrev type_by : Bool → Read IrType → Read IrType → Read IrType
+abbrev pub type_by : Bool → Read IrType → Read IrType → Read IrType
 type_by b nested flat = if b then nested else flat
 
 shallow : (context : Context) (b : Bool) (ts us : List Tok) (t : IrType) → type_by b (Err (at OutOfProfile ts)) (flat_at context ts) ≡ Ok (t, us) → Found (TypeOf context zero) t ts us

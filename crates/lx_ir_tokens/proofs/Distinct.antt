@@ -15,7 +15,7 @@ abbrev pub IsDistinct : List (List ℕ) → Type 0
 IsDistinct names = (i j : ℕ) (name : List ℕ) → slice_get names i ≡ Some name → slice_get names j ≡ Some name → i ≡ j
 
 -- a name that has no number stands nowhere
-nowhere : (names : List (List ℕ)) (name : List ℕ) (i : ℕ) → number_of names name ≡ None → slice_get names i ≡ Some name → ⊥
+pub nowhere : (names : List (List ℕ)) (name : List ℕ) (i : ℕ) → number_of names name ≡ None → slice_get names i ≡ Some name → ⊥
 nowhere names name i none at =
     let before : length names ≤ position_or_len (bytes_eq name) names = past (position_or_len (bytes_eq name) names) (length names) none in
     let within : i < length names = slice_get_within names i name at in
@@ -25,7 +25,7 @@ nowhere names name i none at =
     true≢false (sym passes ∙ ap (bytes_eq name) (sym it) ∙ fails)
 
 -- what stands in a table with one name more
-where_it_stands : (names : List (List ℕ)) (new : List ℕ) (i : ℕ) (name : List ℕ) → slice_get (names ++ new ∷ []) i ≡ Some name → (slice_get names i ≡ Some name) ⊎ ((i ≡ length names) × (new ≡ name))
+pub where_it_stands : (names : List (List ℕ)) (new : List ℕ) (i : ℕ) (name : List ℕ) → slice_get (names ++ new ∷ []) i ≡ Some name → (slice_get names i ≡ Some name) ⊎ ((i ≡ length names) × (new ≡ name))
 where_it_stands [] new zero name h = inr (refl, cc)
 where_it_stands [] new (suc i) name h = inl cc
 where_it_stands (x ∷ xs) new zero name h = inl h

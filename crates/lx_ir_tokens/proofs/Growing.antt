@@ -10,7 +10,7 @@ use Rattle.lx_ir_tokens.specs.declared.token.Tok.{Tok}
 use Rattle.lx_ir_tokens.specs.Names.{number_of}
 use Rattle.lx_ir_tokens.specs.Reading.{said_at, names_of, with_said, StandsFor, IsTokOf}
 
-slice_get-front : (names more : List (List ℕ)) (n : ℕ) (name : List ℕ) → slice_get names n ≡ Some name → slice_get (names ++ more) n ≡ Some name
+pub slice_get-front : (names more : List (List ℕ)) (n : ℕ) (name : List ℕ) → slice_get names n ≡ Some name → slice_get (names ++ more) n ≡ Some name
 slice_get-front [] more n name h = cc
 slice_get-front (x ∷ xs) more zero name h = h
 slice_get-front (x ∷ xs) more (suc n) name h = slice_get-front xs more n name h

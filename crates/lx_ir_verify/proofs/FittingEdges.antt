@@ -18,6 +18,7 @@ use Rattle.lx_ir_walks.specs.Numbers.{is_number}
 use Rattle.lx_ir_walks.specs.Sources.{ArePredecessors}
 use Rattle.lx_ir_walks.proofs.Members.{In, any_in, in_any, all_in, in_all}
 use Rattle.lx_ir_walks.proofs.FirstBlocks.{present, number_is, one_name}
+use Rattle.lx_ir_walks.proofs.Passing.{some_same}
 use Rattle.lx_ir_verify.specs.Edges.{at_number, is_from, HasFirsts, is_first, edge_at, edge_by, AreBlocksOf}
 
 -- Blocks of a function.
@@ -61,9 +62,6 @@ or_zero (Some n) = n
 some_is : {A : Type 0} (o : Option A) → is_some o ≡ true → (x : A) × (o ≡ Some x)
 some_is None e = false_true e
 some_is (Some x) e = (x, refl)
-
-some_one : (m n : ℕ) → Some m ≡ Some n → m ≡ n
-some_one m n e = ap (or_zero) e
 
 is_some_of : {A : Type 0} (o : Option A) (x : A) → o ≡ Some x → is_some o ≡ true
 is_some_of o x e = ap is_some e
@@ -169,7 +167,7 @@ module _ (f : Function) (name : List ℕ) (edges : List Edge) (before : List ℕ
   agrees_here e d i j a s =
       let n = numbered e i a in
       let m = numbered d j a in
-      let one : m.0 ≡ n.0 = some_one m.0 n.0 (sym m.1 ∙ (ap (block_number f) ((bytes_eq-Decides d.label e.label).0 s) ∙ n.1)) in
+      let one : m.0 ≡ n.0 = some_same m.0 n.0 (sym m.1 ∙ (ap (block_number f) ((bytes_eq-Decides d.label e.label).0 s) ∙ n.1)) in
       first_same (at_number firsts n.0) d.value e.value (ap (λ k. is_first (at_number firsts k) d.value) (sym one) ∙ m.3) n.3
 
   -- the tables say whether edges fit

@@ -5,24 +5,19 @@ use Rattle.std.proofs.lemmas.List.{drop_all}
 use Rattle.lx_words.specs.Word.{Word, signed}
 use Rattle.lx_words.specs.Width.{modulus}
 use Rattle.lx_words.proofs.Tests.{less_true, le_true, and_false}
+use Rattle.lx_words.proofs.Lists.{rest_at}
 use Rattle.lx_ir.specs.declared.types.NamedType.{NamedType}
 use Rattle.lx_ir.specs.declared.instr.Argument.{Argument}
 use Rattle.lx_ir.specs.declared.module.Parameter.{Parameter}
 use Rattle.lx_ir.specs.IrType.{IrType}
-use Rattle.lx_ir.specs.Layout.{unnamed, list_of_types}
-use Rattle.lx_ir.specs.TypeNodes.{types_of_list}
+use Rattle.lx_ir.specs.Layout.{unnamed}
 use Rattle.lx_ir.specs.Lawful.{same_scalar}
 use Rattle.lx_ir.specs.Faults.{number_or_none, inner_type, has_path, goes_on, are_arguments}
-use Rattle.lx_ir_verify.proofs.SameTypes.{rest_at}
 
 -- a number less a greater one is negative
 less_none : (b m : ℕ) → b < m → number_or_none (pos b -ℤ pos m) ≡ None
 less_none b zero h = absurd (omega arith)
 less_none b (suc n) h = ap (λ t. number_or_none (cond t (negsuc (suc n - suc b)) (pos (b - suc n)))) (less_true b (suc n) h)
-
-pub list_back : (ts : List IrType) → list_of_types (types_of_list ts) ≡ ts
-list_back [] = refl
-list_back (t ∷ ts) = ap (λ us. t ∷ us) (list_back ts)
 
 pub path_none : (types : List NamedType) (xs : List Argument) (i : ℕ) (x : Argument) (t : IrType) → i < length xs → x ≡ get_or xs i x → inner_type (unnamed types t) x ≡ None → has_path types (drop i xs) t ≡ false
 path_none types xs i x t h e n = ap (λ ys. has_path types ys t) (rest_at xs i x h e) ∙ ap (goes_on (has_path types (drop (i + 1) xs))) n

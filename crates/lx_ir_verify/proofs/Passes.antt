@@ -7,12 +7,11 @@ use Rattle.std.specs.List.{list_any}
 use Rattle.std.proofs.lemmas.List.{drop_all}
 use Rattle.std.proofs.lemmas.List.Elements.{filter_map-append}
 use Rattle.lx_words.proofs.Options.{or_some, option_or_assoc}
-use Rattle.lx_words.proofs.Lists.{cons_list}
+use Rattle.lx_words.proofs.Lists.{cons_list, rest_at}
 use Rattle.lx_ir.specs.Faults.{Fault, first_some}
 use Rattle.lx_ir_verify.specs.declared.fault.VerifyFault.{VerifyFault}
 use Rattle.lx_ir_verify.specs.declared.fault.VerifyFault.TheVariants.{TypeDiffers, NoSuchLabel, NotAssigned, PhiEdges, NoTerminator, Memory}
 use Rattle.lx_ir_verify.specs.Shown.{IsAnswer}
-use Rattle.lx_ir_verify.proofs.SameTypes.{rest_at}
 
 pub first_step : {A B : Type 0} (f : A → Option B) (xs : List A) (i : ℕ) (x : A) → i < length xs → x ≡ get_or xs i x → first_some f (drop i xs) ≡ option_or (f x) (first_some f (drop (i + 1) xs))
 first_step f xs i x h e = ap (first_some f) (rest_at xs i x h e)

@@ -1,19 +1,16 @@
 -- Lemmas on types and initialisers in lists.
-use Rattle.std.proofs.Common.{◌≡◌, ◌≢◌, ℕ, ◌+◌, ◌<◌, ◌≤◌, min, true, false, ◌&&◌, List, [], ◌∷◌, length, get_or, drop, refl, ap, sym, ◌∙◌, zero, suc, nat_eq, arith}
-use Rattle.std.proofs.lemmas.List.{drop_more, drop_all, length-drop}
+use Rattle.std.proofs.Common.{◌≡◌, ◌≢◌, ℕ, ◌+◌, ◌<◌, ◌≤◌, min, true, false, ◌&&◌, List, [], ◌∷◌, length, get_or, drop, refl, ap, ◌∙◌, suc, nat_eq, arith}
+use Rattle.std.proofs.lemmas.List.{drop_all, length-drop}
 use Rattle.lx_words.specs.declared.word.Width.TheVariants.{W1, W8, W16, W32, W64}
 use Rattle.lx_words.proofs.Tests.{and_false}
+use Rattle.lx_words.proofs.Lists.{rest_at}
 use Rattle.lx_ir.specs.declared.types.Scalar.TheVariants.{Int, Ptr}
 use Rattle.lx_ir.specs.declared.types.NamedType.{NamedType}
-use Rattle.lx_ir.specs.IrType.{IrType, One, Array, Struct, Packed, Named, depth, depths}
-use Rattle.lx_ir.specs.Init.{Init, init_depth, inits_depth}
+use Rattle.lx_ir.specs.IrType.{IrType, One, Array, Struct, Packed, Named}
+use Rattle.lx_ir.specs.Init.{Init}
 use Rattle.lx_ir.specs.TypeNodes.{types_of_list}
 use Rattle.lx_ir.specs.InitNodes.{inits_of_list}
 use Rattle.lx_ir.specs.Faults.{same_type, same_types, are_types, holds_bytes, init_fits, inits_fit}
-
--- what is left of a list begins with the element at the place
-pub rest_at : {X : Type 0} (xs : List X) (i : ℕ) (x : X) → i < length xs → x ≡ get_or xs i x → drop i xs ≡ x ∷ drop (i + 1) xs
-rest_at xs i x h e = drop_more xs i x h ∙ ap (λ y. y ∷ drop (i + 1) xs) (sym e)
 
 pub same_step : (xs ys : List IrType) (i : ℕ) (x y : IrType) → i < length xs → i < length ys → x ≡ get_or xs i x → y ≡ get_or ys i y → same_types (types_of_list (drop i xs)) (types_of_list (drop i ys)) ≡ (same_type x y && same_types (types_of_list (drop (i + 1) xs)) (types_of_list (drop (i + 1) ys)))
 same_step xs ys i x y h g p q =
@@ -51,15 +48,6 @@ bytes_held n k (Struct ts) = refl
 bytes_held n k (Packed ts) = refl
 bytes_held n k (Named j) = refl
 
--- an element of a list of types is less deep
-depth_at : (ts : List IrType) (i : ℕ) (d : IrType) → i < length ts → depth (get_or ts i d) < depths (types_of_list ts)
-depth_at [] i d h = omega arith
-depth_at (t ∷ ts) zero d h = omega arith
-depth_at (t ∷ ts) (suc i) d h = let r : depth (get_or ts i d) < depths (types_of_list ts) = depth_at ts i d (omega arith) in omega arith
-
-pub depth_of_item : (ts : List IrType) (i : ℕ) (x : IrType) → i < length ts → x ≡ get_or ts i x → depth x < depths (types_of_list ts)
-depth_of_item ts i x h e = let a : depth (get_or ts i x) < depths (types_of_list ts) = depth_at ts i x h in let k : depth x ≡ depth (get_or ts i x) = ap depth e in omega arith
-
 pub fits_step : (types : List NamedType) (ts : List IrType) (is : List Init) (k : ℕ) (t : IrType) (i : Init) → k < length ts → k < length is → t ≡ get_or ts k t → i ≡ get_or is k i → inits_fit types (drop k ts) (inits_of_list (drop k is)) ≡ (init_fits types t i && inits_fit types (drop (k + 1) ts) (inits_of_list (drop (k + 1) is)))
 fits_step types ts is k t i h g p q =
     let a = rest_at ts k t h p in
@@ -74,12 +62,3 @@ fits_done types (t ∷ ts) (i ∷ is) h = absurd (omega arith)
 
 pub fits_end : (types : List NamedType) (ts : List IrType) (is : List Init) (k : ℕ) → min (length ts) (length is) ≤ k → inits_fit types (drop k ts) (inits_of_list (drop k is)) ≡ true
 fits_end types ts is k h = fits_done types (drop k ts) (drop k is) (omega (arith, length-drop k ts, length-drop k is))
-
--- an element of a list of initialisers is less deep
-init_depth_at : (is : List Init) (i : ℕ) (d : Init) → i < length is → init_depth (get_or is i d) < inits_depth (inits_of_list is)
-init_depth_at [] i d h = omega arith
-init_depth_at (x ∷ is) zero d h = omega arith
-init_depth_at (x ∷ is) (suc i) d h = let r : init_depth (get_or is i d) < inits_depth (inits_of_list is) = init_depth_at is i d (omega arith) in omega arith
-
-pub depth_of_init : (is : List Init) (i : ℕ) (x : Init) → i < length is → x ≡ get_or is i x → init_depth x < inits_depth (inits_of_list is)
-depth_of_init is i x h e = let a : init_depth (get_or is i x) < inits_depth (inits_of_list is) = init_depth_at is i x h in let k : init_depth x ≡ init_depth (get_or is i x) = ap init_depth e in omega arith

@@ -9,6 +9,8 @@ use Rattle.lx_words.specs.declared.word.Width.{Width}
 use Rattle.lx_words.specs.declared.word.Width.TheVariants.{W1, W8, W16, W32, W64}
 use Rattle.lx_words.specs.Width.{bit_count}
 use Rattle.lx_words.specs.Word.{word, word_of_int}
+use Rattle.lx_words.proofs.Tests.{first_of, second_of}
+use Rattle.lx_words.proofs.Options.{first_none, rest_none}
 use Rattle.lx_ir.specs.declared.module.Parameter.{Parameter}
 use Rattle.lx_ir.specs.declared.module.Function.{Function}
 use Rattle.lx_ir.specs.Faults.{first_some}
@@ -26,8 +28,6 @@ use Rattle.lx_link_texts.specs.WellFormed.{FitsCall, FitsCalls}
 use Rattle.lx_link_texts.specs.Laws.{AreWellFormed}
 use Rattle.lx_link.specs.Calls.{is_in_range, value_or_zero, argument_value, argument_word, argument_words, all_fit, are_in_range, params_of, parameters, function_named, target, argument_fault, call_fault, call_fault_by, thread_fault, script_fault, call_to, resolved, calls_of}
 use Rattle.lx_link.specs.Laws.{AreWellLinked, CallsFit}
-use Rattle.lx_model.proofs.Tests.{first_true, second_true}
-use Rattle.lx_model.proofs.Items.{first_none, rest_none}
 use Rattle.lx_model.proofs.Homes.{same_home_is}
 use Rattle.lx_link_texts.proofs.Sound.{passes}
 
@@ -49,8 +49,8 @@ found_at p (x ∷ xs) n h =
 entry_function : (p : Program) (home : Home) (f : ℕ) (e : ProgramFunction) (g : Function) → is_entry home f e ≡ true → slice_get (module_of p home).functions f ≡ Some g → function_of_entry p (Some e) ≡ Some g
 entry_function p home f (Native k) g is h = absurd (cc)
 entry_function p home f (Of other k) g is h =
-    let a = same_home_is home other (first_true (same_home home other) (nat_eq f k) is) in
-    let b = eqb-true f k (second_true (same_home home other) (nat_eq f k) is) in
+    let a = same_home_is home other (first_of (same_home home other) (nat_eq f k) is) in
+    let b = eqb-true f k (second_of (same_home home other) (nat_eq f k) is) in
     subst (λ x. slice_get (module_of p x).functions k ≡ Some g) a (subst (λ y. slice_get (module_of p home).functions y ≡ Some g) b h)
 
 named_by : (p : Program) (home : Home) (name : List ℕ) (o : Option ℕ) (n : ℕ) → position (defines name) (module_of p home).functions ≡ o → option_and_then (number_of p home) o ≡ Some n → (g : Function) × (function_of p n ≡ Some g)
@@ -93,7 +93,7 @@ words_fit p (x ∷ xs) (a ∷ args) e =
 fits_by : (p : Program) (c : CaseCall) (n : ℕ) (g : Function) → function_of p n ≡ Some g → all_fit p (parameters p n) c.args ≡ true → FitsFunction p n (argument_words p (parameters p n) c.args)
 fits_by p c n g h all =
     let params : parameters p n ≡ g.params = ap params_of h in
-    let many : length (parameters p n) ≡ length c.args = eqb-true _ _ (first_true (nat_eq (length (parameters p n)) (length c.args)) (are_in_range p (parameters p n) c.args) all) in
+    let many : length (parameters p n) ≡ length c.args = eqb-true _ _ (first_of (nat_eq (length (parameters p n)) (length c.args)) (are_in_range p (parameters p n) c.args) all) in
     (g, h, subst (λ xs. same_widths (widths (argument_words p (parameters p n) c.args)) (map (λ x. width_of x.ty) xs) ≡ true) params (words_fit p (parameters p n) c.args many))
 
 call_by : (p : Program) (c : CaseCall) (t : Option ℕ) → target p c ≡ t → call_fault_by p c t ≡ None → FitsCall p (call_to p c (unwrap_or t 0))

@@ -3,6 +3,7 @@ use Rattle.std.proofs.Common.{◌≡◌, ◌⊎◌, ℕ, ◌+◌, ◌<◌, ◌�
 use Rattle.std.proofs.lemmas.Bool.Decides.{nat_tests}
 use Rattle.std.specs.Option.{option_or}
 use Rattle.std.proofs.lemmas.List.{drop_all}
+use Rattle.lx_words.proofs.Lists.{rest_at}
 use Rattle.lx_ir.specs.Faults.{first_some}
 use Rattle.lx_script.specs.Case.{Case}
 use Rattle.lx_model.specs.declared.program.Program.{Program}
@@ -13,7 +14,6 @@ use Rattle.lx_link.specs.declared.fault.LinkFault.{LinkFault}
 use Rattle.lx_link.specs.declared.fault.LinkFault.TheVariants.{Memory}
 use Rattle.lx_link.specs.Answers.{IsFault, IsFaultOr, IsWanted, answered, link_fault, source_fault}
 use Rattle.lx_link.specs.Calls.{script_fault}
-use Rattle.lx_model.proofs.Items.{rest_at}
 use Rattle.lx_link_texts.proofs.Sound.{passes}
 
 pub first_step : {A B : Type 0} (f : A → Option B) (xs : List A) (i : ℕ) (x : A) → i < length xs → x ≡ get_or xs i x → first_some f (drop i xs) ≡ option_or (f x) (first_some f (drop (i + 1) xs))

@@ -2,11 +2,11 @@
 use Rattle.std.proofs.Common.{◌≡◌, ℕ, ◌+◌, ◌<◌, ◌≤◌, List, [], ◌∷◌, ◌++◌, length, get_or, drop, refl, ap, sym, ◌∙◌, append_assoc}
 use Rattle.std.proofs.lemmas.List.{drop_all, append-nil}
 use Rattle.lx_words.specs.Word.{Word}
+use Rattle.lx_words.proofs.Lists.{rest_at}
 use Rattle.lx_ir.specs.declared.module.Parameter.{Parameter}
 use Rattle.lx_model.specs.declared.program.Program.{Program}
 use Rattle.lx_script.specs.declared.case.CaseArg.{CaseArg}
 use Rattle.lx_link.specs.Calls.{argument_word, argument_words}
-use Rattle.lx_model.proofs.Items.{rest_at}
 
 goes_on : (old new : List Word) (w : Word) (rest next all : List Word) → old ++ rest ≡ all → rest ≡ w ∷ next → new ≡ old ++ w ∷ [] → new ++ next ≡ all
 goes_on old new w rest next all h r n = ap (λ l. l ++ next) n ∙ append_assoc old (w ∷ []) next ∙ ap (λ l. old ++ l) (sym r) ∙ h

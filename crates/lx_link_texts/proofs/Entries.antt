@@ -1,6 +1,7 @@
 -- Lemmas on lists that grow by the functions of texts.
-use Rattle.std.proofs.Common.{◌≡◌, ℕ, zero, suc, ◌+◌, ◌<◌, ◌≤◌, Some, List, [], ◌∷◌, ◌++◌, length, get_or, drop, refl, ap, sym, ◌∙◌, append_assoc}
-use Rattle.std.proofs.lemmas.List.{drop_all, append-nil}
+use Rattle.std.proofs.Common.{◌≡◌, ℕ, zero, suc, ◌+◌, ◌<◌, ◌≤◌, Some, List, [], ◌∷◌, ◌++◌, length, get_or, drop, refl, ap, ◌∙◌}
+use Rattle.std.proofs.lemmas.List.{drop_all}
+use Rattle.lx_words.proofs.Lists.{rest_at, goes_on, ends}
 use Rattle.lx_ir.specs.declared.module.Function.{Function}
 use Rattle.lx_ir.specs.Lookup.{is_defined}
 use Rattle.lx_model.specs.declared.program.ProgramModule.{ProgramModule}
@@ -8,15 +9,6 @@ use Rattle.lx_model.specs.declared.program.ProgramFunction.{ProgramFunction}
 use Rattle.lx_model.specs.declared.program.ProgramFunction.TheVariants.{Of}
 use Rattle.lx_model.specs.Program.{Home}
 use Rattle.lx_link_texts.specs.Placing.{entries_from, entry_if, module_entries}
-use Rattle.lx_caps.proofs.Items.{rest_at}
-
--- a list that a piece is put behind, which the rest goes on with
-pub goes_on : {X : Type 0} (old new piece rest next all : List X) → old ++ rest ≡ all → rest ≡ piece ++ next → new ≡ old ++ piece → new ++ next ≡ all
-goes_on old new piece rest next all h r n =
-    ap (λ l. l ++ next) n ∙ append_assoc old piece next ∙ ap (λ l. old ++ l) (sym r) ∙ h
-
-pub ends : {X : Type 0} (old rest all : List X) → old ++ rest ≡ all → rest ≡ [] → old ≡ all
-ends old rest all h r = sym (append-nil old) ∙ ap (λ l. old ++ l) (sym r) ∙ h
 
 pub entries_step : (home : Home) (fs : List Function) (i : ℕ) (f : Function) (old new all : List ProgramFunction) → i < length fs → f ≡ get_or fs i f
     → old ++ entries_from home i (drop i fs) ≡ all → new ≡ old ++ entry_if (is_defined f) (Of home i) → new ++ entries_from home (i + 1) (drop (i + 1) fs) ≡ all

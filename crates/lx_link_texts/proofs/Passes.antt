@@ -5,11 +5,12 @@ use Rattle.std.specs.List.{list_any}
 use Rattle.std.specs.Option.{option_or}
 use Rattle.std.proofs.lemmas.List.{drop_all, length-map}
 use Rattle.std.proofs.lemmas.Bool.{lt-leb}
+use Rattle.lx_words.proofs.Lists.{rest_at}
 use Rattle.lx_ir.specs.declared.module.Module.{Module}
 use Rattle.lx_ir.specs.Faults.{first_some}
 use Rattle.lx_model.specs.declared.program.ProgramModule.{ProgramModule}
 use Rattle.lx_link_texts.specs.Faults.{Fault, fault_unless, first_module}
-use Rattle.lx_caps.proofs.Items.{rest_at, any_append}
+use Rattle.lx_caps.proofs.Items.{any_append}
 
 pub first_step : {A B : Type 0} (f : A → Option B) (xs : List A) (i : ℕ) (x : A) → i < length xs → x ≡ get_or xs i x → first_some f (drop i xs) ≡ option_or (f x) (first_some f (drop (i + 1) xs))
 first_step f xs i x h e = ap (first_some f) (rest_at xs i x h e)

@@ -4,6 +4,7 @@ use Rattle.std.specs.List.{list_all}
 use Rattle.std.specs.Prelude.{All, IsTrue}
 use Rattle.std.proofs.lemmas.List.{drop_all, append-nil}
 use Rattle.std.proofs.lemmas.Bool.Decides.{nat_tests}
+use Rattle.lx_words.proofs.Lists.{rest_at, goes_on, ends}
 use Rattle.lx_ir.specs.declared.types.NamedType.{NamedType}
 use Rattle.lx_ir.specs.declared.module.GlobalVar.{GlobalVar}
 use Rattle.lx_ir.specs.declared.module.Module.{Module}
@@ -13,8 +14,6 @@ use Rattle.lx_model.specs.declared.program.ProgramModule.{ProgramModule}
 use Rattle.lx_model.specs.declared.program.ProgramGlobal.{ProgramGlobal}
 use Rattle.lx_model.specs.Program.{Home}
 use Rattle.lx_link_texts.specs.Placing.{end_behind, end_of, global_size, last_end, module_places, modules_end, place, places_from, start_behind}
-use Rattle.lx_link_texts.proofs.Entries.{goes_on, ends}
-use Rattle.lx_caps.proofs.Items.{rest_at}
 
 -- sizes
 

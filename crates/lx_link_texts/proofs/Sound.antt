@@ -5,6 +5,7 @@ use Rattle.std.specs.List.{list_all, AllPass}
 use Rattle.std.specs.Option.{option_or}
 use Rattle.std.proofs.lemmas.List.Sums.{AllPass-from_list_all}
 use Rattle.std.proofs.lemmas.Bool.{and_from}
+use Rattle.lx_words.proofs.Options.{first_none, rest_none}
 use Rattle.lx_ir.specs.declared.module.Function.{Function}
 use Rattle.lx_ir.specs.declared.module.Module.{Module}
 use Rattle.lx_ir.specs.declared.module.GlobalVar.{GlobalVar}
@@ -29,7 +30,6 @@ use Rattle.lx_link_texts.specs.Placing.{HasLimits, HasLawfulGlobals, functions_o
 use Rattle.lx_link_texts.specs.Faults.{Fault, fault, fault_of, fault_unless, first_module, calls_indirectly, kernel_call_fault, defined, export_fault, export_fault_by, kernel_native, slot_called, kernel_import_fault, kernel_import_fault_by, is_alias, is_kernel_name, is_exported, import_fault_by, module_import_fault, imports_fault, slot_fault, slot_fault_by, slots_fault, text_fault, limit_fault, functions_fault, globals_fault, most_functions}
 use Rattle.lx_link_texts.specs.WellFormed.{IsWellFormed, IsModuleOf, is_export_of, is_exported_well, is_kernel_import_by, is_kernel_import, is_import_of, is_module_import, has_slot_of, is_marked_well}
 use Rattle.lx_link_texts.specs.Laws.{AreSound, AreWellFormed, VerifiedHaveLimits}
-use Rattle.lx_caps.proofs.Items.{first_none, rest_none}
 
 -- No fault in a row of passes.
 

@@ -1,5 +1,5 @@
 -- An instruction does the same in both runs.
-use Rattle.std.proofs.Common.{◌≡◌, ℕ, zero, suc, Bool, true, false, List, [], ◌∷◌, ◌++◌, length, map, Option, Some, None, inl, inr, refl, sym, subst, ◌∙◌, ap}
+use Rattle.std.proofs.Common.{◌≡◌, ℕ, true, List, [], ◌∷◌, ◌++◌, length, Option, Some, None, inl, inr, refl, sym, subst, ◌∙◌, ap}
 use Rattle.std.specs.Prelude.{nat_eq, find, cond, unwrap_or, option_map, pos, ◌+ℤ◌}
 use Rattle.lx_words.specs.declared.word.Width.TheVariants.{W1, W8, W64}
 use Rattle.lx_words.specs.Word.{Word, word, word_of_int, signed, binary, compare}
@@ -25,7 +25,7 @@ use Rattle.lx_images.specs.Places.{IsIn}
 use Rattle.lx_simulation.proofs.Elements.{in_second, in_map}
 use Rattle.lx_simulation.proofs.Walking.{no_ops, arrives}
 use Rattle.lx_simulation.proofs.Jumping.{at_block}
-use Rattle.lx_simulation.proofs.Frames.{AllVerified, sound_at}
+use Rattle.lx_simulation.proofs.Frames.{AllVerified, sound_at, chosen, case_in}
 use Rattle.lx_linked.specs.Alike.{operands_read}
 use Rattle.lx_linked.proofs.Standing.{holding, Stood, Answered, past, read_same}
 use Rattle.lx_linked.proofs.Arriving.{operand_same, jumped}
@@ -115,23 +115,6 @@ jump_same : (p : Program) → AllVerified p → (a : Activation) (qs : List Word
 jump_same p ver a qs label other o os ec ends gives target e st =
     subst (λ (l : List ℕ). EffectSame p a (jump_effect p a label) (jump_effect p (holding qs a) l)) (sym e)
     (arrives_same p ver a qs label o os (code_block_named a.blocks label) ec ends gives target refl st)
-
-chosen : (n : ℕ) (a b : List ℕ) → IsIn (choice n a b) (a ∷ b ∷ [])
-chosen zero a b = inr (inl refl)
-chosen (suc n) a b = inl refl
-
-further : {A : Type 0} (x y z : A) (zs : List A) → IsIn x (y ∷ zs) → IsIn x (y ∷ z ∷ zs)
-further x y z zs (inl e) = inl e
-further x y z zs (inr i) = inr (inr i)
-
-case_by : (c : SwitchCase) (cs : List SwitchCase) (otherwise : List ℕ) (found : Option SwitchCase) (b : Bool) → IsIn (unwrap_or (option_map (λ (x : SwitchCase). x.label) found) otherwise) (otherwise ∷ map (λ (x : SwitchCase). x.label) cs) →
-    IsIn (unwrap_or (option_map (λ (x : SwitchCase). x.label) (cond b (Some c) found)) otherwise) (otherwise ∷ map (λ (x : SwitchCase). x.label) (c ∷ cs))
-case_by c cs otherwise found true ih = inr (inl refl)
-case_by c cs otherwise found false ih = further (unwrap_or (option_map (λ (x : SwitchCase). x.label) found) otherwise) otherwise c.label (map (λ (x : SwitchCase). x.label) cs) ih
-
-case_in : (cs : List SwitchCase) (test : SwitchCase → Bool) (otherwise : List ℕ) → IsIn (unwrap_or (option_map (λ (c : SwitchCase). c.label) (find test cs)) otherwise) (otherwise ∷ map (λ (c : SwitchCase). c.label) cs)
-case_in [] test otherwise = inl refl
-case_in (c ∷ cs) test otherwise = case_by c cs otherwise (find test cs) (test c) (case_in cs test otherwise)
 
 cases_same : (p : Program) (a : Activation) (qs : List Word) (n : ℕ) (cs : List SwitchCase) → ((c : SwitchCase) → IsIn c cs → operand p (holding qs a) c.value ≡ operand p a c.value) →
     find (λ (c : SwitchCase). nat_eq (bits p (holding qs a) c.value) n) cs ≡ find (λ (c : SwitchCase). nat_eq (bits p a c.value) n) cs

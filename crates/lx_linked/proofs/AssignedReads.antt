@@ -5,6 +5,9 @@ use Rattle.std.specs.List.{list_any, position_or_len}
 use Rattle.std.proofs.lemmas.Bool.Decides.{nat_tests}
 use Rattle.std.proofs.lemmas.Option.{slice_get_within}
 use Rattle.std.proofs.lemmas.Bool.{or_parts}
+use Rattle.lx_words.proofs.Tests.{true_false, first_of, second_of, no_other}
+use Rattle.lx_words.proofs.Options.{none_some, some_same}
+use Rattle.lx_words.proofs.Lists.{bytes_itself, position_is}
 use Rattle.lx_ir.specs.declared.types.Scalar.{Scalar}
 use Rattle.lx_ir.specs.declared.module.Value.{Value}
 use Rattle.lx_ir.specs.declared.module.Value.TheVariants as value
@@ -21,20 +24,16 @@ use Rattle.lx_ir.specs.Lawful.{is_distinct}
 use Rattle.lx_ir.specs.Operands.{given_by}
 use Rattle.lx_ir.specs.Faults.{Read, reads_of, reads_of_op, read_here, read_at_end, instrs_at, no_instrs, is_given, assigns, walk_assigns, Walk, block_number}
 use Rattle.lx_images.specs.Places.{IsIn}
-use Rattle.lx_simulation.proofs.Elements.{in_flat, in_map, in_got, none_some, any_in, any_of}
+use Rattle.lx_simulation.proofs.Elements.{in_flat, in_map, in_got, any_in, any_of}
 use Rattle.lx_simulation.proofs.Verifying.{name_of_block, Sound, gives_known}
 use Rattle.lx_simulation.proofs.Walking.{is_assigned, gives_it}
 use Rattle.lx_linked.specs.Alike.{operands_read}
-use Rattle.lx_caps.proofs.Tests.{first_true, true_false, second_true, is_both}
-use Rattle.lx_caps.proofs.Items.{same_bytes, some_same, at_place}
-use Rattle.lx_simulation.proofs.Held.{read_block}
+use Rattle.lx_simulation.proofs.Held.{read_block, the_read}
+use Rattle.lx_simulation.proofs.Jumping.{in_taken}
 
 -- the register is a parameter, or an instruction before the place on the walk gave it
 abbrev pub Known : Function → List ℕ → ℕ → ℕ → ℕ → Type 0
 Known g walk block place r = (r < length g.params) ⊎ (is_assigned g walk block place r ≡ true)
-
-abbrev pub the_read : ℕ → ℕ → ℕ → ℕ → Read
-the_read k j r line = record { block = k; place = j; register = r; line = line }
 
 -- reads of a function
 
@@ -90,13 +89,7 @@ known_read m g s walk k j r line comes at =
 
 -- a known register is one of the function's
 
-taken_in : {A : Type 0} (x : A) (n : ℕ) (xs : List A) → IsIn x (take n xs) → IsIn x xs
-taken_in x zero xs i = absurd i
-taken_in x (suc n) [] i = absurd i
-taken_in x (suc n) (y ∷ xs) (inl e) = inl e
-taken_in x (suc n) (y ∷ xs) (inr i) = inr (taken_in x n xs i)
-
-body_in : (bs : List Block) (k : ℕ) (i : Instr) → IsIn i (no_instrs (slice_get bs k)) → (b : Block) × IsIn b bs × IsIn i b.instrs
+pub body_in : (bs : List Block) (k : ℕ) (i : Instr) → IsIn i (no_instrs (slice_get bs k)) → (b : Block) × IsIn b bs × IsIn i b.instrs
 body_in [] k i a = absurd a
 body_in (b ∷ bs) zero i a = (b, inl refl, a)
 body_in (b ∷ bs) (suc k) i a = let f = body_in bs k i a in (f.0, inr f.1, f.2)
@@ -115,7 +108,7 @@ walked_within m g s r walk e =
 
 either_within : (m : Module) (g : Function) → Sound m g → (walk : List ℕ) (k j r : ℕ) (a b : Bool) → walk_assigns g walk r ≡ a → assigns (take j (instrs_at g k)) r ≡ b → (a || b) ≡ true → r < length g.params + length g.locals
 either_within m g s walk k j r true b ea eb e = walked_within m g s r walk ea
-either_within m g s walk k j r false b ea eb e = given_within m g s k r (take j (instrs_at g k)) (λ i a. taken_in i j (instrs_at g k) a) (eb ∙ e)
+either_within m g s walk k j r false b ea eb e = given_within m g s k r (take j (instrs_at g k)) (λ i a. in_taken i j (instrs_at g k) a) (eb ∙ e)
 
 less_with : (r m n : ℕ) → r < m → r < m + n
 less_with r m n h = omega (arith, h)
@@ -132,7 +125,7 @@ differs_cases false b e h = sym e
 
 other_cases : (x y : List ℕ) (names : List (List ℕ)) (b : Bool) → bytes_eq y x ≡ b → not (list_any (bytes_eq y) names) ≡ true → IsIn x names → b ≡ false
 other_cases x y names false e d i = refl
-other_cases x y names true e d i = is_both (list_any (bytes_eq y) names) (any_of (bytes_eq y) names x i e) d
+other_cases x y names true e d i = no_other (list_any (bytes_eq y) names) (any_of (bytes_eq y) names x i e) d
 
 place_here : (name : List ℕ) (b : Block) (bs : List Block) (t : Bool) → bytes_eq b.name name ≡ t → t ≡ true → position_or_len (λ (x : Block). bytes_eq x.name name) (b ∷ bs) ≡ 0
 place_here name b bs true e h = ap (λ t. cond (not t) (1 + position_or_len (λ (x : Block). bytes_eq x.name name) bs) 0) e
@@ -147,12 +140,12 @@ one_up k n e = omega (arith, e)
 
 placed : (bs : List Block) (k : ℕ) (b : Block) → is_distinct (map name_of_block bs) ≡ true → slice_get bs k ≡ Some b → position_or_len (λ (x : Block). bytes_eq x.name b.name) bs ≡ k
 placed [] k b d e = none_some e
-placed (c ∷ bs) zero b d e = place_here b.name c bs (bytes_eq c.name b.name) refl (ap (λ (x : Block). bytes_eq x.name b.name) (some_same e) ∙ same_bytes b.name)
+placed (c ∷ bs) zero b d e = place_here b.name c bs (bytes_eq c.name b.name) refl (ap (λ (x : Block). bytes_eq x.name b.name) (some_same e) ∙ bytes_itself b.name)
 placed (c ∷ bs) (suc k) b d e =
     place_later b.name c bs (bytes_eq c.name b.name) refl
-    (other_cases b.name c.name (map name_of_block bs) (bytes_eq c.name b.name) refl (first_true (not (list_any (bytes_eq c.name) (map name_of_block bs))) (is_distinct (map name_of_block bs)) d) (in_map name_of_block b bs (in_got bs k b e)))
-    ∙ one_up k _ (placed bs k b (second_true (not (list_any (bytes_eq c.name) (map name_of_block bs))) (is_distinct (map name_of_block bs)) d) e)
+    (other_cases b.name c.name (map name_of_block bs) (bytes_eq c.name b.name) refl (first_of (not (list_any (bytes_eq c.name) (map name_of_block bs))) (is_distinct (map name_of_block bs)) d) (in_map name_of_block b bs (in_got bs k b e)))
+    ∙ one_up k _ (placed bs k b (second_of (not (list_any (bytes_eq c.name) (map name_of_block bs))) (is_distinct (map name_of_block bs)) d) e)
 
 -- a block's name names it
 pub named_number : (m : Module) (g : Function) → Sound m g → (k : ℕ) (b : Block) → slice_get (blocks_of g) k ≡ Some b → block_number g b.name ≡ Some k
-named_number m g s k b e = at_place (λ (x : Block). bytes_eq x.name b.name) (blocks_of g) k (placed (blocks_of g) k b s.names e) (slice_get_within (blocks_of g) k b e)
+named_number m g s k b e = position_is (λ (x : Block). bytes_eq x.name b.name) (blocks_of g) k (placed (blocks_of g) k b s.names e) (slice_get_within (blocks_of g) k b e)

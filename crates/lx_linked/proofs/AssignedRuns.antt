@@ -3,6 +3,9 @@ use Rattle.std.proofs.Common.{◌≡◌, ℕ, zero, suc, ◌+◌, ◌*◌, ◌<�
 use Rattle.std.specs.Prelude.{All, slice_get, slice_set}
 use Rattle.std.proofs.lemmas.List.Elements.{All-head, All-tail}
 use Rattle.lx_words.specs.Word.{Word}
+use Rattle.lx_words.proofs.Tests.{false_true}
+use Rattle.lx_words.proofs.Options.{none_some, some_same}
+use Rattle.lx_words.proofs.Lists.{map_length}
 use Rattle.lx_ir.specs.declared.module.Function.{Function}
 use Rattle.lx_ir.specs.declared.module.Parameter.{Parameter}
 use Rattle.lx_ir.specs.Layout.{width_of}
@@ -16,7 +19,6 @@ use Rattle.lx_model.specs.Serve.{serve}
 use Rattle.lx_model.specs.State.{State}
 use Rattle.lx_model.specs.World.{World, event_if, event_of, event, opening, run}
 use Rattle.lx_link_texts.specs.WellFormed.{FitsCall, FitsCalls}
-use Rattle.lx_simulation.proofs.Elements.{none_some}
 use Rattle.lx_simulation.proofs.Walking.{no_ops}
 use Rattle.lx_simulation.proofs.Counting.{widths_length}
 use Rattle.lx_simulation.proofs.Frames.{AllVerified, sound_at}
@@ -29,8 +31,6 @@ use Rattle.lx_linked.proofs.Entering.{top_code, served_fits}
 use Rattle.lx_linked.proofs.Frames.{with_all, thread_with, FramesStood, CallsFit, ThreadStood, AskedWell, as_many}
 use Rattle.lx_linked.proofs.Stepping.{StepSame, step_same}
 use Rattle.lx_linked.proofs.Replying.{absorbed_same}
-use Rattle.lx_caps.proofs.Tests.{false_true}
-use Rattle.lx_caps.proofs.Items.{some_same, map_length}
 
 -- up to the next request
 

@@ -1,11 +1,13 @@
 -- What a called name names takes the arguments of the call, and gives its result.
 use Rattle.std.proofs.Common.{◌≡◌, ℕ, zero, suc, ◌+◌, ◌<◌, Bool, true, false, not, ◌&&◌, ◌||◌, List, [], ◌∷◌, ◌++◌, length, take, get_or, Option, Some, None, refl, sym, subst, ◌∙◌, ap, arith}
-use Rattle.std.specs.Prelude.{slice_get, bytes_eq, position, find, codes, nat_lt, cond, option_and_then, unwrap_or}
+use Rattle.std.specs.Prelude.{slice_get, bytes_eq, position, codes, nat_lt, cond, option_and_then, unwrap_or}
 use Rattle.std.specs.List.{position_or_len}
-use Rattle.std.proofs.lemmas.List.Folds.{find_at}
 use Rattle.std.proofs.lemmas.List.Quantifiers.{position-Some}
 use Rattle.std.proofs.lemmas.Option.{slice_get-get_or}
 use Rattle.lx_words.specs.declared.word.Width.{Width}
+use Rattle.lx_words.proofs.Tests.{true_false, first_of, second_of, either_second}
+use Rattle.lx_words.proofs.Options.{none_some, some_same}
+use Rattle.lx_words.proofs.Lists.{same_bytes, all_got, place_is_here, find_placed, found_is, position_is, front_place}
 use Rattle.lx_caps.specs.declared.Principal.{Principal}
 use Rattle.lx_caps.specs.declared.Principal.TheVariants.{Kernel, Shared, Global, Inst}
 use Rattle.lx_ir.specs.declared.module.Function.{Function}
@@ -21,12 +23,11 @@ use Rattle.lx_model.specs.Fits.{FitsPrincipal, native_widths}
 use Rattle.lx_link_texts.specs.Signatures.{are_behind_pointer, has_native_signature, has_slot_call_signature, have_same_signature, native_result}
 use Rattle.lx_link_texts.specs.Faults.{defined, is_alias, is_exported, is_kernel_name, kernel_native, slot_called}
 use Rattle.lx_link_texts.specs.WellFormed.{IsModuleOf, IsWellFormed, is_import_of, is_kernel_import, is_kernel_import_by, is_module_import}
-use Rattle.lx_simulation.proofs.Elements.{none_some, all_in, in_got}
+use Rattle.lx_simulation.proofs.Elements.{all_in, in_got}
 use Rattle.lx_simulation.proofs.Linking.{linked}
 use Rattle.lx_linked.proofs.Functions.{Known, known}
 use Rattle.lx_linked.proofs.Widths.{widths_are, result_is}
-use Rattle.lx_caps.proofs.Tests.{first_true, true_false, second_true, or_second, no_less, or_chosen}
-use Rattle.lx_caps.proofs.Items.{all_got, bytes_are, some_same, at_place}
+use Rattle.lx_caps.proofs.Tests.{or_chosen}
 use Rattle.lx_simulation.proofs.Frames.{entry_function}
 use Rattle.lx_simulation.proofs.Counting.{entry_is}
 
@@ -68,18 +69,8 @@ numbered p h f n e =
     let found = position-Some (is_entry h f) p.functions n (Native 0) e in
     slice_get-get_or p.functions n (Native 0) found.0 ∙ ap (λ (x : ProgramFunction). Some x) (entry_is h f (get_or p.functions n (Native 0)) found.1)
 
--- a number that a list is searched for is the first place
-place_is : {A : Type 0} (p : A → Bool) (xs : List A) (k : ℕ) (b : Bool) → nat_lt (position_or_len p xs) (length xs) ≡ b → cond b (Some (position_or_len p xs)) None ≡ Some k → (position_or_len p xs ≡ k) × (position_or_len p xs < length xs)
-place_is p xs k true e h = (some_same h, less (position_or_len p xs) (length xs) e) where
-  less : (a b : ℕ) → nat_lt a b ≡ true → a < b
-  less a b h = grind (arith, h)
-place_is p xs k false e h = none_some h
-
 placed : {A : Type 0} (p : A → Bool) (xs : List A) (k : ℕ) → position p xs ≡ Some k → (position_or_len p xs ≡ k) × (position_or_len p xs < length xs)
-placed p xs k e = place_is p xs k (nat_lt (position_or_len p xs) (length xs)) refl e
-
-found_place : {A : Type 0} (p : A → Bool) (xs : List A) (k : ℕ) → position p xs ≡ Some k → find p xs ≡ slice_get xs k
-found_place p xs k e = find_at p xs ∙ ap (slice_get xs) (placed p xs k e).0
+placed p xs k e = place_is_here p xs k (nat_lt (position_or_len p xs) (length xs)) refl e
 
 less_suc : (a b : ℕ) → 1 + a < suc b → a < b
 less_suc a b h = omega (arith, h)
@@ -89,11 +80,6 @@ front_cases : {A : Type 0} (p : A → Bool) (x : A) (xs : List A) (n : ℕ) (b :
 front_cases p x xs n true ih l = refl
 front_cases p x xs n false ih l = ap (λ (k : ℕ). 1 + k) (ih (less_suc _ _ l))
 
-front_place : {A : Type 0} (p : A → Bool) (xs : List A) (n : ℕ) → position_or_len p (take n xs) < length (take n xs) → position_or_len p xs ≡ position_or_len p (take n xs)
-front_place p xs zero l = no_less _ l
-front_place p [] (suc n) l = refl
-front_place p (x ∷ xs) (suc n) l = front_cases p x xs n (p x) (front_place p xs n) l
-
 -- the natives
 
 -- a native of the kernel's is the native of that number, and not the last
@@ -101,7 +87,7 @@ native_is : (name : List ℕ) (k : ℕ) → kernel_native name ≡ Some k → (n
 native_is name k e =
     let at = placed (bytes_eq name) (take 5 native_names) k e in
     let few : k < 5 = subst (λ (n : ℕ). n < 5) at.0 at.1 in
-    (at_place (bytes_eq name) native_names k (front_place (bytes_eq name) native_names 5 at.1 ∙ at.0) (omega (arith, few)), few)
+    (position_is (bytes_eq name) native_names k (front_place (bytes_eq name) native_names 5 at.1 ∙ at.0) (omega (arith, few)), few)
 
 slot_front : (x : List ℕ) (k : ℕ) → k < 6 → bytes_eq (codes "k.slot." ++ x) (get_or native_names k []) ≡ true → ⊥
 slot_front x zero l e = true_false (sym e)
@@ -117,14 +103,7 @@ slot_is_none : (name x : List ℕ) (n : Option ℕ) → native_named name ≡ n 
 slot_is_none name x None en e = refl
 slot_is_none name x (Some k) en e =
     let found = position-Some (bytes_eq name) native_names k [] en in
-    absurd (slot_front x k found.0 (ap (λ (y : List ℕ). bytes_eq y (get_or native_names k [])) (bytes_are (codes "k.slot." ++ x) name e) ∙ found.1))
-
-found_is : {A : Type 0} (p : A → Bool) (xs : List A) (x : A) → find p xs ≡ Some x → p x ≡ true
-found_is p [] x e = none_some e
-found_is p (y ∷ xs) x e = cases p y xs x (p y) refl e (found_is p xs x) where
-  cases : {A : Type 0} (p : A → Bool) (y : A) (xs : List A) (x : A) (b : Bool) → p y ≡ b → cond b (Some y) (find p xs) ≡ Some x → (find p xs ≡ Some x → p x ≡ true) → p x ≡ true
-  cases p y xs x true eb e ih = ap p (sym (some_same e)) ∙ eb
-  cases p y xs x false eb e ih = ih e
+    absurd (slot_front x k found.0 (ap (λ (y : List ℕ). bytes_eq y (get_or native_names k [])) (same_bytes (codes "k.slot." ++ x) name e) ∙ found.1))
 
 -- what a name names
 
@@ -163,8 +142,8 @@ few_callers (suc (suc (suc (suc (suc n))))) l = absurd (omega (arith, l))
 native_fits : (p : Program) (h : Home) (k : ℕ) (g : Function) → k < 6 → MayCallFrom h (native_call k) → has_native_signature k g ≡ true → TargetFits p h (param_widths g) (result_width g) (ToNative k)
 native_fits p h k g l may e = (
   l,
-  sym (widths_are (native_widths (native_call k)) (param_widths g) (first_true (same_widths (native_widths (native_call k)) (param_widths g)) (same_result (native_result (native_call k)) (result_width g)) e)),
-  sym (result_is (native_result (native_call k)) (result_width g) (second_true (same_widths (native_widths (native_call k)) (param_widths g)) (same_result (native_result (native_call k)) (result_width g)) e)),
+  sym (widths_are (native_widths (native_call k)) (param_widths g) (first_of (same_widths (native_widths (native_call k)) (param_widths g)) (same_result (native_result (native_call k)) (result_width g)) e)),
+  sym (result_is (native_result (native_call k)) (result_width g) (second_of (same_widths (native_widths (native_call k)) (param_widths g)) (same_result (native_result (native_call k)) (result_width g)) e)),
   may,
 )
 
@@ -172,9 +151,9 @@ slot_fits : (p : Program) (g : Function) (t : SlotType) (s : Option ℕ) → slo
 slot_fits p g t None es et e = tt
 slot_fits p g t (Some s) es et e = (
   t,
-  sym (found_place (λ (x : SlotType). bytes_eq (codes "k.slot." ++ x.name) g.name) p.interface.slots s es) ∙ et,
-  first_true (are_behind_pointer t.params (param_widths g)) (same_result (declared_width t.ret) (result_width g)) e,
-  result_is (declared_width t.ret) (result_width g) (second_true (are_behind_pointer t.params (param_widths g)) (same_result (declared_width t.ret) (result_width g)) e),
+  sym (find_placed (λ (x : SlotType). bytes_eq (codes "k.slot." ++ x.name) g.name) p.interface.slots s es) ∙ et,
+  first_of (are_behind_pointer t.params (param_widths g)) (same_result (declared_width t.ret) (result_width g)) e,
+  result_is (declared_width t.ret) (result_width g) (second_of (are_behind_pointer t.params (param_widths g)) (same_result (declared_width t.ret) (result_width g)) e),
 )
 
 one_more : (k : ℕ) → k < 5 → k < 6
@@ -199,13 +178,13 @@ import_at p g f k None ek ef e en m = tt
 import_at p g f None (Some n) ek ef e en m = none_some en
 import_at p g f (Some k) (Some n) ek ef e en m =
     let at = numbered p None k n en in
-    let got : slice_get p.kernel.functions k ≡ Some f = sym (found_place (λ (x : Function). is_defined x && bytes_eq x.name g.name) p.kernel.functions k ek) ∙ ef in (
+    let got : slice_get p.kernel.functions k ≡ Some f = sym (find_placed (λ (x : Function). is_defined x && bytes_eq x.name g.name) p.kernel.functions k ek) ∙ ef in (
       ap (λ (x : Option ProgramFunction). is_home None (home_of_entry x)) at,
       (
         f,
         ap (function_of_entry p) at ∙ got,
-        widths_are (param_widths g) (param_widths f) (first_true (same_widths (param_widths g) (param_widths f)) (same_result (result_width g) (result_width f)) e),
-        result_is (result_width g) (result_width f) (second_true (same_widths (param_widths g) (param_widths f)) (same_result (result_width g) (result_width f)) e),
+        widths_are (param_widths g) (param_widths f) (first_of (same_widths (param_widths g) (param_widths f)) (same_result (result_width g) (result_width f)) e),
+        result_is (result_width g) (result_width f) (second_of (same_widths (param_widths g) (param_widths f)) (same_result (result_width g) (result_width f)) e),
       ),
     )
 
@@ -224,7 +203,7 @@ module_fits : (p : Program) (g : Function) (m : ℕ) (b : Bool) → is_alias g.n
 module_fits p g m true ea e = native_fits p (Some m) 5 g (omega arith) tt (or_chosen (is_alias g.name) (has_native_signature 5 g) _ ea e)
 module_fits p g m false ea e =
     let further = alias_second (is_alias g.name) (has_native_signature 5 g) _ ea e in
-    exported_by p g m (defined p.kernel g.name) refl (second_true (is_exported p.interface g.name) _ (second_true (not (is_kernel_name g.name)) _ further))
+    exported_by p g m (defined p.kernel g.name) refl (second_of (is_exported p.interface g.name) _ (second_of (not (is_kernel_name g.name)) _ further))
 
 of_module : (p : Program) → IsWellFormed p → (m k : ℕ) (g : Function) (x : Option ProgramModule) → slice_get p.modules m ≡ x → slice_get (module_or_empty x).functions k ≡ Some g → is_defined g ≡ false →
     TargetFits p (Some m) (param_widths g) (result_width g) (cond (is_alias g.name) (ToNative 5) (kernel_import (kernel_function p g.name)))
@@ -232,12 +211,12 @@ of_module p w m k g None ex eg ed = none_some eg
 of_module p w m k g (Some x) ex eg ed =
     let of = all_got (λ (y : ProgramModule). IsModuleOf p.kernel p.interface y.«module») p.modules m x w.modules ex in
     module_fits p g m (is_alias g.name) refl
-    (or_second (is_defined g) _ ed (all_in (is_module_import p.kernel p.interface) x.«module».functions g of.imports (in_got x.«module».functions k g eg)))
+    (either_second (is_defined g) _ ed (all_in (is_module_import p.kernel p.interface) x.«module».functions g of.imports (in_got x.«module».functions k g eg)))
 
 import_fits : (p : Program) → IsWellFormed p → (h : Home) (k : ℕ) (g : Function) → slice_get (module_of p h).functions k ≡ Some g → is_defined g ≡ false → TargetFits p h (param_widths g) (result_width g) (import p h g.name)
 import_fits p w None k g eg ed =
     kernel_fits p g (kernel_native g.name) (slot_called p.interface g.name) refl refl
-    (or_second (is_defined g) _ ed (all_in (is_kernel_import p.interface) p.kernel.functions g w.kernel_imports (in_got p.kernel.functions k g eg)))
+    (either_second (is_defined g) _ ed (all_in (is_kernel_import p.interface) p.kernel.functions g w.kernel_imports (in_got p.kernel.functions k g eg)))
 import_fits p w (Some m) k g eg ed = of_module p w m k g (slice_get p.modules m) refl eg ed
 
 defined_fits : (p : Program) → IsWellFormed p → (h : Home) (k : ℕ) (g : Function) (b : Bool) → is_defined g ≡ b → slice_get (module_of p h).functions k ≡ Some g →

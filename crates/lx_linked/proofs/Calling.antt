@@ -3,6 +3,9 @@ use Rattle.std.proofs.Common.{◌≡◌, ℕ, Bool, true, false, ◌&&◌, ◌||
 use Rattle.std.specs.Prelude.{slice_get, is_some, is_none, option_map, cond, flat_map}
 use Rattle.std.specs.List.{list_all}
 use Rattle.lx_words.specs.Word.{Word}
+use Rattle.lx_words.proofs.Tests.{true_false, first_of, second_of, suc_same}
+use Rattle.lx_words.proofs.Options.{none_some, some_same}
+use Rattle.lx_words.proofs.Lists.{map_length}
 use Rattle.lx_ir.specs.declared.types.Scalar.{Scalar}
 use Rattle.lx_ir.specs.declared.module.Symbol.TheVariants as symbol
 use Rattle.lx_ir.specs.declared.module.Block.{Block}
@@ -30,50 +33,44 @@ use Rattle.lx_model.specs.Program.{Home, home_or_kernel, module_of, function_of,
 use Rattle.lx_model.specs.Thread.{Activation, head_destination}
 use Rattle.lx_model.specs.Effect.{Effect, Wants, Enters, Calls, effect, division, arrival, target_effect, slot_effect, call_effect, text_of, argument_words, call_result, returned_by, returned_at, returned_value}
 use Rattle.lx_images.specs.Places.{IsIn}
-use Rattle.lx_simulation.proofs.Elements.{none_some, all_in}
+use Rattle.lx_simulation.proofs.Elements.{all_in}
 use Rattle.lx_simulation.proofs.Walking.{here, no_ops, instr_in}
 use Rattle.lx_simulation.proofs.Counting.{signature_counts}
 use Rattle.lx_simulation.proofs.Targets.{TargetFits, target_fits}
 use Rattle.lx_simulation.proofs.Frames.{sound_at, entry_function}
 use Rattle.lx_linked.proofs.AssignedEffects.{StandsBy, StandsIn}
 use Rattle.lx_linked.proofs.Signatures.{Linked, Takes, TakesSlot, NativeGives, TargetTakes, target_takes, width_there}
-use Rattle.lx_caps.proofs.Tests.{first_true, true_false, second_true, one_less}
-use Rattle.lx_caps.proofs.Items.{some_same, map_length}
 use Rattle.lx_simulation.proofs.Verifying.{import_blocks}
+use Rattle.lx_simulation.proofs.Table.{in_either}
 
 -- instructions of a lawful function have their form
-
-either_in : {A : Type 0} (x : A) (xs ys : List A) → IsIn x (xs ++ ys) → IsIn x xs ⊎ IsIn x ys
-either_in x [] ys i = inr i
-either_in x (y ∷ xs) ys (inl e) = inl (inl e)
-either_in x (y ∷ xs) ys (inr i) = elim (either_in x xs ys i) [ inl a ↦ inl (inr a) | inr b ↦ inr b ]
 
 flat_in : {A B : Type 0} (f : A → List B) (y : B) (xs : List A) → IsIn y (flat_map f xs) → (x : A) × IsIn x xs × IsIn y (f x)
 flat_in f y [] i = absurd i
 flat_in f y (x ∷ xs) i =
-    elim (either_in y (f x) (flat_map f xs) i) [
+    elim (in_either y (f x) (flat_map f xs) i) [
       | inl a ↦ (x, inl refl, a)
       | inr b ↦ (let r = flat_in f y xs b in (r.0, inr r.1, r.2))
     ]
 
 block_formed : (m : Module) (f : Function) (b : Block) (i : Instr) → is_lawful_block m f b ≡ true → IsIn i b.instrs → has_form m i.op ≡ true
 block_formed m f b i e a =
-    let ops = second_true (is_label b.name && ends_once b.instrs) (list_all (λ (x : Instr). is_lawful_op m f x.op) b.instrs) e in
+    let ops = second_of (is_label b.name && ends_once b.instrs) (list_all (λ (x : Instr). is_lawful_op m f x.op) b.instrs) e in
     let one = all_in (λ (x : Instr). is_lawful_op m f x.op) b.instrs i ops a in
-    first_true (has_form m i.op) _ (first_true (has_form m i.op && list_all (λ a. is_lawful_value m f a.ty a.value) (operands_of i.op)) _ one)
+    first_of (has_form m i.op) _ (first_of (has_form m i.op && list_all (λ a. is_lawful_value m f a.ty a.value) (operands_of i.op)) _ one)
 
 body_formed : (m : Module) (f : Function) (i : Instr) → is_lawful_body m f ≡ true → IsIn i (instrs_of f) → has_form m i.op ≡ true
 body_formed m f i e a =
     let b = flat_in (λ (b : Block). b.instrs) i (blocks_of f) a in
-    let blocks = second_true _ (list_all (is_lawful_block m f) (blocks_of f)) (first_true _ (numbers_registers f) e) in
+    let blocks = second_of _ (list_all (is_lawful_block m f) (blocks_of f)) (first_of _ (numbers_registers f) e) in
     block_formed m f b.0 i (all_in (is_lawful_block m f) (blocks_of f) b.0 blocks b.1) b.2
 
-formed_by : (m : Module) (f : Function) (i : Instr) (b : Bool) → is_defined f ≡ b → cond b (is_lawful_body m f) (is_lawful_import f) ≡ true → IsIn i (instrs_of f) → has_form m i.op ≡ true
+pub formed_by : (m : Module) (f : Function) (i : Instr) (b : Bool) → is_defined f ≡ b → cond b (is_lawful_body m f) (is_lawful_import f) ≡ true → IsIn i (instrs_of f) → has_form m i.op ≡ true
 formed_by m f i true d e a = body_formed m f i e a
 formed_by m f i false d e a = absurd (subst (λ (bs : List Block). IsIn i (flat_map (λ (b : Block). b.instrs) bs)) (import_blocks f false d refl) a)
 
 formed : (m : Module) (f : Function) (i : Instr) → IsVerified m → IsIn f m.functions → IsIn i (instrs_of f) → has_form m i.op ≡ true
-formed m f i v j a = formed_by m f i (is_defined f) refl (second_true _ _ (all_in (is_lawful_function m) m.functions f v.lawful.functions j)) a
+formed m f i v j a = formed_by m f i (is_defined f) refl (second_of _ _ (all_in (is_lawful_function m) m.functions f v.lawful.functions j)) a
 
 -- what is known of the instruction at which a function stands
 record Founded (p : Program) (a : Activation) (o : Op) : Type 0 where
@@ -92,7 +89,7 @@ founded_by p l a qs o os (Some g) ef ec st =
     record {
       function = g;
       is = ef;
-      form = ap (form_fits m g) (sym h.same) ∙ second_true (list_all (λ (x : Argument). value_fits (register_types g) x.ty x.value) (operands_of h.instr.op)) (form_fits m g h.instr.op) typed;
+      form = ap (form_fits m g) (sym h.same) ∙ second_of (list_all (λ (x : Argument). value_fits (register_types g) x.ty x.value) (operands_of h.instr.op)) (form_fits m g h.instr.op) typed;
       shape = ap (has_form m) (sym h.same) ∙ formed m g h.instr (l.verified (text_of p a)) (entry_function p (slice_get p.functions a.function) g ef) at;
     }
 
@@ -143,7 +140,7 @@ arrival_fits p code a (Some b) = tt
 
 slot_fits : (p : Program) (code : List Op) (s : ℕ) (args : List Word) → TakesSlot p (needs code) (length args) s → EffectFits p code (slot_effect s args)
 slot_fits p code s [] takes = tt
-slot_fits p code s (x ∷ args) takes = λ st e. (let h = takes st e in (one_less (length args) (length st.params) h.0, h.1))
+slot_fits p code s (x ∷ args) takes = λ st e. (let h = takes st e in (suc_same (length args) (length st.params) h.0, h.1))
 
 target_asks : (p : Program) (code : List Op) (h : Home) (t : Target) (args : List Word) → TargetTakes p (needs code) (length args) t → TargetFits p h t → EffectFits p code (target_effect t args)
 target_asks p code h (ToNative k) args takes fits = takes
@@ -164,18 +161,18 @@ result_given (Some s) (Some t) e h = refl
 
 signature_result : (ret : Option Scalar) (args : List Argument) (o : Option Function) (g : Function) → has_signature ret args o ≡ true → o ≡ Some g → same_scalars ret g.ret ≡ true
 signature_result ret args None g e eg = none_some eg
-signature_result ret args (Some f) g e eg = ap (λ (x : Function). same_scalars ret x.ret) (sym (some_same eg)) ∙ first_true (same_scalars ret f.ret) (are_arguments args f.params) e
+signature_result ret args (Some f) g e eg = ap (λ (x : Function). same_scalars ret x.ret) (sym (some_same eg)) ∙ first_of (same_scalars ret f.ret) (are_arguments args f.params) e
 
 call_fits : (p : Program) → Linked p → (a : Activation) (to : Option ℕ) (ret : Option Scalar) (y : Callee) (args : List Argument) (os : List Op) (words : List Word) → length words ≡ length args → Founded p a (op.Call to ret y args) →
     EffectFits p (op.Call to ret y args ∷ os) (call_effect p a y words)
 call_fits p l a to ret (callee.Symbol (symbol.Function k)) args os words many f =
     let m : Module = module_of p (text_of p a) in
     let sig = signature_counts ret args (slice_get m.functions k) f.form in
-    let res : is_some to ≡ true → is_some sig.0.ret ≡ true = λ h. result_given ret sig.0.ret (signature_result ret args (slice_get m.functions k) sig.0 f.form sig.1) (call_needs to ret (first_true (is_none to || is_some ret) _ f.shape) h) in
+    let res : is_some to ≡ true → is_some sig.0.ret ≡ true = λ h. result_given ret sig.0.ret (signature_result ret args (slice_get m.functions k) sig.0 f.form sig.1) (call_needs to ret (first_of (is_none to || is_some ret) _ f.shape) h) in
     target_asks p (op.Call to ret (callee.Symbol (symbol.Function k)) args ∷ os) (text_of p a) (target p (text_of p a) k) words
     (subst (λ (n : ℕ). TargetTakes p (is_some to) n (target p (text_of p a) k)) (sym (many ∙ sig.2)) (target_takes p l (is_some to) (text_of p a) k sig.0 sig.1 res)) (target_fits p (text_of p a) k)
 call_fits p l a to ret (callee.Symbol (symbol.Global k)) args os words many f = tt
-call_fits p l a to ret (callee.Register r) args os words many f = λ h. width_there ret (call_needs to ret (first_true (is_none to || is_some ret) _ f.shape) h)
+call_fits p l a to ret (callee.Register r) args os words many f = λ h. width_there ret (call_needs to ret (first_of (is_none to || is_some ret) _ f.shape) h)
 
 fits_by : (p : Program) → Linked p → (a : Activation) (o : Op) (os : List Op) → Founded p a o → EffectFits p (o ∷ os) (effect p a o)
 fits_by p l a (op.Binary to b ty x y) os f = division_fits p (op.Binary to b ty x y ∷ os) a _

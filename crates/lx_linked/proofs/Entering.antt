@@ -3,6 +3,9 @@ use Rattle.std.proofs.Common.{◌≡◌, ℕ, zero, suc, Bool, true, false, ◌|
 use Rattle.std.specs.Prelude.{slice_get, is_some, option_map, option_and_then, unwrap_or}
 use Rattle.lx_words.specs.Word.{Word}
 use Rattle.lx_words.specs.declared.word.Width.{Width}
+use Rattle.lx_words.proofs.Tests.{first_of, second_of, false_true, never}
+use Rattle.lx_words.proofs.Options.{none_some, some_same}
+use Rattle.lx_words.proofs.Lists.{map_length}
 use Rattle.lx_caps.specs.declared.Principal.{Principal}
 use Rattle.lx_caps.specs.declared.Cap.TheVariants.{Call}
 use Rattle.lx_caps.specs.History.{holds}
@@ -36,12 +39,9 @@ use Rattle.lx_model.specs.State.{State}
 use Rattle.lx_model.specs.Thread.{Frame}
 use Rattle.lx_model.specs.Effect.{call_result}
 use Rattle.lx_link_texts.specs.Signatures.{native_result}
-use Rattle.lx_simulation.proofs.Elements.{none_some}
 use Rattle.lx_simulation.proofs.Counting.{declared_many, params_fit}
 use Rattle.lx_linked.proofs.Signatures.{Takes, same_there}
 use Rattle.lx_linked.proofs.Calling.{needs, WayFits, AskFits}
-use Rattle.lx_caps.proofs.Tests.{first_true, second_true, false_true, false_unless}
-use Rattle.lx_caps.proofs.Items.{some_same, map_length}
 use Rattle.lx_model.proofs.Passing.{passed, neither}
 
 -- the function that is entered fits its site, but for the result of an indirect call, which is tried at the site
@@ -73,9 +73,9 @@ slot_type_takes p need args None o g fits e h = false_true h
 slot_type_takes p need args (Some st) None g fits e h = none_some e
 slot_type_takes p need args (Some st) (Some f) g fits e h =
     let known = fits st refl in
-    let many : length args ≡ length f.params = known.0 ∙ (sym (declared_many st.params (param_widths f) (first_true (are_declared st.params (param_widths f)) _ h)) ∙ map_length (λ (x : Parameter). width_of x.ty) f.params) in (
+    let many : length args ≡ length f.params = known.0 ∙ (sym (declared_many st.params (param_widths f) (first_of (are_declared st.params (param_widths f)) _ h)) ∙ map_length (λ (x : Parameter). width_of x.ty) f.params) in (
       many ∙ ap (λ (y : Function). length y.params) (some_same e),
-      λ n. subst (λ (y : Function). is_some y.ret ≡ true) (some_same e) (same_there (declared_width st.ret) f (second_true _ (same_result (declared_width st.ret) (result_width f)) h) (known.1 n)),
+      λ n. subst (λ (y : Function). is_some y.ret ≡ true) (some_same e) (same_there (declared_width st.ret) f (second_of _ (same_result (declared_width st.ret) (result_width f)) h) (known.1 n)),
     )
 
 -- who is entered
@@ -99,7 +99,7 @@ indirect_fits p s code who a args (Some n) e fits =
     let both = neither (unless (fits_params p args n) (Trapped (Signature a))) _ behind in
     found_fits p s code who (Indirect a) args n (runs_as p s who (Indirect a) n args) both.1 (params_take p args n (passed (fits_params p args n) (Trapped (Signature a)) both.0), fits)
 
-no_target : (p : Program) (s : State) (who : Principal) (slot ty a : ℕ) (ws : List Principal) → by_writers p s who slot ty a None ws ≡ None → ⊥
+pub no_target : (p : Program) (s : State) (who : Principal) (slot ty a : ℕ) (ws : List Principal) → by_writers p s who slot ty a None ws ≡ None → ⊥
 no_target p s who slot ty a [] e = none_some (sym e)
 no_target p s who slot ty a (w ∷ ws) e = none_some (sym (neither (writer_refusal s slot a (w ∷ ws)) (written_target p who a ty None) e).1)
 
@@ -130,11 +130,11 @@ lock_fits p s code k at (suc n) args = tt
 
 native_fits : (p : Program) (s : State) (code : List Op) (t : ℕ) (who : Principal) (k : ℕ) (args : List Word) (call : NativeCall) → (needs code ≡ true → is_some (native_result call) ≡ true) → RepliesWell p code (what.Native k args) (after_native s t who call args).reply
 native_fits p s code t who k args Alloc h = tt
-native_fits p s code t who k args Free h = false_unless (needs code) h
-native_fits p s code t who k args ZeroBytes h = false_unless (needs code) h
+native_fits p s code t who k args Free h = never (needs code) h
+native_fits p s code t who k args ZeroBytes h = never (needs code) h
 native_fits p s code t who k args TryLock h = lock_fits p s code k _ _ args
-native_fits p s code t who k args NoteValue h = false_unless (needs code) h
-native_fits p s code t who k args AliasPrincipal h = false_unless (needs code) h
+native_fits p s code t who k args NoteValue h = never (needs code) h
+native_fits p s code t who k args AliasPrincipal h = never (needs code) h
 
 -- a request that is served
 

@@ -1,10 +1,12 @@
 -- What an instruction asks for fits, and what it goes on to is at a place of its text.
 use Rattle.std.proofs.Common.{◌≡◌, ℕ, zero, suc, ◌≤◌, Bool, true, false, ◌||◌, List, [], ◌∷◌, map, Option, Some, None, inl, inr, refl, sym, ◌∙◌, ap}
-use Rattle.std.specs.Prelude.{slice_get, option_map, option_and_then, unwrap_or, find, cond, is_none, is_some, nat_eq}
+use Rattle.std.specs.Prelude.{slice_get, option_map, option_and_then, is_none, is_some, nat_eq}
 use Rattle.lx_words.specs.declared.word.Width.{Width}
 use Rattle.lx_words.specs.declared.word.Width.TheVariants.{W1, W64}
 use Rattle.lx_words.specs.Width.{same_width}
 use Rattle.lx_words.specs.Word.{Word, compare}
+use Rattle.lx_words.proofs.Tests.{true_false, first_of, second_of, next_above, le_trans}
+use Rattle.lx_words.proofs.Options.{some_none, none_some, some_same}
 use Rattle.lx_caps.specs.declared.Principal.{Principal}
 use Rattle.lx_caps.specs.declared.Principal.TheVariants.{Kernel, Shared, Global, Inst}
 use Rattle.lx_annot.specs.declared.interface.Slot.{Slot as SlotType}
@@ -40,7 +42,8 @@ use Rattle.lx_model.specs.Fits.{FitsFunction, FitsStack, FitsWhat, MayCall, nati
 use Rattle.lx_link_texts.specs.Signatures.{are_behind_pointer, native_result}
 use Rattle.lx_link_texts.specs.WellFormed.{IsWellFormed}
 use Rattle.lx_images.specs.Places.{IsIn}
-use Rattle.lx_simulation.proofs.Elements.{none_some, some_none, in_second}
+use Rattle.lx_simulation.proofs.Elements.{in_second}
+use Rattle.lx_simulation.proofs.Frames.{chosen, case_in}
 use Rattle.lx_linked.specs.Threads.{Runs, Expects}
 use Rattle.lx_linked.specs.Threads.{result_of as width_of_result}
 use Rattle.lx_linked.proofs.Widths.{widths_itself, result_itself, scalars_are, arguments_are, argument_width, binary_width}
@@ -49,8 +52,6 @@ use Rattle.lx_linked.proofs.FittingFrames.{GivesWide, Stands, stands, operands_w
 use Rattle.lx_linked.proofs.Jumping.{jump_runs}
 use Rattle.lx_linked.proofs.Aligns.{alloca_within}
 use Rattle.lx_linked.proofs.Callees.{known_at, MayCallFrom, TargetFits, target_fits}
-use Rattle.lx_caps.proofs.Tests.{first_true, true_false, second_true, next_above, at_most}
-use Rattle.lx_caps.proofs.Items.{some_same}
 
 -- what is known of who waits for a reply
 
@@ -128,7 +129,7 @@ gives_call (Some q) (Some s) c args None shape e = some_none e
 gives_call (Some q) (Some s) c args (Some w) shape e = gives_word (op.Call (Some q) (Some s) c args) w s refl (sym (some_same e))
 
 pub call_shape : (m : Module) (to : Option ℕ) (ret : Option Scalar) (c : Callee) (args : List Argument) → has_form m (op.Call to ret c args) ≡ true → (is_none to || is_some ret) ≡ true
-call_shape m to ret c args e = first_true (is_none to || is_some ret) (is_lawful_callee m c) e
+call_shape m to ret c args e = first_of (is_none to || is_some ret) (is_lawful_callee m c) e
 
 chosen_width : (n : ℕ) (a b : Word) (w : Width) → a.width ≡ w → b.width ≡ w → (choice n a b).width ≡ w
 chosen_width zero a b w ea eb = eb
@@ -144,23 +145,6 @@ conversion_width _ a into = refl
 
 -- labels
 
-chosen : (n : ℕ) (a b : List ℕ) → IsIn (choice n a b) (a ∷ b ∷ [])
-chosen zero a b = inr (inl refl)
-chosen (suc n) a b = inl refl
-
-further : {A : Type 0} (x y z : A) (zs : List A) → IsIn x (y ∷ zs) → IsIn x (y ∷ z ∷ zs)
-further x y z zs (inl e) = inl e
-further x y z zs (inr i) = inr (inr i)
-
-case_by : (c : SwitchCase) (cs : List SwitchCase) (otherwise : List ℕ) (found : Option SwitchCase) (b : Bool) → IsIn (unwrap_or (option_map (λ (x : SwitchCase). x.label) found) otherwise) (otherwise ∷ map (λ (x : SwitchCase). x.label) cs) →
-    IsIn (unwrap_or (option_map (λ (x : SwitchCase). x.label) (cond b (Some c) found)) otherwise) (otherwise ∷ map (λ (x : SwitchCase). x.label) (c ∷ cs))
-case_by c cs otherwise found true ih = inr (inl refl)
-case_by c cs otherwise found false ih = further (unwrap_or (option_map (λ (x : SwitchCase). x.label) found) otherwise) otherwise c.label (map (λ (x : SwitchCase). x.label) cs) ih
-
-case_in : (cs : List SwitchCase) (test : SwitchCase → Bool) (otherwise : List ℕ) → IsIn (unwrap_or (option_map (λ (c : SwitchCase). c.label) (find test cs)) otherwise) (otherwise ∷ map (λ (c : SwitchCase). c.label) cs)
-case_in [] test otherwise = inl refl
-case_in (c ∷ cs) test otherwise = case_by c cs otherwise (find test cs) (test c) (case_in cs test otherwise)
-
 -- arguments
 
 pub argument_widths : (p : Program) (a : Activation) (args : List Argument) → ((x : Argument) → IsIn x args → (operand p a x.value).width ≡ width_of x.ty) → widths (argument_words p a args) ≡ map argument_width args
@@ -170,7 +154,7 @@ argument_widths p a (x ∷ args) h = λ k. h x (inl refl) k ∷ argument_widths 
 signature : (ret : Option Scalar) (args : List Argument) (o : Option Function) → has_signature ret args o ≡ true → (g : Function) × (o ≡ Some g) × (map argument_width args ≡ param_widths g) × (option_map width_of ret ≡ result_width g)
 signature ret args None e = true_false (sym e)
 signature ret args (Some g) e =
-    (g, refl, arguments_are args g.params (second_true (same_scalars ret g.ret) (are_arguments args g.params) e), scalars_are ret g.ret (first_true (same_scalars ret g.ret) (are_arguments args g.params) e))
+    (g, refl, arguments_are args g.params (second_of (same_scalars ret g.ret) (are_arguments args g.params) e), scalars_are ret g.ret (first_of (same_scalars ret g.ret) (are_arguments args g.params) e))
 
 pub same_listed : (vs ws : List Width) → vs ≡ ws → same_widths vs ws ≡ true
 same_listed vs ws e = ap (same_widths vs) (sym e) ∙ widths_itself vs
@@ -193,7 +177,7 @@ may_call (Global m) h AliasPrincipal e may = refl
 may_call (Inst m k) h AliasPrincipal e may = refl
 
 behind_pointer : (t : SlotType) (x : Width) (ws : List Width) → are_behind_pointer t.params (x ∷ ws) ≡ true → are_declared t.params ws ≡ true
-behind_pointer t x ws e = second_true (same_width W64 x) (are_declared t.params ws) e
+behind_pointer t x ws e = second_of (same_width W64 x) (are_declared t.params ws) e
 
 -- a function that runs
 
@@ -299,7 +283,7 @@ returns p f v os h =
 
 allocates : (p : Program) (t : ℕ) (f : Frame) (to : ℕ) (ty : IrType) (os : List Op) (fs : List Frame) → FitsStack t f.run.low f.run.high → Top p f (op.Alloca to ty) os → EffectFits p t f fs (effect p f.run (op.Alloca to ty))
 allocates p t f to ty os fs stack h = (
-  (at_most _ _ _ stack.0 (at_most _ _ _ stack.1 (next_above f.run.high _)), alloca_within (types_of p f.run) ty t f.run.high stack.2),
+  (le_trans _ _ _ stack.0 (le_trans _ _ _ stack.1 (next_above f.run.high _)), alloca_within (types_of p f.run) ty t f.run.high stack.2),
   (to, ty, os, h.runs, h.code, next_above f.run.high _),
 )
 

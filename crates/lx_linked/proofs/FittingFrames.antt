@@ -4,6 +4,9 @@ use Rattle.std.specs.Prelude.{slice_get, slice_index_or, nat_lt, filter_map}
 use Rattle.std.specs.List.{list_all}
 use Rattle.lx_words.specs.declared.word.Width.{Width}
 use Rattle.lx_words.specs.Word.{Word}
+use Rattle.lx_words.proofs.Tests.{first_of, second_of, or_false, less_most}
+use Rattle.lx_words.proofs.Options.{some_same}
+use Rattle.lx_words.proofs.Lists.{map_length}
 use Rattle.lx_ir.specs.declared.types.Scalar.{Scalar}
 use Rattle.lx_ir.specs.declared.module.Value.{Value}
 use Rattle.lx_ir.specs.declared.module.Value.TheVariants as value
@@ -29,11 +32,10 @@ use Rattle.lx_simulation.proofs.Elements.{all_in, in_got}
 use Rattle.lx_simulation.proofs.Verifying.{gives_known}
 use Rattle.lx_simulation.proofs.Walking.{is_assigned, register_here, untouched, with_length, gives_it, Here, here, assigned_more, grows, start_code, enough}
 use Rattle.lx_linked.specs.Threads.{has_value, name_of_block, RunsAt}
-use Rattle.lx_linked.proofs.Functions.{Known, instr_at, given_type}
+use Rattle.lx_linked.proofs.Functions.{Known, given_type}
 use Rattle.lx_linked.proofs.FittingReads.{operand_valued, valued_type}
 use Rattle.lx_linked.proofs.Widths.{scalar_is, widths_are, constant_width, parameter_width}
-use Rattle.lx_caps.proofs.Tests.{or_nothing, first_true, second_true, less_most}
-use Rattle.lx_caps.proofs.Items.{some_same, map_length}
+use Rattle.lx_linked.proofs.AssignedReads.{block_instr}
 
 -- registers with values are as wide as their types
 abbrev pub Wide : Function → List ℕ → ℕ → ℕ → List Word → Type 0
@@ -60,14 +62,14 @@ pub record Stands (m : Module) (g : Function) (a : Activation) (st : RunsAt g a)
 pub stands : (m : Module) (g : Function) → Known m g → (a : Activation) (st : RunsAt g a) (o : Op) (os : List Op) → a.code ≡ o ∷ os → Stands m g a st o os
 stands m g kn a st o os ec =
     let h = here (instrs_at g st.block) st.place o os (sym st.code ∙ ec) in
-    let j = instr_at g st.block h.instr (in_got (instrs_at g st.block) st.place h.instr h.got) in
+    let j = block_instr g st.block h.instr (in_got (instrs_at g st.block) st.place h.instr h.got) in
     let typed = kn.is_sound.typed h.instr j in
     record {
       at = h;
       member = j;
       fits = sym (ap (λ (x : Op). list_all (λ (y : Argument). value_fits (register_types g) y.ty y.value) (operands_of x)) h.same)
-          ∙ first_true (list_all (λ (y : Argument). value_fits (register_types g) y.ty y.value) (operands_of h.instr.op)) (form_fits m g h.instr.op) typed;
-      form = sym (ap (form_fits m g) h.same) ∙ second_true (list_all (λ (y : Argument). value_fits (register_types g) y.ty y.value) (operands_of h.instr.op)) (form_fits m g h.instr.op) typed;
+          ∙ first_of (list_all (λ (y : Argument). value_fits (register_types g) y.ty y.value) (operands_of h.instr.op)) (form_fits m g h.instr.op) typed;
+      form = sym (ap (form_fits m g) h.same) ∙ second_of (list_all (λ (y : Argument). value_fits (register_types g) y.ty y.value) (operands_of h.instr.op)) (form_fits m g h.instr.op) typed;
       shape = sym (ap (has_form m) h.same) ∙ kn.form h.instr j;
     }
 
@@ -98,7 +100,7 @@ past_cases m g kn a st o os w s ec gives r ty true eb et hv =
     ap (λ (y : Word). y.width) put ∙ x.2 ty (sym (ap result_of s.at.same) ∙ (sym (given_type m g kn s.at.instr r s.member given) ∙ et))
 past_cases m g kn a st o os w s ec gives r ty false eb et hv =
     ap (λ (y : Word). y.width) (untouched (head_destination a.code) w a.registers r (ap (λ (xs : List Op). is_given r (head_destination xs)) ec ∙ eb))
-    ∙ st.widths r ty et (ap (λ (b : Bool). nat_lt r (length g.params) || b) (sym (or_nothing (is_assigned g st.walk st.block st.place r))) ∙ hv)
+    ∙ st.widths r ty et (ap (λ (b : Bool). nat_lt r (length g.params) || b) (sym (or_false (is_assigned g st.walk st.block st.place r))) ∙ hv)
 
 pub past_runs : (m : Module) (g : Function) → Known m g → (a : Activation) (st : RunsAt g a) (o : Op) (os : List Op) (w : Option Word) → Stands m g a st o os → a.code ≡ o ∷ os → GivesWide o w → RunsAt g (activation_behind w a)
 past_runs m g kn a st o os w s ec gives =
@@ -145,7 +147,7 @@ param_wide (x ∷ args) (q ∷ ps) ts n zero ty e h et = first_width e ∙ ap wi
 param_wide (x ∷ args) (q ∷ ps) ts n (suc r) ty e h et = param_wide args ps ts n r ty (rest_widths e) (omega (arith, h)) et
 
 none_given : (b : Bool) → (b || false) ≡ true → b ≡ true
-none_given b e = sym (or_nothing b) ∙ e
+none_given b e = sym (or_false b) ∙ e
 
 pub starts : (g : Function) (n : ℕ) (args : List Word) (low : ℕ) → same_widths (widths args) (param_widths g) ≡ true → RunsAt g (start_of n (routine_of g) args low)
 starts g n args low e =

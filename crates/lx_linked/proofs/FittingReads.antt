@@ -1,6 +1,8 @@
 -- What is read has a value.
-use Rattle.std.proofs.Common.{◌≡◌, ℕ, zero, suc, ◌+◌, ◌<◌, ◌≤◌, Bool, true, false, ◌||◌, List, [], ◌∷◌, length, take, Option, Some, inl, inr, refl, sym, subst, ◌∙◌, arith}
+use Rattle.std.proofs.Common.{◌≡◌, ℕ, zero, suc, ◌+◌, ◌<◌, ◌≤◌, Bool, true, false, ◌||◌, List, [], ◌∷◌, length, take, Option, Some, inl, refl, sym, subst, ◌∙◌, arith}
 use Rattle.std.specs.Prelude.{flat_map, slice_get, nat_lt}
+use Rattle.lx_words.proofs.Tests.{true_false, zero_more}
+use Rattle.lx_words.proofs.Options.{none_some, some_same}
 use Rattle.lx_ir.specs.declared.types.Scalar.{Scalar}
 use Rattle.lx_ir.specs.declared.module.Value.{Value}
 use Rattle.lx_ir.specs.declared.module.Value.TheVariants.{Register}
@@ -16,13 +18,13 @@ use Rattle.lx_ir.specs.Lookup.{blocks_of}
 use Rattle.lx_ir.specs.Operands.{given_by, is_phi, operands_of, register_types}
 use Rattle.lx_ir.specs.Faults.{Read, reads_of, reads_of_blocks, reads_from, reads_of_op, read_here, read_at_end, block_number, instrs_at, no_instrs, Walk, is_given, assigns, walk_assigns}
 use Rattle.lx_images.specs.Places.{IsIn}
-use Rattle.lx_simulation.proofs.Elements.{none_some, in_first, in_second, in_flat, any_in}
+use Rattle.lx_simulation.proofs.Elements.{in_first, in_second, in_flat, any_in}
 use Rattle.lx_simulation.proofs.Walking.{gives_it}
 use Rattle.lx_simulation.proofs.Verifying.{Sound}
+use Rattle.lx_simulation.proofs.Jumping.{in_taken}
 use Rattle.lx_linked.specs.Threads.{has_value}
-use Rattle.lx_linked.proofs.Functions.{Known, instr_at, given_type, given_typed, param_typed}
-use Rattle.lx_caps.proofs.Tests.{true_false, from_zero}
-use Rattle.lx_caps.proofs.Items.{some_same}
+use Rattle.lx_linked.proofs.Functions.{Known, given_type, given_typed, param_typed}
+use Rattle.lx_linked.proofs.AssignedReads.{block_instr}
 
 -- a read of an instruction is one of the function's
 
@@ -57,8 +59,8 @@ read_in : (g : Function) (block place : ℕ) (i : Instr) (x : Read) → slice_ge
 read_in g block place i x e a =
     let at = got_body (blocks_of g) block place i e in
     read_of g 0 block (blocks_of g) at.0 x at.1
-    (subst (λ (n : ℕ). IsIn x (reads_from g n 0 at.0.instrs)) (from_zero block)
-    (read_from g block 0 place at.0.instrs i x at.2 (subst (λ (n : ℕ). IsIn x (reads_of_op g block n i.line i.op)) (from_zero place) a)))
+    (subst (λ (n : ℕ). IsIn x (reads_from g n 0 at.0.instrs)) (zero_more block)
+    (read_from g block 0 place at.0.instrs i x at.2 (subst (λ (n : ℕ). IsIn x (reads_of_op g block n i.line i.op)) (zero_more place) a)))
 
 here_in : (block place line r : ℕ) (v : Value) → v ≡ Register r → IsIn (record { block = block; place = place; register = r; line = line }) (read_here block place line v)
 here_in block place line r v e = subst (λ (w : Value). IsIn (record { block = block; place = place; register = r; line = line }) (read_here block place line w)) (sym e) (inl refl)
@@ -115,15 +117,9 @@ given_in is r e = let f = any_in (λ (i : Instr). is_given r (given_by i.op)) is
 typed_in : (m : Module) (g : Function) → Known m g → (k r : ℕ) (is : List Instr) → ((i : Instr) → IsIn i is → IsIn i (instrs_at g k)) → assigns is r ≡ true → (ty : Scalar) × (slice_get (register_types g) r ≡ Some ty)
 typed_in m g kn k r is sub e =
     let f = given_in is r e in
-    let there = instr_at g k f.0 (sub f.0 f.1) in
+    let there = block_instr g k f.0 (sub f.0 f.1) in
     let t = given_typed m g kn f.0 r there f.2 in
     (t.0, given_type m g kn f.0 r there f.2 ∙ t.1)
-
-pub in_taken : {A : Type 0} (x : A) (n : ℕ) (xs : List A) → IsIn x (take n xs) → IsIn x xs
-in_taken x zero xs i = absurd i
-in_taken x (suc n) [] i = absurd i
-in_taken x (suc n) (y ∷ xs) (inl e) = inl e
-in_taken x (suc n) (y ∷ xs) (inr i) = inr (in_taken x n xs i)
 
 value_typed : (m : Module) (g : Function) → Known m g → (walk : List ℕ) (block place r : ℕ) (b c d : Bool) → nat_lt r (length g.params) ≡ b → walk_assigns g walk r ≡ c → assigns (take place (instrs_at g block)) r ≡ d → (b || (c || d)) ≡ true →
     (ty : Scalar) × (slice_get (register_types g) r ≡ Some ty)

@@ -2,6 +2,9 @@
 use Rattle.std.proofs.Common.{◌≡◌, ℕ, zero, suc, ◌<◌, ◌≤◌, Bool, true, false, All, List, [], ◌∷◌, length, map, Option, Some, None, ◌⊎◌, inl, inr, refl, subst, ap}
 use Rattle.std.specs.Prelude.{slice_get, slice_set}
 use Rattle.std.proofs.lemmas.Option.{slice_get_within}
+use Rattle.lx_words.proofs.Tests.{less_most}
+use Rattle.lx_words.proofs.Options.{none_some, some_same}
+use Rattle.lx_words.proofs.Lists.{all_got}
 use Rattle.lx_model.specs.declared.program.Program.{Program}
 use Rattle.lx_model.specs.declared.program.ScriptCall.{ScriptCall}
 use Rattle.lx_model.specs.Thread.{Thread, fresh_thread, has_work}
@@ -10,13 +13,10 @@ use Rattle.lx_model.specs.Serve.{serve}
 use Rattle.lx_model.specs.World.{World, after_request, event, event_if, event_of, opening, run}
 use Rattle.lx_model.specs.Fits.{Fits}
 use Rattle.lx_link_texts.specs.WellFormed.{FitsCall, FitsCalls, IsWellFormed}
-use Rattle.lx_simulation.proofs.Elements.{none_some}
 use Rattle.lx_linked.specs.Threads.{ThreadFits}
 use Rattle.lx_linked.proofs.Steps.{next_fits}
 use Rattle.lx_linked.proofs.Taking.{kept}
 use Rattle.lx_linked.proofs.Serving.{served}
-use Rattle.lx_caps.proofs.Items.{all_got, some_same}
-use Rattle.lx_caps.proofs.Tests.{less_most}
 
 -- before the first call
 

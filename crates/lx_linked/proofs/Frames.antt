@@ -3,6 +3,7 @@ use Rattle.std.proofs.Common.{◌≡◌, ℕ, suc, Bool, true, false, List, [], 
 use Rattle.std.specs.Prelude.{is_some, nat_lt}
 use Rattle.std.proofs.lemmas.Bool.Decides.{nat_tests}
 use Rattle.lx_words.specs.Word.{Word}
+use Rattle.lx_words.proofs.Tests.{true_false, none_below}
 use Rattle.lx_ir.specs.declared.module.Function.{Function}
 use Rattle.lx_ir.specs.declared.instr.Op.{Op}
 use Rattle.lx_model.specs.declared.program.Program.{Program}
@@ -18,7 +19,6 @@ use Rattle.lx_linked.proofs.AssignedEffects.{StandsBy, StandsIn, stands_past}
 use Rattle.lx_linked.proofs.Signatures.{Takes}
 use Rattle.lx_linked.proofs.Calling.{needs, AskFits, HasResult}
 use Rattle.lx_linked.proofs.Entering.{top_code}
-use Rattle.lx_caps.proofs.Tests.{true_false, less_none}
 use Rattle.lx_model.proofs.Activations.{behind_none}
 
 -- the frame with other registers
@@ -95,7 +95,7 @@ pub left : (fill : Fill) (p : Program) (t : ℕ) (before y : Thread) → length 
 left fill p t before y e = kept_if fill p t before y (not_less (length before.frames) (length y.frames) e)
 
 pub emptied : (fill : Fill) (p : Program) (t : ℕ) (before : Thread) (calls : List ScriptCall) (ended : List Ending) (fuel : ℕ) (due : Option Outcome) → filled fill p t before (thread_of calls ended fuel due []) ≡ thread_of calls ended fuel due []
-emptied fill p t before calls ended fuel due = kept_if fill p t before (thread_of calls ended fuel due []) (less_none (length before.frames))
+emptied fill p t before calls ended fuel due = kept_if fill p t before (thread_of calls ended fuel due []) (none_below (length before.frames))
 
 pub pushed : (fill : Fill) (p : Program) (t : ℕ) (before : Thread) (calls : List ScriptCall) (ended : List Ending) (fuel : ℕ) (due : Option Outcome) (f : Frame) (fs : List Frame) → length before.frames ≡ length fs →
     filled fill p t before (thread_of calls ended fuel due (f ∷ fs)) ≡ thread_of calls ended fuel due (filled_frame p (fill t before) f ∷ fs)

@@ -1,8 +1,10 @@
 -- What is known further of the functions of a verified module: the forms of their instructions, and the edges of their phis.
 use Rattle.std.proofs.Common.{◌≡◌, ℕ, zero, suc, ◌+◌, ◌<◌, ◌≤◌, Bool, true, false, not, ◌&&◌, ◌||◌, List, [], ◌∷◌, ◌++◌, length, map, Option, Some, None, inl, inr, refl, sym, subst, ◌∙◌, ap, arith}
-use Rattle.std.specs.Prelude.{flat_map, filter_map, slice_get, nat_eq, cond, is_some, is_none}
+use Rattle.std.specs.Prelude.{flat_map, filter_map, slice_get, nat_eq, is_some, is_none}
 use Rattle.std.specs.List.{list_all, cons_option}
-use Rattle.std.specs.Option.{option_or}
+use Rattle.lx_words.proofs.Tests.{true_false, first_of, second_of}
+use Rattle.lx_words.proofs.Options.{some_none, none_some, some_same, neither_some}
+use Rattle.lx_words.proofs.Lists.{map_length, got_past}
 use Rattle.lx_ir.specs.declared.types.Scalar.{Scalar}
 use Rattle.lx_ir.specs.declared.module.Block.{Block}
 use Rattle.lx_ir.specs.declared.module.Function.{Function}
@@ -13,14 +15,13 @@ use Rattle.lx_ir.specs.declared.instr.Op.{Op}
 use Rattle.lx_ir.specs.declared.instr.Op.TheVariants as op
 use Rattle.lx_ir.specs.Lookup.{blocks_of, blocks_of_option, instrs_of, is_defined}
 use Rattle.lx_ir.specs.Operands.{given_by, result_of, kept_result, is_phi, labels_of, register_types}
-use Rattle.lx_ir.specs.Lawful.{counts_from, ends_once, is_label, is_name, has_form, is_lawful_op, is_lawful_block, is_lawful_body, is_lawful_import, is_lawful_function, numbers_registers, is_lawful_callee}
-use Rattle.lx_ir.specs.Faults.{Fault, fault_unless, first_some, earlier_fault, FirstOrUnassigned, FunctionFault, FirstOfFunctions, FirstBehind, global_fault, end_fault, label_fault, type_fault, no_instrs, instrs_at, phi_fault, phi_faults, op_edges_fit, block_phi_faults}
+use Rattle.lx_ir.specs.Lawful.{counts_from, ends_once, is_label, is_name, has_form, is_lawful_op, is_lawful_block, is_lawful_body, is_lawful_function, numbers_registers, is_lawful_callee}
+use Rattle.lx_ir.specs.Faults.{Fault, fault_unless, first_some, earlier_fault, FirstOrUnassigned, global_fault, end_fault, label_fault, type_fault, phi_fault, phi_faults, op_edges_fit, block_phi_faults}
 use Rattle.lx_ir.specs.Verified.{IsVerified}
 use Rattle.lx_images.specs.Places.{IsIn}
-use Rattle.lx_simulation.proofs.Elements.{none_some, some_none, all_in, in_flat}
-use Rattle.lx_simulation.proofs.Verifying.{Sound, sound, given_from, no_parameter}
-use Rattle.lx_caps.proofs.Tests.{first_true, true_false, second_true}
-use Rattle.lx_caps.proofs.Items.{some_same, map_length, got_past}
+use Rattle.lx_simulation.proofs.Elements.{all_in}
+use Rattle.lx_simulation.proofs.Verifying.{Sound, sound, given_from, no_parameter, of_functions, behind_globals}
+use Rattle.lx_linked.proofs.Calling.{formed_by}
 
 -- elements
 
@@ -36,34 +37,11 @@ from_blocks (b ∷ bs) i j =
     (λ here. (b, inl refl, here))
     (λ there. (let f = from_blocks bs i there in (f.0, inr f.1, f.2)))
 
-pub body_in : (bs : List Block) (k : ℕ) (i : Instr) → IsIn i (no_instrs (slice_get bs k)) → (b : Block) × IsIn b bs × IsIn i b.instrs
-body_in [] k i a = absurd a
-body_in (b ∷ bs) zero i a = (b, inl refl, a)
-body_in (b ∷ bs) (suc k) i a = let f = body_in bs k i a in (f.0, inr f.1, f.2)
-
--- an instruction of a block is one of the function's
-pub instr_at : (g : Function) (k : ℕ) (i : Instr) → IsIn i (instrs_at g k) → IsIn i (instrs_of g)
-instr_at g k i a = let f = body_in (blocks_of g) k i a in in_flat (λ (b : Block). b.instrs) f.0 i (blocks_of g) f.1 f.2
-
 -- faults
-
-or_none : {A : Type 0} (a b : Option A) → option_or a b ≡ None → (a ≡ None) × (b ≡ None)
-or_none None b e = (refl, e)
-or_none (Some x) b e = some_none e
 
 unless_none : (b : Bool) (x : Fault) → fault_unless b x ≡ None → b ≡ true
 unless_none true x e = refl
 unless_none false x e = some_none e
-
-of_functions : (m : Module) (fs : List Function) (f : Function) → FirstOfFunctions m fs None → IsIn f fs → FunctionFault m f None
-of_functions m [] f h i = absurd i
-of_functions m (g ∷ fs) f (inl h) i = true_false (sym h.1)
-of_functions m (g ∷ fs) f (inr h) (inl e) = subst (λ (x : Function). FunctionFault m x None) e h.0
-of_functions m (g ∷ fs) f (inr h) (inr i) = of_functions m fs f h.1 i
-
-behind_globals : (m : Module) (o : Option Fault) → FirstBehind o m None → FirstOfFunctions m m.functions None
-behind_globals m None h = h
-behind_globals m (Some x) h = none_some h
 
 earlier_none : (f : Function) (o : Option Fault) → FirstOrUnassigned o f None → o ≡ None
 earlier_none f None h = refl
@@ -80,45 +58,41 @@ phi_edges false b f name _ p e = refl
 listed_edges : (f : Function) (name : List ℕ) (behind : Bool) (is : List Instr) (i : Instr) → phi_faults f name behind is ≡ None → IsIn i is → op_edges_fit f name i.op ≡ true
 listed_edges f name behind [] i e j = absurd j
 listed_edges f name behind (x ∷ is) i e (inl same) =
-    let first = (or_none (phi_fault f name behind x) (phi_faults f name (behind && is_phi x.op) is) e).0 in
+    let first = (neither_some (phi_fault f name behind x) (phi_faults f name (behind && is_phi x.op) is) e).0 in
     subst (λ (y : Instr). op_edges_fit f name y.op ≡ true) same (phi_edges (is_phi x.op) behind f name x.op refl (unless_none _ _ first))
 listed_edges f name behind (x ∷ is) i e (inr j) =
-    listed_edges f name (behind && is_phi x.op) is i (or_none (phi_fault f name behind x) (phi_faults f name (behind && is_phi x.op) is) e).1 j
+    listed_edges f name (behind && is_phi x.op) is i (neither_some (phi_fault f name behind x) (phi_faults f name (behind && is_phi x.op) is) e).1 j
 
 later_edges : (f : Function) (bs : List Block) (b : Block) (i : Instr) → first_some (λ c. phi_faults f c.name true c.instrs) bs ≡ None → IsIn b bs → IsIn i b.instrs → op_edges_fit f b.name i.op ≡ true
 later_edges f [] b i e at j = absurd at
 later_edges f (c ∷ bs) b i e (inl same) j =
-    listed_edges f b.name true b.instrs i (subst (λ (x : Block). phi_faults f x.name true x.instrs ≡ None) same (or_none (phi_faults f c.name true c.instrs) _ e).0) j
-later_edges f (c ∷ bs) b i e (inr at) j = later_edges f bs b i (or_none (phi_faults f c.name true c.instrs) _ e).1 at j
+    listed_edges f b.name true b.instrs i (subst (λ (x : Block). phi_faults f x.name true x.instrs ≡ None) same (neither_some (phi_faults f c.name true c.instrs) _ e).0) j
+later_edges f (c ∷ bs) b i e (inr at) j = later_edges f bs b i (neither_some (phi_faults f c.name true c.instrs) _ e).1 at j
 
 block_edges : (f : Function) (bs : List Block) (b : Block) (i : Instr) → block_phi_faults f bs ≡ None → IsIn b bs → IsIn i b.instrs → op_edges_fit f b.name i.op ≡ true
 block_edges f [] b i e at j = absurd at
 block_edges f (c ∷ bs) b i e (inl same) j =
-    listed_edges f b.name false b.instrs i (subst (λ (x : Block). phi_faults f x.name false x.instrs ≡ None) same (or_none (phi_faults f c.name false c.instrs) _ e).0) j
-block_edges f (c ∷ bs) b i e (inr at) j = later_edges f bs b i (or_none (phi_faults f c.name false c.instrs) _ e).1 at j
+    listed_edges f b.name false b.instrs i (subst (λ (x : Block). phi_faults f x.name false x.instrs ≡ None) same (neither_some (phi_faults f c.name false c.instrs) _ e).0) j
+block_edges f (c ∷ bs) b i e (inr at) j = later_edges f bs b i (neither_some (phi_faults f c.name false c.instrs) _ e).1 at j
 
 -- the forms of instructions
 
 op_form : (m : Module) (f : Function) (o : Op) → is_lawful_op m f o ≡ true → has_form m o ≡ true
-op_form m f o e = first_true (has_form m o) _ (first_true (has_form m o && _) (list_all is_name (labels_of o)) e)
+op_form m f o e = first_of (has_form m o) _ (first_of (has_form m o && _) (list_all is_name (labels_of o)) e)
 
 block_form : (m : Module) (f : Function) (b : Block) (i : Instr) → is_lawful_block m f b ≡ true → IsIn i b.instrs → has_form m i.op ≡ true
-block_form m f b i e j = op_form m f i.op (all_in (λ (x : Instr). is_lawful_op m f x.op) b.instrs i (second_true (is_label b.name && ends_once b.instrs) _ e) j)
+block_form m f b i e j = op_form m f i.op (all_in (λ (x : Instr). is_lawful_op m f x.op) b.instrs i (second_of (is_label b.name && ends_once b.instrs) _ e) j)
 
 body_form : (m : Module) (f : Function) (i : Instr) → is_lawful_body m f ≡ true → IsIn i (instrs_of f) → has_form m i.op ≡ true
 body_form m f i e j =
     let at = from_blocks (blocks_of f) i j in
-    block_form m f at.0 i (all_in (is_lawful_block m f) (blocks_of f) at.0 (second_true _ (list_all (is_lawful_block m f) (blocks_of f)) (first_true _ (numbers_registers f) e)) at.1) at.2
+    block_form m f at.0 i (all_in (is_lawful_block m f) (blocks_of f) at.0 (second_of _ (list_all (is_lawful_block m f) (blocks_of f)) (first_of _ (numbers_registers f) e)) at.1) at.2
 
 import_none : (f : Function) (i : Instr) → is_defined f ≡ false → IsIn i (instrs_of f) → ⊥
 import_none f i e j = subst (λ (bs : List Block). IsIn i (flat_map (λ (b : Block). b.instrs) bs)) (no_blocks f.blocks e) j where
   no_blocks : (o : Option (List Block)) → is_some o ≡ false → blocks_of_option o ≡ []
   no_blocks None e = refl
   no_blocks (Some bs) e = true_false e
-
-form_cases : (m : Module) (f : Function) (i : Instr) (b : Bool) → is_defined f ≡ b → cond b (is_lawful_body m f) (is_lawful_import f) ≡ true → IsIn i (instrs_of f) → has_form m i.op ≡ true
-form_cases m f i true e h j = body_form m f i h j
-form_cases m f i false e h j = absurd (import_none f i e j)
 
 -- what is known of a function
 pub record Known (m : Module) (g : Function) : Type 0 where
@@ -129,12 +103,12 @@ pub record Known (m : Module) (g : Function) : Type 0 where
 pub known : (m : Module) (g : Function) → IsVerified m → IsIn g m.functions → Known m g
 known m g v i =
     let fault = earlier_none g (earlier_fault m g) (of_functions m m.functions g (behind_globals m (first_some (global_fault m) m.globals) v.no_fault) i) in
-    let behind_ends = (or_none (first_some (end_fault g) (blocks_of g)) _ fault).1 in
-    let behind_labels = (or_none (first_some (label_fault g) (instrs_of g)) _ behind_ends).1 in
-    let types = or_none (first_some (type_fault m g (register_types g)) (instrs_of g)) _ behind_labels in
+    let behind_ends = (neither_some (first_some (end_fault g) (blocks_of g)) _ fault).1 in
+    let behind_labels = (neither_some (first_some (label_fault g) (instrs_of g)) _ behind_ends).1 in
+    let types = neither_some (first_some (type_fault m g (register_types g)) (instrs_of g)) _ behind_labels in
     record {
       is_sound = sound m g v i;
-      form = λ x j. form_cases m g x (is_defined g) refl (second_true _ _ (all_in (is_lawful_function m) m.functions g v.lawful.functions i)) j;
+      form = λ x j. formed_by m g x (is_defined g) refl (second_of _ _ (all_in (is_lawful_function m) m.functions g v.lawful.functions i)) j;
       edges = λ b x at j. block_edges g (blocks_of g) b x types.1 at j;
     }
 
@@ -155,7 +129,7 @@ call_gives None ret e = refl
 call_gives (Some r) ret e = sym e
 
 gives : (m : Module) (o : Op) → has_form m o ≡ true → Gives o
-gives m (op.Call to ret callee args) e = call_gives to ret (first_true (is_none to || is_some ret) (is_lawful_callee m callee) e)
+gives m (op.Call to ret callee args) e = call_gives to ret (first_of (is_none to || is_some ret) (is_lawful_callee m callee) e)
 gives m (op.Binary to o ty a b) e = refl
 gives m (op.Compare to p ty a b) e = refl
 gives m (op.Convert to how from a into) e = refl
@@ -173,7 +147,7 @@ TypesFrom is =
     → slice_get (filter_map typed is) k ≡ typed i
 
 counted : (k n : ℕ) (ks : List ℕ) → counts_from n (k ∷ ks) ≡ true → (k ≡ n) × (counts_from (suc n) ks ≡ true)
-counted k n ks e = (same k n (first_true (nat_eq k n) (counts_from (suc n) ks) e), second_true (nat_eq k n) (counts_from (suc n) ks) e) where
+counted k n ks e = (same k n (first_of (nat_eq k n) (counts_from (suc n) ks) e), second_of (nat_eq k n) (counts_from (suc n) ks) e) where
   same : (a b : ℕ) → nat_eq a b ≡ true → a ≡ b
   same a b e = grind (arith, e)
 

@@ -1,7 +1,8 @@
 -- The fields at an offset of a global are those that paths lead to.
-use Rattle.std.proofs.Common.{◌≡◌, refl, sym, subst, ℕ, zero, suc, Bool, true, ◌&&◌, nat_le, IsTrue, Option, Some, None, List, [], ◌∷◌, length, arith, slice_get}
+use Rattle.std.proofs.Common.{◌≡◌, refl, sym, subst, ℕ, true, ◌&&◌, nat_le, IsTrue, Option, Some, None, List, [], ◌∷◌, length, arith, slice_get}
 use Rattle.std.specs.List.{list_all}
 use Rattle.std.proofs.lemmas.Bool.{and_parts, and_from}
+use Rattle.lx_words.proofs.Lists.{all_at}
 use Rattle.lx_ir.specs.declared.types.NamedType.{NamedType}
 use Rattle.lx_ir.specs.declared.module.GlobalVar.{GlobalVar}
 use Rattle.lx_ir.specs.declared.module.Module.{Module}
@@ -32,14 +33,6 @@ all_lawful m (g ∷ gs) h =
 pub lawful_globals : (m : Module) → IsLawful m → HasLawfulGlobals m
 lawful_globals m h = all_lawful m m.globals h.globals
 
-found : {A : Type 0} (p : A → Bool) (xs : List A) (k : ℕ) (x : A) → list_all p xs ≡ true → slice_get xs k ≡ Some x → p x ≡ true
-found p [] k x h e = absurd (cc)
-found p (y ∷ ys) zero x h e =
-    let a = and_parts (p y) (list_all p ys) h in
-    let q : y ≡ x = cc in
-    subst (λ z. p z ≡ true) q a.0
-found p (y ∷ ys) (suc k) x h e = found p ys k x (and_parts (p y) (list_all p ys) h).1 e
-
 -- the fields of a lawful type
 pub type_fields : (types : List NamedType) (t : IrType) → IsTrue (is_lawful_type types t) → (o : ℕ) (name : FieldName) → Exactly (In name (fields_at types (named_fields_at types (length types)) t o)) (LeadsTo types name t o)
 type_fields types t h o name =
@@ -56,7 +49,7 @@ begins m n o name h = begins_by m n o name (slice_get m.globals n) refl h
 
 pub is_listed : (m : Module) → HasLawfulGlobals m → (n o : ℕ) (name : FieldName) → BeginsAt m n o name → In name (global_fields_at m n o)
 is_listed m h n o name b =
-    let k : is_lawful_type m.types b.global.ty ≡ true = found (λ (g : GlobalVar). is_lawful_type m.types g.ty) m.globals n b.global h b.is in
+    let k : is_lawful_type m.types b.global.ty ≡ true = all_at (λ (g : GlobalVar). is_lawful_type m.types g.ty) m.globals n b.global h b.is in
     subst (λ g. In name (fields_of_global m g o)) (sym b.is) ((type_fields m.types b.global.ty k o name).1 b.leads)
 
 pub global_fields : (m : Module) → HasLawfulGlobals m → (n o : ℕ) (name : FieldName) → Exactly (In name (global_fields_at m n o)) (BeginsAt m n o name)

@@ -1,11 +1,14 @@
 -- Control comes to another block, whose phis have values as wide as their types.
 use Rattle.std.proofs.Common.{◌≡◌, ℕ, zero, suc, ◌+◌, ◌<◌, ◌≤◌, Bool, true, false, not, ◌&&◌, ◌||◌, List, [], ◌∷◌, length, map, take, Option, Some, None, ◌⊎◌, inl, inr, refl, sym, subst, ◌∙◌, ap, arith, get_or, eqb-true}
 use Rattle.std.specs.Prelude.{slice_get, slice_set, slice_index_or, nat_eq, nat_lt, filter_map, find, position, bytes_eq, unwrap_or, option_map, cond}
-use Rattle.std.specs.List.{list_any, list_all, cons_option, position_or_len}
+use Rattle.std.specs.List.{list_any, list_all, position_or_len}
 use Rattle.std.proofs.lemmas.List.Quantifiers.{position-Some}
 use Rattle.std.proofs.lemmas.Option.{slice_get-get_or, slice_get_within}
 use Rattle.std.proofs.lemmas.Bool.{eqb-false}
 use Rattle.lx_words.specs.Word.{Word}
+use Rattle.lx_words.proofs.Tests.{eq_self, true_false, first_of, second_of, less_most, one_less, or_nothing, not_or}
+use Rattle.lx_words.proofs.Options.{none_some, some_same}
+use Rattle.lx_words.proofs.Lists.{bytes_itself, same_bytes, index_map, all_taken}
 use Rattle.lx_ir.specs.declared.types.Scalar.{Scalar}
 use Rattle.lx_ir.specs.declared.module.Block.{Block}
 use Rattle.lx_ir.specs.declared.module.Function.{Function}
@@ -24,32 +27,31 @@ use Rattle.lx_model.specs.declared.program.Program.{Program}
 use Rattle.lx_model.specs.Thread.{CodeBlock, Activation, zero_word}
 use Rattle.lx_model.specs.Effect.{operand, edge_value, with_phi, with_phis, without_phis, code_block_named}
 use Rattle.lx_images.specs.Places.{IsIn}
-use Rattle.lx_simulation.proofs.Elements.{none_some, all_in, any_of, in_got, in_map}
+use Rattle.lx_simulation.proofs.Elements.{all_in, any_of, in_got, in_map}
 use Rattle.lx_simulation.proofs.Verifying.{op_of, Sound, gives_known}
 use Rattle.lx_simulation.proofs.Verifying.{name_of_block as block_name}
 use Rattle.lx_simulation.proofs.Walking.{is_assigned, register_set, register_here, Arrives, arrives, assigned_more}
-use Rattle.lx_simulation.proofs.Jumping.{at_block, in_filter, ends_at, got_body, one_length, phis_length}
+use Rattle.lx_simulation.proofs.Jumping.{at_block, in_filter, ends_at, got_body, one_length, phis_length, in_taken}
 use Rattle.lx_linked.specs.Threads.{has_value, name_of_block, RunsAt}
-use Rattle.lx_linked.proofs.Functions.{Known, instr_at, given_type}
-use Rattle.lx_linked.proofs.FittingReads.{edge_valued, given_in, in_taken}
+use Rattle.lx_linked.proofs.Functions.{Known, given_type}
+use Rattle.lx_linked.proofs.FittingReads.{edge_valued, given_in}
 use Rattle.lx_linked.proofs.FittingFrames.{Wide, Stands, operand_wide}
-use Rattle.lx_caps.proofs.Tests.{eq_itself, first_true, true_false, second_true, less_most, or_false, less_one, bare_spared}
-use Rattle.lx_caps.proofs.Items.{same_bytes, bytes_are, some_same, all_taken}
+use Rattle.lx_linked.proofs.AssignedReads.{block_instr}
 
 -- blocks by their names
 
 distinct_cases : (c : Block) (bs : List Block) (b : Block) (found : Bool) → bytes_eq c.name b.name ≡ found → (not (list_any (bytes_eq c.name) (map block_name bs)) && is_distinct (map block_name bs)) ≡ true → IsIn b bs → found ≡ false
 distinct_cases c bs b false e d i = refl
 distinct_cases c bs b true e d i =
-    sym (sym (ap not (any_of (bytes_eq c.name) (map block_name bs) b.name (in_map block_name b bs i) e)) ∙ first_true (not (list_any (bytes_eq c.name) (map block_name bs))) (is_distinct (map block_name bs)) d)
+    sym (sym (ap not (any_of (bytes_eq c.name) (map block_name bs) b.name (in_map block_name b bs i) e)) ∙ first_of (not (list_any (bytes_eq c.name) (map block_name bs))) (is_distinct (map block_name bs)) d)
 
 placed : (bs : List Block) (k : ℕ) (b : Block) → is_distinct (map block_name bs) ≡ true → slice_get bs k ≡ Some b → position_or_len (λ (x : Block). bytes_eq x.name b.name) bs ≡ k
 placed [] k b d e = none_some e
 placed (c ∷ bs) zero b d e =
-    ap (λ (y : Bool). cond (not y) (1 + position_or_len (λ (x : Block). bytes_eq x.name b.name) bs) 0) (ap (λ (x : Block). bytes_eq x.name b.name) (some_same e) ∙ same_bytes b.name)
+    ap (λ (y : Bool). cond (not y) (1 + position_or_len (λ (x : Block). bytes_eq x.name b.name) bs) 0) (ap (λ (x : Block). bytes_eq x.name b.name) (some_same e) ∙ bytes_itself b.name)
 placed (c ∷ bs) (suc k) b d e =
     let other : bytes_eq c.name b.name ≡ false = distinct_cases c bs b (bytes_eq c.name b.name) refl d (in_got bs k b e) in
-    let rest = placed bs k b (second_true (not (list_any (bytes_eq c.name) (map block_name bs))) (is_distinct (map block_name bs)) d) e in
+    let rest = placed bs k b (second_of (not (list_any (bytes_eq c.name) (map block_name bs))) (is_distinct (map block_name bs)) d) e in
     ap (λ (y : Bool). cond (not y) (1 + position_or_len (λ (x : Block). bytes_eq x.name b.name) bs) 0) other ∙ (ap (λ (n : ℕ). 1 + n) rest ∙ one_more k) where
       one_more : (n : ℕ) → 1 + n ≡ suc n
       one_more n = omega arith
@@ -64,18 +66,9 @@ numbered_block m g s k b e = placed_number (λ (x : Block). bytes_eq x.name b.na
 target_name : (g : Function) (label : List ℕ) (k : ℕ) (b : Block) → block_number g label ≡ Some k → slice_get (blocks_of g) k ≡ Some b → b.name ≡ label
 target_name g label k b en eb =
     let found = position-Some (λ (x : Block). bytes_eq x.name label) (blocks_of g) k b en in
-    ap block_name (some_same (sym eb ∙ slice_get-get_or (blocks_of g) k b found.0)) ∙ bytes_are (get_or (blocks_of g) k b).name label found.1
+    ap block_name (some_same (sym eb ∙ slice_get-get_or (blocks_of g) k b found.0)) ∙ same_bytes (get_or (blocks_of g) k b).name label found.1
 
 -- the end of a block
-
-in_either : {A : Type 0} (o : Option A) (y : A) (ys : List A) → IsIn y ys → IsIn y (cons_option o ys)
-in_either None y ys i = i
-in_either (Some x) y ys i = inr i
-
-index_map : {A B : Type 0} (f : A → B) (xs : List A) (k : ℕ) (x : A) (d : B) → slice_get xs k ≡ Some x → slice_index_or (map f xs) k d ≡ f x
-index_map f [] k x d e = none_some e
-index_map f (y ∷ xs) zero x d e = ap f (some_same e)
-index_map f (y ∷ xs) (suc k) x d e = index_map f xs k x d e
 
 exits_are : (b : Block) (i : Instr) (o : Op) → last_of b.instrs ≡ Some i → i.op ≡ o → exits_of b ≡ targets_of o
 exits_are b i o el eo = ap exits_by el ∙ ap targets_of eo
@@ -83,7 +76,7 @@ exits_are b i o el eo = ap exits_by el ∙ ap targets_of eo
 edge : (g : Function) (k to : ℕ) (b : Block) (o : Op) (label : List ℕ) → slice_get (blocks_of g) k ≡ Some b → exits_of b ≡ targets_of o → IsIn label (targets_of o) → block_number g label ≡ Some to → has_edge g k to ≡ true
 edge g k to b o label eb exits at en =
     ap (λ (ks : List ℕ). list_any (λ (n : ℕ). nat_eq n to) ks) (index_map (successors_of g) (blocks_of g) k b [] eb ∙ ap (filter_map (block_number g)) exits)
-    ∙ any_of (λ (n : ℕ). nat_eq n to) (filter_map (block_number g) (targets_of o)) to (in_filter (block_number g) label to (targets_of o) at en) (eq_itself to)
+    ∙ any_of (λ (n : ℕ). nat_eq n to) (filter_map (block_number g) (targets_of o)) to (in_filter (block_number g) label to (targets_of o) at en) (eq_self to)
 
 -- registers behind phis
 
@@ -135,7 +128,7 @@ Found label edges = (e : Edge) × IsIn e edges × (e.label ≡ label) × (find (
 
 found_cases : (label : List ℕ) (e : Edge) (edges : List Edge) (b : Bool) → bytes_eq e.label label ≡ b → (b || list_any (λ (x : Edge). bytes_eq x.label label) edges) ≡ true → (list_any (λ (x : Edge). bytes_eq x.label label) edges ≡ true → Found label edges) →
     (y : Edge) × IsIn y (e ∷ edges) × (y.label ≡ label) × (cond b (Some e) (find (λ (x : Edge). bytes_eq x.label label) edges) ≡ Some y)
-found_cases label e edges true eb h ih = (e, inl refl, bytes_are e.label label eb, refl)
+found_cases label e edges true eb h ih = (e, inl refl, same_bytes e.label label eb, refl)
 found_cases label e edges false eb h ih = let f = ih h in (f.0, inr f.1, f.2, f.3)
 
 found_edge : (label : List ℕ) (edges : List Edge) → list_any (λ (e : Edge). bytes_eq e.label label) edges ≡ true → Found label edges
@@ -155,16 +148,16 @@ edge_wide : (p : Program) (m : Module) (g : Function) → Known m g → (a : Act
 edge_wide p m g kn a walk block o label l comes target b x j i to ty edges got phi =
     let there : instrs_at g x.block ≡ x.body.instrs = ap no_instrs x.got in
     let at : slice_get (instrs_at g x.block) j ≡ Some i = ap (λ (is : List Instr). slice_get is j) there ∙ got in
-    let member : IsIn i (instrs_of g) = instr_at g x.block i (in_got (instrs_at g x.block) j i at) in
+    let member : IsIn i (instrs_of g) = block_instr g x.block i (in_got (instrs_at g x.block) j i at) in
     let fit : edges_fit g x.body.name edges ≡ true = sym (ap (op_edges_fit g x.body.name) phi) ∙ kn.edges x.body i (in_got (blocks_of g) x.block x.body x.got) (in_got x.body.instrs j i got) in
-    let all = second_true (list_all (λ (e : Edge). is_predecessor g x.body.name e.label) edges) (list_all (λ (q : Block). not (goes_to q x.body.name) || list_any (λ (e : Edge). bytes_eq e.label q.name) edges) (blocks_of g)) (first_true _ (list_all (λ (e : Edge). list_all (λ (d : Edge). not (bytes_eq d.label e.label) || same_value d.value e.value) edges) edges) fit) in
+    let all = second_of (list_all (λ (e : Edge). is_predecessor g x.body.name e.label) edges) (list_all (λ (q : Block). not (goes_to q x.body.name) || list_any (λ (e : Edge). bytes_eq e.label q.name) edges) (blocks_of g)) (first_of _ (list_all (λ (e : Edge). list_all (λ (d : Edge). not (bytes_eq d.label e.label) || same_value d.value e.value) edges) edges) fit) in
     let name : x.body.name ≡ label = target_name g label x.block x.body x.number x.got in
     let goes : goes_to l.from x.body.name ≡ true
-    = ap (list_any (λ (y : List ℕ). bytes_eq y x.body.name)) l.exits ∙ any_of (λ (y : List ℕ). bytes_eq y x.body.name) (targets_of o) label target (ap (bytes_eq label) name ∙ same_bytes label) in
+    = ap (list_any (λ (y : List ℕ). bytes_eq y x.body.name)) l.exits ∙ any_of (λ (y : List ℕ). bytes_eq y x.body.name) (targets_of o) label target (ap (bytes_eq label) name ∙ bytes_itself label) in
     let some : list_any (λ (e : Edge). bytes_eq e.label l.from.name) edges ≡ true
-    = bare_spared (goes_to l.from x.body.name) _ goes (all_in (λ (q : Block). not (goes_to q x.body.name) || list_any (λ (e : Edge). bytes_eq e.label q.name) edges) (blocks_of g) l.from all (in_got (blocks_of g) block l.from l.got)) in
+    = not_or (goes_to l.from x.body.name) _ goes (all_in (λ (q : Block). not (goes_to q x.body.name) || list_any (λ (e : Edge). bytes_eq e.label q.name) edges) (blocks_of g) l.from all (in_got (blocks_of g) block l.from l.got)) in
     let found = found_edge a.label edges (ap (λ (y : List ℕ). list_any (λ (e : Edge). bytes_eq e.label y) edges) l.label ∙ some) in
-    let typed = first_true (list_all (λ (y : Argument). value_fits (register_types g) y.ty y.value) (operands_of i.op)) (form_fits m g i.op) (kn.is_sound.typed i member) in
+    let typed = first_of (list_all (λ (y : Argument). value_fits (register_types g) y.ty y.value) (operands_of i.op)) (form_fits m g i.op) (kn.is_sound.typed i member) in
     let mine : value_fits (register_types g) ty found.0.value ≡ true
     = all_in (λ (y : Argument). value_fits (register_types g) y.ty y.value) (operands_of (op.Phi to ty edges)) (argument ty found.0.value) (sym (ap (λ (y : Op). list_all (λ (z : Argument). value_fits (register_types g) z.ty z.value) (operands_of y)) phi) ∙ typed)
     (in_map (λ (e : Edge). argument ty e.value) found.0 edges found.1) in
@@ -182,7 +175,7 @@ phi_wide : (p : Program) (m : Module) (g : Function) → Known m g → (a : Acti
     (j : ℕ) (i : Instr) (q : Op) → slice_get x.body.instrs j ≡ Some i → i.op ≡ q → PhiWide p g a q
 phi_wide p m g kn a walk block o label l comes target b x j i (op.Phi to ty edges) got phi =
     let there : instrs_at g x.block ≡ x.body.instrs = ap no_instrs x.got in
-    let member : IsIn i (instrs_of g) = instr_at g x.block i (in_got (instrs_at g x.block) j i (ap (λ (is : List Instr). slice_get is j) there ∙ got)) in (
+    let member : IsIn i (instrs_of g) = block_instr g x.block i (in_got (instrs_at g x.block) j i (ap (λ (is : List Instr). slice_get is j) there ∙ got)) in (
       given_type m g kn i to member (ap given_by phi) ∙ ap result_of phi,
       gives_known m g kn.is_sound i to member (ap given_by phi),
       edge_wide p m g kn a walk block o label l comes target b x j i to ty edges got phi,
@@ -206,7 +199,7 @@ jump_runs p m g kn a st o os label b s ends none target eb =
     let from = got_body (blocks_of g) st.block st.place h.instr h.got in
     let here_instrs : instrs_at g st.block ≡ from.0.instrs = ap no_instrs from.1 in
     let last : last_of from.0.instrs ≡ Some h.instr
-    = ap (λ (is : List Instr). last_of is) (sym here_instrs) ∙ (ap (λ (n : ℕ). slice_get (instrs_at g st.block) n) (less_one (length (instrs_at g st.block)) st.place whole) ∙ h.got) in
+    = ap (λ (is : List Instr). last_of is) (sym here_instrs) ∙ (ap (λ (n : ℕ). slice_get (instrs_at g st.block) n) (one_less (length (instrs_at g st.block)) st.place whole) ∙ h.got) in
     let there : instrs_at g x.block ≡ x.body.instrs = ap no_instrs x.got in
     let lead = kn.is_sound.phis x.block in
     let l : Leaves g a st.walk st.block o
@@ -218,7 +211,7 @@ jump_runs p m g kn a st o os label b s ends none target eb =
       wide = λ r ty et hv.
           st.widths r ty et
           (ap (λ (y : Bool). nat_lt r (length g.params) || y)
-          (sym (or_false (is_assigned g st.walk st.block st.place r) (is_given r (given_by o)) (ap (is_given r) none)) ∙ (sym (assigned_more g st.walk st.block st.place r o os h)
+          (sym (or_nothing (is_assigned g st.walk st.block st.place r) (is_given r (given_by o)) (ap (is_given r) none)) ∙ (sym (assigned_more g st.walk st.block st.place r o os h)
           ∙ ap (λ (n : ℕ). is_assigned g st.walk st.block n r) whole)) ∙ hv);
     } in
     let wide = phis_wide p g a b.code (λ r. has_value g st.walk st.block (length (instrs_at g st.block)) r ≡ true) a.registers st.many

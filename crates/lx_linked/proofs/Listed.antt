@@ -3,6 +3,7 @@ use Rattle.std.proofs.Common.{◌≡◌, ◌∙◌, refl, sym, ap, subst, ℕ, z
 use Rattle.std.proofs.lemmas.Bool.Decides.{nat_tests}
 use Rattle.std.proofs.lemmas.Nat.{div-mul-add, mod-mul-add}
 use Rattle.std.proofs.lemmas.Bool.{and_from}
+use Rattle.lx_words.proofs.Tests.{less_true, eq_true, le_true}
 use Rattle.lx_ir.specs.declared.types.NamedType.{NamedType}
 use Rattle.lx_ir.specs.IrType.{IrType, One, Array, Struct, Packed, Named, IrTypes, none, also}
 use Rattle.lx_ir.specs.Layout.{Layout, layout, beside, layout_of, size_of, unnamed, entry_or, is_type_within, field_after, field_of}
@@ -45,20 +46,11 @@ yes : (b : Bool) (xs ys : List FieldName) (name : FieldName) → b ≡ true → 
 yes true xs ys name e h = h
 yes false xs ys name e h = absurd (cc)
 
-less : (a b : ℕ) → a < b → nat_lt a b ≡ true
-less a b h = grind (arith, nat_tests, h)
-
-equal : (a b : ℕ) → a ≡ b → nat_eq a b ≡ true
-equal a b h = grind (arith, nat_tests, h)
-
-at_most : (a b : ℕ) → a ≤ b → nat_le a b ≡ true
-at_most a b h = grind (arith, nat_tests, h)
-
 of_no_bytes : (inside : ℕ → List FieldName) (name : FieldName) (n i x : ℕ) → i < n → x ≤ 0 → In name (inside x) → In name (array_fields_at inside n zero (i * zero + x))
 of_no_bytes inside name n i x l m h =
     let z : x ≡ 0 = omega (arith, m) in
     let o : i * zero + x ≡ 0 = omega (arith, m) in
-    yes (nat_lt 0 n && nat_eq (i * zero + x) 0) (inside 0) [] name (and_from (nat_lt 0 n) (nat_eq (i * zero + x) 0) (less 0 n (omega (arith, l))) (equal (i * zero + x) 0 o))
+    yes (nat_lt 0 n && nat_eq (i * zero + x) 0) (inside 0) [] name (and_from (nat_lt 0 n) (nat_eq (i * zero + x) 0) (less_true 0 n (omega (arith, l))) (eq_true (i * zero + x) 0 o))
     (subst (λ y. In name (inside y)) z h)
 
 in_element_of : (inside : ℕ → List FieldName) (name : FieldName) (n s i x : ℕ) → i < n → x < suc s → In name (inside x) → In name (array_fields_at inside n (suc s) (i * suc s + x))
@@ -67,7 +59,7 @@ in_element_of inside name n s i x l m h =
     let q : o / suc s ≡ i = div-mul-add i (suc s) x m in
     let r : o % suc s ≡ x = mod-mul-add i (suc s) x m in
     in_left name (if nat_lt (o / suc s) n then inside (o % suc s) else []) (if nat_lt 0 o && (nat_eq (o % suc s) 0 && nat_le (o / suc s) n) then inside (suc s) else [])
-    (yes (nat_lt (o / suc s) n) (inside (o % suc s)) [] name (less (o / suc s) n (omega (arith, q, l))) (subst (λ y. In name (inside y)) (sym r) h))
+    (yes (nat_lt (o / suc s) n) (inside (o % suc s)) [] name (less_true (o / suc s) n (omega (arith, q, l))) (subst (λ y. In name (inside y)) (sym r) h))
 
 at_end_of : (inside : ℕ → List FieldName) (name : FieldName) (n s i o : ℕ) → i < n → o ≡ suc i * suc s + 0 → In name (inside (suc s)) → In name (array_fields_at inside n (suc s) o)
 at_end_of inside name n s i o l e h =
@@ -76,8 +68,8 @@ at_end_of inside name n s i o l e h =
     let f : suc i * suc s ≡ i * suc s + suc s = omega arith in
     in_right name (if nat_lt (o / suc s) n then inside (o % suc s) else []) (if nat_lt 0 o && (nat_eq (o % suc s) 0 && nat_le (o / suc s) n) then inside (suc s) else [])
     (yes (nat_lt 0 o && (nat_eq (o % suc s) 0 && nat_le (o / suc s) n)) (inside (suc s)) [] name
-    (and_from (nat_lt 0 o) (nat_eq (o % suc s) 0 && nat_le (o / suc s) n) (less 0 o (omega (arith, e, f)))
-    (and_from (nat_eq (o % suc s) 0) (nat_le (o / suc s) n) (equal (o % suc s) 0 r) (at_most (o / suc s) n (omega (arith, q, l))))) h)
+    (and_from (nat_lt 0 o) (nat_eq (o % suc s) 0 && nat_le (o / suc s) n) (less_true 0 o (omega (arith, e, f)))
+    (and_from (nat_eq (o % suc s) 0) (nat_le (o / suc s) n) (eq_true (o % suc s) 0 r) (le_true (o / suc s) n (omega (arith, q, l))))) h)
 
 of_bytes : (inside : ℕ → List FieldName) (name : FieldName) (n s i x : ℕ) (b : Bool) → nat_lt x (suc s) ≡ b → i < n → x ≤ suc s → In name (inside x) → In name (array_fields_at inside n (suc s) (i * suc s + x))
 of_bytes inside name n s i x true e l m h = in_element_of inside name n s i x l (grind (arith, nat_tests, e)) h

@@ -4,6 +4,8 @@ use Rattle.std.specs.Prelude.{option_map, option_and_then, unwrap_or, nat_le, sl
 use Rattle.lx_words.specs.declared.word.Width.{Width}
 use Rattle.lx_words.specs.Word.{Word}
 use Rattle.lx_words.proofs.Widths.{width_is}
+use Rattle.lx_words.proofs.Tests.{true_false, first_of, second_of}
+use Rattle.lx_words.proofs.Options.{some_none, none_some, some_same}
 use Rattle.lx_caps.specs.declared.Principal.{Principal}
 use Rattle.lx_caps.specs.declared.Cap.TheVariants.{Call}
 use Rattle.lx_caps.specs.Regions.{mapped, stack_end}
@@ -31,19 +33,17 @@ use Rattle.lx_model.specs.declared.request.What.TheVariants as what
 use Rattle.lx_model.specs.Program.{Home, NativeCall, Alloc, Free, ZeroBytes, TryLock, NoteValue, AliasPrincipal, native_call, home_of, home_or_kernel, is_home, is_in, is_annotated, function_of, function_at, annotation_or_none, param_widths, result_width, same_widths, same_result, declared_width, is_of_width, are_declared, has_slot_signature}
 use Rattle.lx_model.specs.State.{State}
 use Rattle.lx_model.specs.Act.{unless, unmapped}
-use Rattle.lx_model.specs.Enter.{Running, by_writers, decide_enter, decide_target, entered_function, fits_params, found_nothing, has_signature, instance_named, nobody, not_annotated, runs_as, runs_by, runs_in, slot_signature, slot_writers, text_of_principal, writer_refusal, written_target}
+use Rattle.lx_model.specs.Enter.{Running, by_writers, decide_enter, decide_target, entered_function, fits_params, found_nothing, has_signature, instance_named, nobody, not_annotated, runs_as, runs_by, runs_in, slot_signature, slot_writers, text_of_principal}
 use Rattle.lx_model.specs.Decide.{arg, decide, decide_what}
 use Rattle.lx_model.specs.Serve.{after_native, after_try_lock, entering, entering_as, grant_what, serve, serve_by}
 use Rattle.lx_model.specs.Fits.{Fits, FitsFunction, FitsSlot, FitsWay, FitsWhat, widths}
 use Rattle.lx_link_texts.specs.Signatures.{native_result}
-use Rattle.lx_simulation.proofs.Elements.{none_some, some_none}
 use Rattle.lx_simulation.proofs.Targets.{same_homes}
 use Rattle.lx_linked.specs.Replies.{LeadsTo, ReplyFits}
 use Rattle.lx_linked.proofs.FittingEffects.{same_listed}
-use Rattle.lx_caps.proofs.Tests.{first_true, true_false, second_true}
-use Rattle.lx_caps.proofs.Items.{some_same}
 use Rattle.lx_model.proofs.Passing.{passed, neither}
 use Rattle.lx_model.proofs.Homes.{instance_text, kernel_home}
+use Rattle.lx_linked.proofs.Entering.{no_target}
 
 -- decisions
 
@@ -99,8 +99,8 @@ one_width (Some x) v w e h = sym (width_is x v e) ∙ width_is x w h
 one_list : (ds : List DeclaredParameter) (vs ws : List Width) → are_declared ds vs ≡ true → are_declared ds ws ≡ true → vs ≡ ws
 one_list [] [] [] e h = refl
 one_list (d ∷ ds) (v ∷ vs) (w ∷ ws) e h =
-    λ k. one_width (declared_width d.ty) v w (first_true (is_of_width (declared_width d.ty) v) (are_declared ds vs) e) (first_true (is_of_width (declared_width d.ty) w) (are_declared ds ws) h) k
-    ∷ one_list ds vs ws (second_true (is_of_width (declared_width d.ty) v) (are_declared ds vs) e) (second_true (is_of_width (declared_width d.ty) w) (are_declared ds ws) h) k
+    λ k. one_width (declared_width d.ty) v w (first_of (is_of_width (declared_width d.ty) v) (are_declared ds vs) e) (first_of (is_of_width (declared_width d.ty) w) (are_declared ds ws) h) k
+    ∷ one_list ds vs ws (second_of (is_of_width (declared_width d.ty) v) (are_declared ds vs) e) (second_of (is_of_width (declared_width d.ty) w) (are_declared ds ws) h) k
 one_list [] (v ∷ vs) ws e h = true_false (sym e)
 one_list [] [] (w ∷ ws) e h = true_false (sym h)
 one_list (d ∷ ds) [] ws e h = true_false (sym e)
@@ -111,7 +111,7 @@ by_slot : (p : Program) (args : List Word) (n : ℕ) (t : SlotType) (o : Option 
 by_slot p args n t None fn en eo declared e = none_some eo
 by_slot p args n t (Some s) None en eo declared e = true_false (sym e)
 by_slot p args n t (Some s) (Some f) en eo declared e =
-    (f, en, same_listed (widths args) (param_widths f) (one_list s.params (widths args) (param_widths f) (ap (λ (x : SlotType). are_declared x.params (widths args)) (some_same eo) ∙ declared) (first_true (are_declared s.params (param_widths f)) (same_result (declared_width s.ret) (result_width f)) e)))
+    (f, en, same_listed (widths args) (param_widths f) (one_list s.params (widths args) (param_widths f) (ap (λ (x : SlotType). are_declared x.params (widths args)) (some_same eo) ∙ declared) (first_of (are_declared s.params (param_widths f)) (same_result (declared_width s.ret) (result_width f)) e)))
 
 -- what is decided of a call that is served
 record Entering (p : Program) (s : State) (caller : Principal) (way : Way) (args : List Word) : Type 0 where
@@ -126,10 +126,6 @@ target_is p s caller a args (Some n) eo e =
     let behind = (neither (unless (is_in p (text_of_principal caller) n || is_annotated p n) (not_annotated caller a)) _ e).1 in
     let parts = neither (unless (fits_params p args n) (Trapped (Signature a))) (nobody p s caller (Indirect a) n args) behind in
     record { function = n; is = eo; takes = (fitted p args n (function_of p n) refl (passed (fits_params p args n) (Trapped (Signature a)) parts.0), tt); found = parts.1 }
-
-no_target : (p : Program) (s : State) (caller : Principal) (slot ty a : ℕ) (ws : List Principal) → by_writers p s caller slot ty a None ws ≡ None → ⊥
-no_target p s caller slot ty a [] e = some_none e
-no_target p s caller slot ty a (w ∷ ws) e = some_none (neither (writer_refusal s slot a (w ∷ ws)) (written_target p caller a ty None) e).1
 
 slot_is : (p : Program) (s : State) (caller : Principal) (slot ty a : ℕ) (args : List Word) (o : Option ℕ) → number_at s.memory slot 8 ≡ a → function_at p a ≡ o → FitsSlot p ty args → by_writers p s caller slot ty a o (slot_writers p s slot) ≡ None →
     slot_signature p s caller (Slot slot ty) ty a args o ≡ None → Entering p s caller (Slot slot ty) args

@@ -1,12 +1,14 @@
 -- Calls of names have as many arguments as the called function has parameters, and expect a result only of what gives one.
 use Rattle.std.proofs.Common.{◌≡◌, ℕ, zero, suc, ◌+◌, ◌<◌, Bool, true, false, not, ◌&&◌, ◌||◌, List, [], ◌∷◌, ◌++◌, length, take, get_or, Option, Some, None, refl, sym, subst, ◌∙◌, ap, arith}
-use Rattle.std.specs.Prelude.{slice_get, nat_lt, is_some, option_map, option_and_then, cond, bytes_eq, codes, find, position}
+use Rattle.std.specs.Prelude.{slice_get, nat_lt, is_some, option_map, option_and_then, cond, bytes_eq, codes, position}
 use Rattle.std.specs.List.{list_any, position_or_len}
 use Rattle.std.proofs.lemmas.Bool.Decides.{nat_tests}
-use Rattle.std.proofs.lemmas.List.Folds.{find_at}
 use Rattle.std.proofs.lemmas.List.Quantifiers.{position-Some}
 use Rattle.std.proofs.lemmas.Option.{slice_get-get_or}
 use Rattle.lx_words.specs.declared.word.Width.{Width}
+use Rattle.lx_words.proofs.Tests.{true_false, first_of, second_of, either_second}
+use Rattle.lx_words.proofs.Options.{none_some, some_same}
+use Rattle.lx_words.proofs.Lists.{same_bytes, all_got, map_length, find_placed, front_place}
 use Rattle.lx_ir.specs.declared.types.Scalar.{Scalar}
 use Rattle.lx_ir.specs.declared.module.Function.{Function}
 use Rattle.lx_ir.specs.declared.module.Parameter.{Parameter}
@@ -20,14 +22,13 @@ use Rattle.lx_model.specs.Program.{Home, module_of, module_or_empty, function_of
 use Rattle.lx_link_texts.specs.Signatures.{native_result, has_native_signature, has_slot_call_signature, are_behind_pointer}
 use Rattle.lx_link_texts.specs.Faults.{kernel_native, slot_called, defines, defined, is_alias, is_kernel_name, is_exported}
 use Rattle.lx_link_texts.specs.WellFormed.{IsWellFormed, IsModuleOf, is_kernel_import, is_kernel_import_by, is_module_import, is_import_of}
-use Rattle.lx_simulation.proofs.Elements.{none_some, all_in, any_of, in_got}
+use Rattle.lx_simulation.proofs.Elements.{all_in, any_of, in_got}
 use Rattle.lx_simulation.proofs.Counting.{widths_length, declared_many, numbered_function}
 use Rattle.lx_simulation.proofs.Frames.{AllVerified}
 use Rattle.lx_simulation.proofs.Linking.{linked}
 use Rattle.lx_linked.specs.Imports.{ImportsFit}
 use Rattle.lx_linked.proofs.Standing.{found_in}
-use Rattle.lx_caps.proofs.Tests.{first_true, true_false, second_true, or_second, or_chosen}
-use Rattle.lx_caps.proofs.Items.{all_got, bytes_are, some_same, map_length}
+use Rattle.lx_caps.proofs.Tests.{or_chosen}
 
 -- a program whose texts are verified, and whose imports have the signatures of what they name
 pub record Linked (p : Program) : Type 0 where
@@ -41,13 +42,13 @@ alias_first false b c e h = h
 alias_kept : (p : Program) (m : Module) → IsModuleOf p.kernel p.interface m → (k : ℕ) (g : Function) → slice_get m.functions k ≡ Some g → is_defined g ≡ false → is_alias g.name ≡ true → has_native_signature 5 g ≡ true
 alias_kept p m w k g e d a =
     let all = all_in (is_module_import p.kernel p.interface) m.functions g w.imports (in_got m.functions k g e) in
-    or_chosen (is_alias g.name) (has_native_signature 5 g) _ a (or_second (is_defined g) _ d all)
+    or_chosen (is_alias g.name) (has_native_signature 5 g) _ a (either_second (is_defined g) _ d all)
 
 import_kept : (p : Program) (m : Module) → IsModuleOf p.kernel p.interface m → (k : ℕ) (g : Function) → slice_get m.functions k ≡ Some g → is_defined g ≡ false → is_alias g.name ≡ false → is_import_of g (defined p.kernel g.name) ≡ true
 import_kept p m w k g e d a =
     let all = all_in (is_module_import p.kernel p.interface) m.functions g w.imports (in_got m.functions k g e) in
-    let other = second_true (not (is_alias g.name)) _ (alias_first (is_alias g.name) (has_native_signature 5 g) _ a (or_second (is_defined g) _ d all)) in
-    second_true (is_exported p.interface g.name) (is_import_of g (defined p.kernel g.name)) (second_true (not (is_kernel_name g.name)) _ other)
+    let other = second_of (not (is_alias g.name)) _ (alias_first (is_alias g.name) (has_native_signature 5 g) _ a (either_second (is_defined g) _ d all)) in
+    second_of (is_exported p.interface g.name) (is_import_of g (defined p.kernel g.name)) (second_of (not (is_kernel_name g.name)) _ other)
 
 module_kept : (p : Program) → IsWellFormed p → (x : Option ProgramModule) (m : ℕ) → slice_get p.modules m ≡ x → (k : ℕ) (g : Function) → slice_get (module_or_empty x).functions k ≡ Some g → is_defined g ≡ false → is_alias g.name ≡ false → is_import_of g (defined p.kernel g.name) ≡ true
 module_kept p w None m em k g e d a = none_some e
@@ -60,7 +61,7 @@ module_alias p w (Some x) m em k g e d a = alias_kept p x.«module» (all_got (�
 pub imports_fit : (p : Program) → IsWellFormed p → ImportsFit p
 imports_fit p w =
     record {
-      kernel = λ k g e d. or_second (is_defined g) _ d (all_in (is_kernel_import p.interface) p.kernel.functions g w.kernel_imports (in_got p.kernel.functions k g e));
+      kernel = λ k g e d. either_second (is_defined g) _ d (all_in (is_kernel_import p.interface) p.kernel.functions g w.kernel_imports (in_got p.kernel.functions k g e));
       modules = λ m k g e d a. module_kept p w (slice_get p.modules m) m refl k g e d a;
       alias = λ m k g e d a. module_alias p w (slice_get p.modules m) m refl k g e d a;
     }
@@ -114,7 +115,7 @@ TargetTakes p needs count (ToOwn n) = Takes p needs count n
 TargetTakes p needs count Nowhere = Unit {0}
 
 native_gives : (needs : Bool) (k : ℕ) (g : Function) → has_native_signature k g ≡ true → (needs ≡ true → is_some g.ret ≡ true) → NativeGives needs k
-native_gives needs k g e h n = there_same (native_result (native_call k)) g (second_true _ (same_result (native_result (native_call k)) (result_width g)) e) (h n)
+native_gives needs k g e h n = there_same (native_result (native_call k)) g (second_of _ (same_result (native_result (native_call k)) (result_width g)) e) (h n)
 
 own_takes : (p : Program) (needs : Bool) (h : Home) (f : ℕ) (g : Function) (n : Option ℕ) → number_of p h f ≡ n → slice_get (module_of p h).functions f ≡ Some g → (needs ≡ true → is_some g.ret ≡ true) → TargetTakes p needs (length g.params) (own n)
 own_takes p needs h f g None e eg res = tt
@@ -134,16 +135,6 @@ place_of p xs k e =
   where
     true_less : (m n : ℕ) → nat_lt m n ≡ true → m < n
     true_less m n e = grind (arith, nat_tests, e)
-
-front_step : {A : Type 0} (p : A → Bool) (x : A) (xs ys : List A) (b : Bool) → p x ≡ b → cond (not b) (1 + position_or_len p ys) 0 < suc (length ys) → (position_or_len p ys < length ys → position_or_len p xs ≡ position_or_len p ys) →
-    cond (not b) (1 + position_or_len p xs) 0 ≡ cond (not b) (1 + position_or_len p ys) 0
-front_step p x xs ys true e l ih = refl
-front_step p x xs ys false e l ih = ap (λ (n : ℕ). 1 + n) (ih (omega (arith, l)))
-
-front_place : {A : Type 0} (p : A → Bool) (xs : List A) (n : ℕ) → position_or_len p (take n xs) < length (take n xs) → position_or_len p xs ≡ position_or_len p (take n xs)
-front_place p xs zero l = absurd (omega (arith, l))
-front_place p [] (suc n) l = absurd (omega (arith, l))
-front_place p (x ∷ xs) (suc n) l = front_step p x xs (take n xs) (p x) refl l (front_place p xs n)
 
 longer : {A : Type 0} (xs : List A) (n k : ℕ) → k < length (take n xs) → k < length xs
 longer xs zero k l = absurd (omega (arith, l))
@@ -173,22 +164,19 @@ named_native name k e =
 not_both : {A : Type 0} (p : Program) (name : List ℕ) (s : SlotType) (k : ℕ) → slot_called p.interface name ≡ Some s → native_named name ≡ Some k → A
 not_both p name s k es en =
     let f = found_in (λ (t : SlotType). bytes_eq (codes "k.slot." ++ t.name) name) p.interface.slots s es in
-    true_false (sym (named_native name k en) ∙ (ap (λ (n : List ℕ). list_any (bytes_eq n) native_names) (sym (bytes_are (codes "k.slot." ++ s.name) name f.1)) ∙ slot_or_native s.name))
-
-found_place : {A : Type 0} (p : A → Bool) (xs : List A) (k : ℕ) → position p xs ≡ Some k → find p xs ≡ slice_get xs k
-found_place p xs k e = find_at p xs ∙ ap (slice_get xs) (place_of p xs k e).1
+    true_false (sym (named_native name k en) ∙ (ap (λ (n : List ℕ). list_any (bytes_eq n) native_names) (sym (same_bytes (codes "k.slot." ++ s.name) name f.1)) ∙ slot_or_native s.name))
 
 behind_many : (st : SlotType) (g : Function) → are_behind_pointer st.params (param_widths g) ≡ true → length g.params ≡ suc (length st.params)
 behind_many st g e = sym (map_length (λ (x : Parameter). width_of x.ty) g.params) ∙ by_widths (param_widths g) e
   where
     by_widths : (ws : List Width) → are_behind_pointer st.params ws ≡ true → length ws ≡ suc (length st.params)
     by_widths [] e = true_false (sym e)
-    by_widths (w ∷ ws) e = ap suc (declared_many st.params ws (second_true _ (are_declared st.params ws) e))
+    by_widths (w ∷ ws) e = ap suc (declared_many st.params ws (second_of _ (are_declared st.params ws) e))
 
 slot_takes : (p : Program) (needs : Bool) (g : Function) (st : SlotType) → has_slot_call_signature st g ≡ true → (needs ≡ true → is_some g.ret ≡ true) → (length g.params ≡ suc (length st.params)) × (needs ≡ true → is_some (declared_width st.ret) ≡ true)
 slot_takes p needs g st e res = (
-  behind_many st g (first_true (are_behind_pointer st.params (param_widths g)) _ e),
-  λ h. there_same (declared_width st.ret) g (second_true _ (same_result (declared_width st.ret) (result_width g)) e) (res h),
+  behind_many st g (first_of (are_behind_pointer st.params (param_widths g)) _ e),
+  λ h. there_same (declared_width st.ret) g (second_of _ (same_result (declared_width st.ret) (result_width g)) e) (res h),
 )
 
 native_by : (p : Program) (needs : Bool) (g : Function) (k : ℕ) (n : Option ℕ) (t : Option SlotType) → native_named g.name ≡ Some k → kernel_native g.name ≡ n → slot_called p.interface g.name ≡ t → is_kernel_import_by g n t ≡ true → (needs ≡ true → is_some g.ret ≡ true) → NativeGives needs k
@@ -205,7 +193,7 @@ slot_by p needs g st None (Some s) ek en et h res = subst (λ (x : SlotType). (l
 named_slot : (p : Program) (needs : Bool) (g : Function) (s : Option ℕ) → slot_named p g.name ≡ s → native_named g.name ≡ None → is_kernel_import_by g (kernel_native g.name) (slot_called p.interface g.name) ≡ true → (needs ≡ true → is_some g.ret ≡ true) → TargetTakes p needs (length g.params) (slot s)
 named_slot p needs g None es ek h res = tt
 named_slot p needs g (Some s) es ek h res =
-    λ st et. slot_by p needs g st (kernel_native g.name) (slot_called p.interface g.name) ek refl (found_place (λ (t : SlotType). bytes_eq (codes "k.slot." ++ t.name) g.name) p.interface.slots s es ∙ et) h res
+    λ st et. slot_by p needs g st (kernel_native g.name) (slot_called p.interface g.name) ek refl (find_placed (λ (t : SlotType). bytes_eq (codes "k.slot." ++ t.name) g.name) p.interface.slots s es ∙ et) h res
 
 kernel_by : (p : Program) (needs : Bool) (g : Function) (k : Option ℕ) → native_named g.name ≡ k → is_kernel_import_by g (kernel_native g.name) (slot_called p.interface g.name) ≡ true → (needs ≡ true → is_some g.ret ≡ true) → TargetTakes p needs (length g.params) (native_or_slot k (slot_named p g.name))
 kernel_by p needs g (Some k) ek h res = native_by p needs g k (kernel_native g.name) (slot_called p.interface g.name) ek refl refl h res
@@ -217,15 +205,15 @@ import_takes : (p : Program) (needs : Bool) (g : Function) (n : ℕ) (o : Option
 import_takes p needs g n None en h res x ex = true_false (sym h)
 import_takes p needs g n (Some y) en h res x ex =
     let same : y ≡ x = some_same (sym en ∙ ex) in
-    let widths : length g.params ≡ length y.params = sym (map_length (λ (z : Parameter). width_of z.ty) g.params) ∙ (widths_length (param_widths g) (param_widths y) (first_true (same_widths (param_widths g) (param_widths y)) _ h) ∙ map_length (λ (z : Parameter). width_of z.ty) y.params) in (
+    let widths : length g.params ≡ length y.params = sym (map_length (λ (z : Parameter). width_of z.ty) g.params) ∙ (widths_length (param_widths g) (param_widths y) (first_of (same_widths (param_widths g) (param_widths y)) _ h) ∙ map_length (λ (z : Parameter). width_of z.ty) y.params) in (
       widths ∙ ap (λ (z : Function). length z.params) same,
-      λ need. subst (λ (z : Function). is_some z.ret ≡ true) same (same_there (result_width g) y (second_true _ (same_result (result_width g) (result_width y)) h) (width_there g.ret (res need))),
+      λ need. subst (λ (z : Function). is_some z.ret ≡ true) same (same_there (result_width g) y (second_of _ (same_result (result_width g) (result_width y)) h) (width_there g.ret (res need))),
     )
 
 numbered_by : (p : Program) (needs : Bool) (g : Function) (j : ℕ) (n : Option ℕ) → position (defines g.name) p.kernel.functions ≡ Some j → number_of p None j ≡ n → is_import_of g (defined p.kernel g.name) ≡ true → (needs ≡ true → is_some g.ret ≡ true) → TargetTakes p needs (length g.params) (kernel_import n)
 numbered_by p needs g j None ej en h res = tt
 numbered_by p needs g j (Some n) ej en h res =
-    import_takes p needs g n (defined p.kernel g.name) (numbered_function p None j n en ∙ sym (found_place (defines g.name) p.kernel.functions j ej)) h res
+    import_takes p needs g n (defined p.kernel g.name) (numbered_function p None j n en ∙ sym (find_placed (defines g.name) p.kernel.functions j ej)) h res
 
 placed_by : (p : Program) (needs : Bool) (g : Function) (j : Option ℕ) → position (defines g.name) p.kernel.functions ≡ j → is_import_of g (defined p.kernel g.name) ≡ true → (needs ≡ true → is_some g.ret ≡ true) → TargetTakes p needs (length g.params) (kernel_import (option_and_then (number_of p None) j))
 placed_by p needs g None ej h res = tt

@@ -1,9 +1,11 @@
 -- Two runs of a function at the same place of its text hold the same words in the registers that are known there.
 use Rattle.std.proofs.Common.{◌≡◌, ℕ, zero, suc, ◌+◌, ◌<◌, ◌≤◌, Bool, true, false, ◌||◌, List, [], ◌∷◌, ◌++◌, length, map, take, drop, replicate, Option, Some, None, inl, inr, refl, sym, subst, ◌∙◌, ap, arith, eqb-true}
 use Rattle.std.specs.Prelude.{slice_get, slice_set, slice_index_or, nat_eq, find, bytes_eq, cond}
-use Rattle.std.specs.List.{cons_option}
 use Rattle.std.proofs.lemmas.Bool.{eqb-false, or_cases}
 use Rattle.lx_words.specs.Word.{Word}
+use Rattle.lx_words.proofs.Tests.{true_false, no_less, one_less, one_down, or_turned}
+use Rattle.lx_words.proofs.Options.{none_some, some_same}
+use Rattle.lx_words.proofs.Lists.{same_bytes, all_taken}
 use Rattle.lx_ir.specs.declared.module.Value.TheVariants as value
 use Rattle.lx_ir.specs.declared.module.Block.{Block}
 use Rattle.lx_ir.specs.declared.module.Function.{Function}
@@ -18,15 +20,13 @@ use Rattle.lx_ir.specs.Operands.{given_by, is_terminator, targets_of}
 use Rattle.lx_ir.specs.Faults.{instrs_at, no_instrs, is_given, assigns, walk_assigns, Walk, block_number, last_of, reads_of_op}
 use Rattle.lx_model.specs.Thread.{CodeBlock, Activation, code_block_of, routine_of, start_of, zero_word, with_register, head_destination, behind_head, activation_behind}
 use Rattle.lx_images.specs.Places.{IsIn}
-use Rattle.lx_simulation.proofs.Elements.{none_some}
 use Rattle.lx_simulation.proofs.Verifying.{op_of, Sound}
 use Rattle.lx_simulation.proofs.Walking.{is_assigned, name_of, label_at, register_set, with_length, Here, here, assigned_more, Arrives, arrives, grows, start_code, enough, start_label}
 use Rattle.lx_linked.specs.Filled.{refill}
 use Rattle.lx_linked.specs.Alike.{operands_read, PhiReads, ReadsNext}
-use Rattle.lx_linked.proofs.AssignedReads.{Known, the_read, read_at, operand_read, edge_read, known_read, known_within, named_number}
-use Rattle.lx_caps.proofs.Tests.{true_false, less_one, no_less, or_turned, one_down}
-use Rattle.lx_caps.proofs.Items.{bytes_are, some_same, all_taken}
+use Rattle.lx_linked.proofs.AssignedReads.{Known, read_at, operand_read, edge_read, known_read, known_within, named_number}
 use Rattle.lx_simulation.proofs.Jumping.{ends_at, got_body}
+use Rattle.lx_simulation.proofs.Held.{the_read}
 
 abbrev pub held : List Word → ℕ → Word
 held rs r = slice_index_or rs r zero_word
@@ -181,15 +181,6 @@ read_same m g s a qs o os ec st x r i e =
 
 -- jumps
 
-index_map : {A B : Type 0} (f : A → B) (xs : List A) (k : ℕ) (x : A) (d : B) → slice_get xs k ≡ Some x → slice_index_or (map f xs) k d ≡ f x
-index_map f [] k x d e = none_some e
-index_map f (y ∷ xs) zero x d e = ap f (some_same e)
-index_map f (y ∷ xs) (suc k) x d e = index_map f xs k x d e
-
-in_either : {A : Type 0} (o : Option A) (y : A) (ys : List A) → IsIn y ys → IsIn y (cons_option o ys)
-in_either None y ys i = i
-in_either (Some x) y ys i = inr i
-
 -- where the function stands at the end of a block
 pub record AtEnd (g : Function) (a : Activation) (block place : ℕ) (o : Op) (os : List Op) : Type 0 where
   pub here : Here (instrs_at g block) place o os
@@ -210,7 +201,7 @@ at_its_end m g s a block place o os el code ec ends =
       whole = whole;
       body = from.0;
       got = from.1;
-      last = ap (λ (is : List Instr). last_of is) (sym here_instrs) ∙ (ap (λ (n : ℕ). slice_get (instrs_at g block) n) (less_one (length (instrs_at g block)) place whole) ∙ h.got);
+      last = ap (λ (is : List Instr). last_of is) (sym here_instrs) ∙ (ap (λ (n : ℕ). slice_get (instrs_at g block) n) (one_less (length (instrs_at g block)) place whole) ∙ h.got);
       named = ap (block_number g) (el ∙ ap name_of from.1) ∙ named_number m g s block from.0 from.1;
     }
 
@@ -256,7 +247,7 @@ phi_same m g s a qs b label o os ec ends gives x st r reads =
     let phi = op_in x.body.instrs (op.Phi to reads.1 reads.2) (subst (λ (c : CodeBlock). IsIn (op.Phi to reads.1 reads.2) c.code) x.is reads.4) in
     let there : instrs_at g x.block ≡ x.body.instrs = ap no_instrs x.got in
     let place = index_in x.body.instrs phi.0 phi.1 in
-    let number : block_number g e.label ≡ Some st.block = ap (block_number g) (bytes_are e.label a.label f.1) ∙ at.named in
+    let number : block_number g e.label ≡ Some st.block = ap (block_number g) (same_bytes e.label a.label f.1) ∙ at.named in
     let read : IsIn (the_read st.block (length (instrs_at g st.block)) r phi.0.line) (reads_of_op g x.block place.0 phi.0.line phi.0.op)
     = subst (λ (y : Op). IsIn (the_read st.block (length (instrs_at g st.block)) r phi.0.line) (reads_of_op g x.block place.0 phi.0.line y)) (sym phi.2)
     (edge_read g x.block place.0 phi.0.line to st.block r reads.1 reads.2 e f.0 number reads.6) in

@@ -5,6 +5,8 @@ use Rattle.std.proofs.lemmas.List.Elements.{All-tail}
 use Rattle.lx_words.specs.declared.word.Width.{Width}
 use Rattle.lx_words.specs.declared.word.Width.TheVariants.{W64}
 use Rattle.lx_words.specs.Word.{Word, word}
+use Rattle.lx_words.proofs.Tests.{true_false, second_of}
+use Rattle.lx_words.proofs.Options.{none_some, some_same}
 use Rattle.lx_caps.specs.declared.Principal.{Principal}
 use Rattle.lx_caps.specs.Regions.{stack_start, stack_end}
 use Rattle.lx_annot.specs.declared.interface.Slot.{Slot as SlotType}
@@ -28,7 +30,6 @@ use Rattle.lx_model.specs.Next.{absorb, actions_of, after_action, after_entry, a
 use Rattle.lx_model.specs.Fits.{FitsFunction, FitsPrincipal, FitsStack}
 use Rattle.lx_link_texts.specs.Signatures.{native_result}
 use Rattle.lx_link_texts.specs.WellFormed.{FitsCall, IsWellFormed}
-use Rattle.lx_simulation.proofs.Elements.{none_some}
 use Rattle.lx_simulation.proofs.Absorbing.{thread_of}
 use Rattle.lx_linked.specs.Threads.{CrossingFits, Expects, FrameFits, FramesFit, Runs, RunsAt, StageFits, ThreadFits, Waits}
 use Rattle.lx_linked.specs.Threads.{result_of as width_of_result}
@@ -38,8 +39,6 @@ use Rattle.lx_linked.proofs.FittingFrames.{stands, past_runs}
 use Rattle.lx_linked.proofs.Callees.{known_at}
 use Rattle.lx_linked.proofs.FittingEffects.{Asked, EnteredFrom, OnTop, Takes, TakesBytes, gives_word, same_given, taken_runs, width_if}
 use Rattle.lx_linked.proofs.Steps.{AllCalls, frame_runs, leaves, next_fits, started}
-use Rattle.lx_caps.proofs.Tests.{true_false, second_true}
-use Rattle.lx_caps.proofs.Items.{some_same}
 
 -- values
 
@@ -96,7 +95,7 @@ slot_result : (t : SlotType) (o : Option SlotType) (f : Option Function) → o �
 slot_result t None f eo e = none_some eo
 slot_result t (Some s) None eo e = true_false (sym e)
 slot_result t (Some s) (Some f) eo e =
-    ap (λ (x : SlotType). declared_width x.ret) (sym (some_same eo)) ∙ result_is (declared_width s.ret) (result_width f) (second_true (are_declared s.params (param_widths f)) (same_result (declared_width s.ret) (result_width f)) e)
+    ap (λ (x : SlotType). declared_width x.ret) (sym (some_same eo)) ∙ result_is (declared_width s.ret) (result_width f) (second_of (are_declared s.params (param_widths f)) (same_result (declared_width s.ret) (result_width f)) e)
 
 waits : (p : Program) (way : Way) (fs : List Frame) (n : ℕ) → EnteredFrom p way fs → LeadsTo p way n → fits_site p way fs n ≡ true → Waits p n fs
 waits p way [] n from leads fits = tt

@@ -7,6 +7,7 @@ use Rattle.std.proofs.lemmas.Bool.{and_parts, and_from, or_left, or_right}
 use Rattle.std.proofs.lemmas.Bool.Decides.{nat_tests}
 use Rattle.std.proofs.lemmas.List.Folds.{find-append}
 use Rattle.std.proofs.lemmas.Slice.Eq.{bytes_eq-Decides}
+use Rattle.lx_words.proofs.Tests.{true_eq, eq_true}
 use Rattle.lx_ir.specs.declared.types.NamedType.{NamedType}
 use Rattle.lx_ir.specs.declared.module.Module.{Module}
 use Rattle.lx_annot.specs.declared.interface.Field.{Field}
@@ -39,12 +40,6 @@ passed p x [] h e = absurd h
 passed p x (y ∷ xs) (inl q) e = or_left (p y) (list_any p xs) (ap p (sym q) ∙ e)
 passed p x (y ∷ xs) (inr h) e = or_right (p y) (list_any p xs) (passed p x xs h e)
 
-same_number : (a b : ℕ) → nat_eq a b ≡ true → a ≡ b
-same_number a b h = grind (arith, nat_tests, h)
-
-equal : (a b : ℕ) → a ≡ b → nat_eq a b ≡ true
-equal a b h = grind (arith, nat_tests, h)
-
 -- the field is typed
 
 abbrev is_statement : Module → FieldName → ℕ → Field → Bool
@@ -74,14 +69,14 @@ is_typed i m name s h =
       said = p.stands;
       found = n.found;
       named = n.is;
-      index = same_number p.one.index name.index b.0;
-      slot = same_number p.one.slot s b.1;
+      index = true_eq p.one.index name.index b.0;
+      slot = true_eq p.one.slot s b.1;
     }
 
 typed : (i : Interface) (m : Module) (name : FieldName) (s : ℕ) → IsTyped i m name s → types_field i m name s ≡ true
 typed i m name s t =
     let a = named (slice_get m.types name.struct_number) t.struct t.statement.name t.found t.named in
-    let b = and_from (nat_eq t.statement.index name.index) (nat_eq t.statement.slot s) (equal t.statement.index name.index t.index) (equal t.statement.slot s t.slot) in
+    let b = and_from (nat_eq t.statement.index name.index) (nat_eq t.statement.slot s) (eq_true t.statement.index name.index t.index) (eq_true t.statement.slot s t.slot) in
     passed (is_statement m name s) t.statement i.fields t.said
     (and_from (has_name (slice_get m.types name.struct_number) t.statement.name) (nat_eq t.statement.index name.index && nat_eq t.statement.slot s) a b)
 
@@ -94,7 +89,7 @@ is_got : (i : Interface) (m : Module) → HasLawfulGlobals m → (f s : ℕ) →
 is_got i m l f s h =
     let p = passes (is_giver i m f s) (sites_of m) h in
     let a = and_parts (nat_eq p.one.function f) (types_field i m p.one.at s) p.does in
-    let e = same_number p.one.function f a.0 in
+    let e = true_eq p.one.function f a.0 in
     record {
       name = p.one.at;
       stands = subst (λ g. StandsIn m p.one.at g) e ((all_sites m l p.one.at p.one.function).0 p.stands);
@@ -104,7 +99,7 @@ is_got i m l f s h =
 got : (i : Interface) (m : Module) → HasLawfulGlobals m → (f s : ℕ) → GetsType i m f s → gets i m f s ≡ true
 got i m l f s g =
     passed (is_giver i m f s) (site g.name f) (sites_of m) ((all_sites m l g.name f).1 g.stands)
-    (and_from (nat_eq f f) (types_field i m g.name s) (equal f f refl) (typed i m g.name s g.typed))
+    (and_from (nat_eq f f) (types_field i m g.name s) (eq_true f f refl) (typed i m g.name s g.typed))
 
 pub gets_types : (i : Interface) (m : Module) → HasLawfulGlobals m → (f s : ℕ) → Exactly (gets i m f s ≡ true) (GetsType i m f s)
 gets_types i m l f s = (is_got i m l f s, got i m l f s)
@@ -116,7 +111,7 @@ Least p n None = (t : ℕ) → p t ≡ true → n ≤ t
 Least p n (Some s) = (s < n) × (p s ≡ true) × ((t : ℕ) → p t ≡ true → s ≤ t)
 
 not_here : (p : ℕ → Bool) (n t : ℕ) → n ≤ t → p n ≡ false → p t ≡ true → (b : Bool) → nat_eq n t ≡ b → suc n ≤ t
-not_here p n t l e h true q = let same : n ≡ t = same_number n t q in absurd (cc (ap p same, e, h))
+not_here p n t l e h true q = let same : n ≡ t = true_eq n t q in absurd (cc (ap p same, e, h))
 not_here p n t l e h false q = grind (arith, nat_tests, q, l)
 
 least_more : (p : ℕ → Bool) (n : ℕ) (o : Option ℕ) (b : Bool) → p n ≡ b → Least p n o → Least p (suc n) (option_or o (if b then Some n else None))

@@ -8,6 +8,8 @@ use Rattle.lx_words.specs.declared.word.BinOp.TheVariants.{Add, Sub, Mul, UDiv, 
 use Rattle.lx_words.specs.Width.{same_width}
 use Rattle.lx_words.specs.Word.{Word, unless_zero, unless_overflow, binary}
 use Rattle.lx_words.proofs.Widths.{width_is, width_itself}
+use Rattle.lx_words.proofs.Tests.{true_false, first_of, second_of}
+use Rattle.lx_words.proofs.Options.{none_some, some_same}
 use Rattle.lx_ir.specs.declared.types.Scalar.{Scalar}
 use Rattle.lx_ir.specs.declared.types.Scalar.TheVariants.{Int, Ptr}
 use Rattle.lx_ir.specs.declared.module.Constant.{Constant}
@@ -20,9 +22,6 @@ use Rattle.lx_ir.specs.Faults.{type_of_constant, are_arguments}
 use Rattle.lx_ir.specs.Faults.{same_result as same_scalars}
 use Rattle.lx_model.specs.declared.program.Program.{Program}
 use Rattle.lx_model.specs.Program.{Home, constant_word, same_widths, same_result}
-use Rattle.lx_simulation.proofs.Elements.{none_some}
-use Rattle.lx_caps.proofs.Tests.{first_true, true_false, second_true}
-use Rattle.lx_caps.proofs.Items.{some_same}
 
 -- tests that are equations
 
@@ -34,7 +33,7 @@ scalar_is Ptr (Int w) e = true_false (sym e)
 
 pub widths_are : (vs ws : List Width) → same_widths vs ws ≡ true → vs ≡ ws
 widths_are [] [] e = refl
-widths_are (v ∷ vs) (w ∷ ws) e = λ k. width_is v w (first_true (same_width v w) (same_widths vs ws) e) k ∷ widths_are vs ws (second_true (same_width v w) (same_widths vs ws) e) k
+widths_are (v ∷ vs) (w ∷ ws) e = λ k. width_is v w (first_of (same_width v w) (same_widths vs ws) e) k ∷ widths_are vs ws (second_of (same_width v w) (same_widths vs ws) e) k
 widths_are [] (w ∷ ws) e = true_false (sym e)
 widths_are (v ∷ vs) [] e = true_false (sym e)
 
@@ -67,7 +66,7 @@ parameter_width x = width_of x.ty
 pub arguments_are : (xs : List Argument) (ps : List Parameter) → are_arguments xs ps ≡ true → map argument_width xs ≡ map parameter_width ps
 arguments_are [] [] e = refl
 arguments_are (x ∷ xs) (p ∷ ps) e =
-    λ k. scalar_is x.ty p.ty (first_true (same_scalar x.ty p.ty) (are_arguments xs ps) e) k ∷ arguments_are xs ps (second_true (same_scalar x.ty p.ty) (are_arguments xs ps) e) k
+    λ k. scalar_is x.ty p.ty (first_of (same_scalar x.ty p.ty) (are_arguments xs ps) e) k ∷ arguments_are xs ps (second_of (same_scalar x.ty p.ty) (are_arguments xs ps) e) k
 arguments_are [] (p ∷ ps) e = true_false (sym e)
 arguments_are (x ∷ xs) [] e = true_false (sym e)
 

@@ -172,7 +172,7 @@ pub step_alike : (p : Program) (t : ℕ) (thread : Thread) → step p t (forget_
 step_alike p t thread = due_alike thread.due thread _ _ (undue_alike p t thread.frames thread)
 
 -- the next request of a thread that steps so
-abbrev behind : ℕ → Program → ℕ → Step → Asking
+abbrev pub behind : ℕ → Program → ℕ → Step → Asking
 behind n p t s = elim s [ Goes further ↦ next_within n p t further | Asks further r ↦ record { thread = further; request = r } ]
 
 behind_alike : (n : ℕ) (p : Program) (t : ℕ) (s : Step) → ((thread : Thread) → next_within n p t (forget_thread thread) ≡ forget_asking (next_within n p t thread)) → behind n p t (forget_step s) ≡ forget_asking (behind n p t s)

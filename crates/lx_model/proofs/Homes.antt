@@ -3,12 +3,12 @@ use Rattle.std.proofs.Common.{None, Some, ap, eqb-true, refl, true, ◌≡◌, �
 use Rattle.std.proofs.lemmas.Bool.{and_parts}
 use Rattle.std.specs.Prelude.{nat_eq, slice_get, unwrap_or}
 use Rattle.std.specs.Option.{option_eq}
+use Rattle.lx_words.proofs.Tests.{nat_turned}
 use Rattle.lx_caps.specs.Names.{Namings}
 use Rattle.lx_model.specs.Program.{Home, same_home, home_of_entry, is_entry, is_home, ToImport, own, module_of, module_or_empty, home_of, home_or_kernel, is_in}
 use Rattle.lx_model.specs.declared.program.ProgramFunction.{ProgramFunction}
 use Rattle.lx_model.specs.declared.program.ProgramFunction.TheVariants.{Native, Of}
 use Rattle.lx_model.specs.Enter.{instance_of, text_of_principal}
-use Rattle.lx_model.proofs.Tests.{nat_eq_swapped}
 use Rattle.lx_model.specs.declared.program.Program.{Program}
 use Rattle.lx_model.specs.declared.program.ProgramModule.{ProgramModule}
 
@@ -44,7 +44,7 @@ pub home_turned : (a b : Home) → option_eq nat_eq a b ≡ same_home b a
 home_turned None None = refl
 home_turned None (Some n) = refl
 home_turned (Some m) None = refl
-home_turned (Some m) (Some n) = nat_eq_swapped m n
+home_turned (Some m) (Some n) = nat_turned m n
 
 pub home_same : (a b : Home) → option_eq nat_eq a b ≡ same_home a b
 home_same None None = refl

@@ -6,8 +6,6 @@ pub mod ForgettingReplies
 pub mod PlainServing
 pub mod PlainEvents
 pub mod Crossing
-pub mod Tests
-pub mod Items
 pub mod Passing
 pub mod Journals
 pub mod Homes

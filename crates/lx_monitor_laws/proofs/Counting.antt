@@ -6,6 +6,7 @@ use Rattle.std.proofs.lemmas.Grind.{flat_map-append}
 use Rattle.std.proofs.lemmas.List.{length-append, length-map, map-append}
 use Rattle.std.proofs.lemmas.List.Sums.{sum_by-cons}
 use Rattle.lx_words.proofs.Lists.{split_at}
+use Rattle.lx_words.proofs.Tests.{more_onto}
 use Rattle.lx_ir.specs.declared.types.Scalar.{Scalar}
 use Rattle.lx_ir.specs.declared.module.Block.{Block}
 use Rattle.lx_ir.specs.declared.module.Function.{Function}
@@ -301,9 +302,6 @@ one_of_two true a false = refl
 one_of_two false true s = refl
 one_of_two false false s = refl
 
-moved_on : (j n : ℕ) → j + suc n ≡ suc j + n
-moved_on j n = omega arith
-
 wrappers_counted : (i : Interface) (m : Module) (n : ℕ) (fs : List Function) → ((j : ℕ) (f : Function) → slice_get fs j ≡ Some f → slice_get m.functions (j + n) ≡ Some f)
     → length (out_wrappers i n fs) + length (filter_map (in_wrapper i m) (annotated_from i m n fs)) ≡ wrapper_count i m n fs
 wrappers_counted i m n [] there = refl
@@ -313,7 +311,7 @@ wrappers_counted i m n (f ∷ fs) there =
     let out = out_length (is_wrapped f) i n f (out_wrappers i (suc n) fs) in
     let inward = in_length (is_defined f) (slot_of i m n) i m n f (annotated_from i m (suc n) fs) here in
     let both = one_of_two (is_defined f) (not (is_alias f)) (is_some (slot_of i m n)) in
-    let rest = wrappers_counted i m (suc n) fs (λ j g is. ap (slice_get m.functions) (moved_on j n) ∙ there (suc j) g is) in
+    let rest = wrappers_counted i m (suc n) fs (λ j g is. ap (slice_get m.functions) (more_onto j n) ∙ there (suc j) g is) in
     omega (arith, out, inward, both, rest)
 
 wrappers_are : (i : Interface) (m : Module) → count_by (has_wrapper i m) (enumerate_from 0 m.functions) ≡ length (wrappers_of i m)

@@ -3,6 +3,7 @@ use Rattle.std.proofs.Common.{◌≡◌, ℕ, zero, suc, ◌+◌, ◌-◌, ◌*�
 use Rattle.std.specs.Prelude.{if◌then◌else◌}
 use Rattle.std.proofs.lemmas.Bool.Decides.{nat_tests}
 use Rattle.lx_words.specs.Word.{Word}
+use Rattle.lx_words.proofs.Tests.{less_true}
 use Rattle.lx_caps.specs.declared.Principal.{Principal}
 use Rattle.lx_model.specs.declared.program.Program.{Program}
 use Rattle.lx_model.specs.declared.request.Outcome.{Outcome}
@@ -26,9 +27,6 @@ abbrev at_stage : Thread → Frame → List Frame → Crossing → Stage → ℕ
 at_stage x f fs c stage fuel =
     record { calls = x.calls; ended = x.ended; fuel = fuel; due = None; frames = record f { crossing = Some (record c { stage = stage }) } ∷ fs }
 
-less_test : (m n : ℕ) → m < n → nat_lt m n ≡ true
-less_test m n h = grind (arith, nat_tests, h)
-
 not_less_test : (m n : ℕ) → n ≤ m → nat_lt m n ≡ false
 not_less_test m n h = grind (arith, nat_tests, h)
 
@@ -47,7 +45,7 @@ module _ (p : Program) (t : ℕ) (x : Thread) (f : Frame) (fs : List Frame) (c :
   one_before k fuel = ap (λ (a : Asking). absorb p t a.thread a.request Done) (asks_before k fuel)
 
   further : (k : ℕ) → suc k < count_before p c.function → next_stage p c.function (Pre k) ≡ Pre (suc k)
-  further k h = ap (λ (b : Bool). if b then Pre (suc k) else Body) (less_test (suc k) (count_before p c.function) h)
+  further k h = ap (λ (b : Bool). if b then Pre (suc k) else Body) (less_true (suc k) (count_before p c.function) h)
 
   last : (k : ℕ) → count_before p c.function ≤ suc k → next_stage p c.function (Pre k) ≡ Body
   last k h = ap (λ (b : Bool). if b then Pre (suc k) else Body) (not_less_test (suc k) (count_before p c.function) h)
@@ -86,7 +84,7 @@ module _ (p : Program) (t : ℕ) (x : Thread) (f : Frame) (fs : List Frame) (c :
   asks_behind v k fuel h =
       next_is p t (at_stage x f fs c (Post k v) (suc fuel)) (at_stage x f fs c (Post k v) fuel) (post_action f c k v)
       (ap (λ (b : Bool). post_step b (record f { crossing = Some (record c { stage = Post k v }) }) fs (record c { stage = Post k v }) k v (at_stage x f fs c (Post k v) (suc fuel)))
-      (less_test k (count_behind p c.function) h))
+      (less_true k (count_behind p c.function) h))
 
   one_behind : (v : Option Word) (k fuel : ℕ) → k < count_behind p c.function
       → absorb p t (next p t (at_stage x f fs c (Post k v) (suc fuel))).thread (next p t (at_stage x f fs c (Post k v) (suc fuel))).request Done
@@ -134,7 +132,7 @@ entered_at p t x caller way args n callee stage due fits first =
 
 -- without an action before it, the body is entered at once
 first_is : (p : Program) (n m : ℕ) → count_before p n ≡ suc m → first_stage (has_action p n false 0) ≡ Pre 0
-first_is p n m e = ap first_stage (less_test 0 (count_before p n) (omega (arith, e)))
+first_is p n m e = ap first_stage (less_true 0 (count_before p n) (omega (arith, e)))
 
 none_first : (p : Program) (n : ℕ) → count_before p n ≡ 0 → first_stage (has_action p n false 0) ≡ Body
 none_first p n e = ap first_stage (not_less_test 0 (count_before p n) (omega (arith, e)))

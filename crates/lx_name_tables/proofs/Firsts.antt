@@ -1,32 +1,19 @@
 -- First places in lists.
-use Rattle.std.proofs.Common.{◌≡◌, ◌∙◌, refl, sym, ap, ℕ, suc, ◌+◌, ◌<◌, Bool, true, false, not, ◌||◌, cond, nat_lt, Option, Some, None, List, [], ◌∷◌, length, arith, ltb-false}
+use Rattle.std.proofs.Common.{◌≡◌, ◌∙◌, refl, sym, ap, ℕ, suc, ◌+◌, ◌<◌, Bool, true, false, not, ◌||◌, cond, nat_lt, Option, Some, None, List, [], ◌∷◌, length, arith}
 use Rattle.std.specs.Prelude.{position, find, slice_get}
 use Rattle.std.specs.List.{position_or_len, list_any}
 use Rattle.std.proofs.lemmas.Bool.Decides.{nat_tests}
 use Rattle.std.proofs.lemmas.List.Folds.{find_at}
-use Rattle.std.proofs.lemmas.Option.{slice_get_past}
+use Rattle.lx_words.proofs.Options.{within_by, by_test, failed}
 
 -- what stands at the first place is what is found
-
-by_test : (b : Bool) (n k : ℕ) → cond b (Some n) None ≡ Some k → n ≡ k
-by_test true n k e = cc
-by_test false n k e = absurd (cc)
 
 passed : (b : Bool) (n k : ℕ) → cond b (Some n) None ≡ Some k → b ≡ true
 passed true n k e = refl
 passed false n k e = absurd (cc)
 
-failed : (b : Bool) (n : ℕ) → cond b (Some n) None ≡ None → b ≡ false
-failed true n e = absurd (cc)
-failed false n e = refl
-
 pub found_at : {A : Type 0} (t : A → Bool) (xs : List A) (k : ℕ) (x : Option A) → position t xs ≡ Some k → x ≡ slice_get xs k → x ≡ find t xs
 found_at t xs k x p e = e ∙ ap (slice_get xs) (sym (by_test (nat_lt (position_or_len t xs) (length xs)) (position_or_len t xs) k p)) ∙ sym (find_at t xs)
-
-pub not_found : {A : Type 0} (t : A → Bool) (xs : List A) → position t xs ≡ None → None ≡ find t xs
-not_found t xs p =
-    let far = ltb-false (position_or_len t xs) (length xs) (failed (nat_lt (position_or_len t xs) (length xs)) (position_or_len t xs) p) in
-    sym (find_at t xs ∙ slice_get_past xs (position_or_len t xs) far)
 
 -- something passes exactly where there is a first place
 
@@ -50,13 +37,8 @@ there t xs k p = sym (any_below t xs ∙ passed (nat_lt (position_or_len t xs) (
 pub not_there : {A : Type 0} (t : A → Bool) (xs : List A) → position t xs ≡ None → false ≡ list_any t xs
 not_there t xs p = sym (any_below t xs ∙ failed (nat_lt (position_or_len t xs) (length xs)) (position_or_len t xs) p)
 
--- a first place is one of the list's
-below : (b : Bool) (n m k : ℕ) → nat_lt n m ≡ b → cond b (Some n) None ≡ Some k → k < m
-below true n m k h e = let is : n ≡ k = cc in grind (arith, nat_tests, h, is)
-below false n m k h e = absurd (cc)
-
 pub is_within : {A : Type 0} (t : A → Bool) (xs : List A) (k : ℕ) → Some k ≡ position t xs → k < length xs
-is_within t xs k e = below (nat_lt (position_or_len t xs) (length xs)) (position_or_len t xs) (length xs) k refl (sym e)
+is_within t xs k e = within_by (nat_lt (position_or_len t xs) (length xs)) (position_or_len t xs) (length xs) k refl (sym e)
 
 -- a test that no element passes finds nothing
 nothing : {A : Type 0} (xs : List A) → find (λ (x : A). false) xs ≡ None

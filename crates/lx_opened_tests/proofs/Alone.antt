@@ -1,5 +1,5 @@
 -- A history of one seat alone.
-use Rattle.std.proofs.Common.{◌≡◌, ◌≢◌, ◌∙◌, refl, sym, ap, ℕ, ◌+◌, eq-eqb, ne_eqb, arith, List, [], ◌∷◌, length, length-append, map}
+use Rattle.std.proofs.Common.{◌≡◌, ◌≢◌, ◌∙◌, refl, sym, ap, ℕ, ◌+◌, arith, List, [], ◌∷◌, length, length-append, map}
 use Rattle.std.specs.Prelude.{if◌then◌else◌}
 use Rattle.std.proofs.lemmas.List.{length-map}
 use mathlib.Core.Logic.{dite}
@@ -10,20 +10,15 @@ use Rattle.lx_caplock.specs.Serving.{state_after}
 use Rattle.lx_model.specs.declared.program.Program.{Program}
 use Rattle.lx_model.specs.State.{State}
 use Rattle.lx_threads.proofs.Journals.{schedule_after}
-
-is_entry : (k : ℕ) (e : Entry) (es : List Entry) → k ≡ e.seat → entries_of k (e ∷ es) ≡ e ∷ entries_of k es
-is_entry k e es is = ap (λ b. if b then e ∷ entries_of k es else entries_of k es) (eq-eqb k e.seat is)
-
-no_entry : (k : ℕ) (e : Entry) (es : List Entry) → k ≢ e.seat → entries_of k (e ∷ es) ≡ entries_of k es
-no_entry k e es not = ap (λ b. if b then e ∷ entries_of k es else entries_of k es) (ne_eqb k e.seat not)
+use Rattle.lx_threads.proofs.Runs.{calls_here, calls_else}
 
 -- where no other number has an entry, the entries of the one are the whole history
 pub all_its_own : (n : ℕ) (history : List Entry) → ((k : ℕ) → k ≢ n → entries_of k history ≡ []) → entries_of n history ≡ history
 all_its_own n [] none = refl
 all_its_own n (e ∷ es) none =
     dite (ℕ_discrete n e.seat)
-    (λ (is : n ≡ e.seat). is_entry n e es is ∙ ap (λ l. e ∷ l) (all_its_own n es (λ k not. sym (no_entry k e es (λ same. not (same ∙ sym is))) ∙ none k not)))
-    (λ not. let l = ap length (sym (is_entry e.seat e es refl) ∙ none e.seat (λ same. not (sym same))) in absurd (omega arith))
+    (λ (is : n ≡ e.seat). calls_here n e es is ∙ ap (λ l. e ∷ l) (all_its_own n es (λ k not. sym (calls_else k e es (λ same. not (same ∙ sym is))) ∙ none k not)))
+    (λ not. let l = ap length (sym (calls_here e.seat e es refl) ∙ none e.seat (λ same. not (sym same))) in absurd (omega arith))
 
 -- the journal is longer by the history
 pub longer : (p : Program) (s : State) (history : List Entry) → length (state_after p s history).journal ≡ length s.journal + length history

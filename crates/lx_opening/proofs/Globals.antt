@@ -3,6 +3,8 @@ use Rattle.std.proofs.Common.{◌≡◌, ℕ, zero, suc, ◌+◌, ◌<◌, ◌�
 use Rattle.std.specs.Prelude.{slice_get, IsTrue}
 use Rattle.std.proofs.lemmas.Bool.{and_parts}
 use Rattle.std.proofs.lemmas.Option.{slice_get-get_or, same_Some}
+use Rattle.lx_words.proofs.Options.{first_none, rest_none}
+use Rattle.lx_words.proofs.Lists.{all_at, all_got, from_start}
 use Rattle.lx_caps.specs.Regions.{globals_start, mapped}
 use Rattle.lx_ir.specs.declared.types.NamedType.{NamedType}
 use Rattle.lx_ir.specs.declared.module.GlobalVar.{GlobalVar}
@@ -22,8 +24,6 @@ use Rattle.lx_link_texts.proofs.Places.{behind, farther, farther_modules}
 use Rattle.lx_annotation_tables.proofs.Texts.{Each, each_join, each_at, goes_on, first_there}
 use Rattle.lx_opening.specs.Placed.{IsGlobalPlaced, is_init_placed}
 use Rattle.lx_opening.proofs.Typed.{in_globals, init_placed}
-use Rattle.lx_model.proofs.Items.{all_got}
-use Rattle.lx_caps.proofs.Items.{all_at as each_passes, first_none, rest_none, from_start}
 use Rattle.lx_model.proofs.Homes.{module_at}
 
 -- a global's bytes lie in the region of globals
@@ -93,7 +93,7 @@ passes false x h = absurd (cc)
 
 typed : (m : Module) (k : ℕ) (g : GlobalVar) → IsVerified m → slice_get m.globals k ≡ Some g → IsTyped m g
 typed m k g verified there =
-    let lawful : is_lawful_global m g ≡ true = each_passes (is_lawful_global m) m.globals k g verified.lawful.globals there in
+    let lawful : is_lawful_global m g ≡ true = all_at (is_lawful_global m) m.globals k g verified.lawful.globals there in
     let a = and_parts (is_name g.name && is_lawful_type m.types g.ty && is_lawful_init m g.ty g.init) (nat_le (nesting_of_init g.init) 64) lawful in
     let b = and_parts (is_name g.name && is_lawful_type m.types g.ty) (is_lawful_init m g.ty g.init) a.0 in
     let c = and_parts (is_name g.name) (is_lawful_type m.types g.ty) b.0 in

@@ -3,6 +3,7 @@ use Rattle.std.proofs.Common.{◌≡◌, ℕ, ◌+◌, ◌-◌, ◌<◌, ◌≤�
 use Rattle.std.specs.Prelude.{IsTrue}
 use Rattle.std.proofs.lemmas.Bool.{and_parts}
 use Rattle.std.proofs.lemmas.List.{length-drop}
+use Rattle.lx_words.proofs.Lists.{rest_at}
 use Rattle.lx_caps.specs.Memory.{Memory}
 use Rattle.lx_ir.specs.declared.types.NamedType.{NamedType}
 use Rattle.lx_ir.specs.declared.module.Module.{Module}
@@ -16,7 +17,6 @@ use Rattle.lx_model.specs.Opening.{item_start, with_init, with_items}
 use Rattle.lx_link_texts.specs.Placing.{last_end}
 use Rattle.lx_opening.specs.Placed.{start_behind, end_behind, fits_item, is_init_placed, are_items_placed}
 use Rattle.lx_opening.proofs.Typed.{behind}
-use Rattle.lx_caps.proofs.Items.{rest_at}
 
 -- only how far items reach counts
 items_alike : (p : Program) (home : Home) (at : ℕ) (packed : Bool) (laid : Layout) (ts : List IrType) (is : Inits) (m : Memory) → with_items p home at packed laid ts is m ≡ with_items p home at packed (layout laid.size 1) ts is m

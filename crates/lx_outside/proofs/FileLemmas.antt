@@ -4,15 +4,14 @@ use Rattle.std.specs.List.{position_or_len}
 use Rattle.std.specs.Str.{bytes_eq}
 use Rattle.std.proofs.lemmas.Slice.Eq.{bytes_eq-Decides}
 use Rattle.std.proofs.lemmas.Bool.{ltb-false, false_from_ne_true, false≢true, and_parts, and_from}
+use Rattle.lx_words.proofs.Options.{failed}
+use Rattle.lx_words.proofs.Lists.{bytes_itself}
 use Rattle.lx_outside.specs.declared.file_text.FileText.{FileText}
 use Rattle.lx_outside.specs.Files.{file_at, names_differ}
 
 -- the file has this name
 abbrev pub has_name : List ℕ → FileText → Bool
 has_name name file = bytes_eq file.name name
-
-same_name : (name : List ℕ) → bytes_eq name name ≡ true
-same_name name = (bytes_eq-Decides name name).1 refl
 
 other_name : (name other : List ℕ) → other ≢ name → bytes_eq name other ≡ false
 other_name name other differ =
@@ -33,15 +32,11 @@ misses [] name h = refl
 misses (file ∷ files) name h =
     missed (has_name name file) file.bytes (file_at files name) (position_or_len (has_name name) files) (length files) (misses files name) h
 
-no_place : (hit : Bool) (n : ℕ) → cond hit (Some n) None ≡ None → hit ≡ false
-no_place true n h = cc
-no_place false n h = refl
-
 -- where no file has the name, nothing stands under it
 pub misses_none : (files : List FileText) (name : List ℕ) → position (has_name name) files ≡ None → file_at files name ≡ None
 misses_none files name h =
     let n = position_or_len (has_name name) files in
-    misses files name (ltb-false n (length files) (no_place (ltb n (length files)) n h))
+    misses files name (ltb-false n (length files) (failed (ltb n (length files)) n h))
 
 -- a look-up that gives nothing missed the first file
 passed : (hit : Bool) (bytes : List ℕ) (rest : Option (List ℕ)) → cond hit (Some bytes) rest ≡ None → (hit ≡ false) × (rest ≡ None)
@@ -51,7 +46,7 @@ passed false bytes rest h = (refl, h)
 -- the new file is found in the place of the first of its name
 pub placed : (files : List FileText) (file : FileText) (i : ℕ) → i < length files → ((k : ℕ) → k < i → has_name file.name (get_or files k file) ≡ false) → file_at (set files i file) file.name ≡ Some file.bytes
 placed [] file i within before = absurd (omega arith)
-placed (first ∷ files) file zero within before = rw (same_name file.name) refl
+placed (first ∷ files) file zero within before = rw (bytes_itself file.name) refl
 placed (first ∷ files) file (suc i) within before =
     rw (before 0 (omega arith)) (placed files file i (omega arith) (λ k below. before (suc k) (omega arith)))
 
@@ -79,7 +74,7 @@ still_differ (first ∷ files) file (suc i) within same before differ =
 
 -- a new name is found at the end
 pub added : (files : List FileText) (file : FileText) → file_at files file.name ≡ None → file_at (files ++ file ∷ []) file.name ≡ Some file.bytes
-added [] file lacks = rw (same_name file.name) refl
+added [] file lacks = rw (bytes_itself file.name) refl
 added (first ∷ files) file lacks =
     let past = passed (has_name file.name first) first.bytes (file_at files file.name) lacks in
     rw past.0 (added files file past.1)

@@ -1,6 +1,6 @@
 -- Sites that are added to a table, one after another.
 use Rattle.std.proofs.Common.{◌≡◌, ℕ, ◌+◌, ◌<◌, Bool, true, false, cond, Option, Some, None, List, [], ◌∷◌, ◌++◌, length, get_or, take, if◌then◌else◌, nat_eq, refl, sym, ap, ◌∙◌, subst, append_assoc, append-nil}
-use Rattle.std.specs.Prelude.{flat_map, find, option_and_then, option_to_list}
+use Rattle.std.specs.Prelude.{flat_map, find, option_to_list}
 use Rattle.lx_words.proofs.Tests.{true_eq}
 use Rattle.lx_ir.specs.declared.module.Module.{Module}
 use Rattle.lx_ir.specs.declared.module.Function.{Function}
@@ -11,9 +11,9 @@ use Rattle.lx_ir.specs.declared.instr.Instr.{Instr}
 use Rattle.lx_ir.specs.Lookup.{instrs_of}
 use Rattle.lx_annot.specs.declared.interface.Interface.{Interface}
 use Rattle.lx_slot_types.specs.Sites.{FieldName, Site, address_fields, function_sites, init_sites, register_fields, sites_at, sites_of, store_sites}
-use Rattle.lx_slot_types.specs.Gets.{below}
 use Rattle.lx_slot_sums.specs.declared.sums.SlotSum.{SlotSum}
-use Rattle.lx_slot_sums.specs.Sums.{Typing, no_sum, other_by, sum_of, sum_or_none}
+use Rattle.lx_slot_sums.specs.Sums.{Typing, sum_of, sum_or_none}
+use Rattle.lx_slot_sums.proofs.Joining.{no_list}
 use Rattle.lx_propagate.specs.Names.{names_for, register_sites}
 use Rattle.lx_propagate.specs.Tables.{Table, sum_at, HasSums, Adds, HasRegisters, AddsStores}
 use Rattle.lx_propagate.specs.Told.{HasSlotTypes}
@@ -70,12 +70,9 @@ nothing : (ns : List ℕ) → None ≡ find (λ (n : ℕ). false) ns
 nothing [] = refl
 nothing (n ∷ ns) = nothing ns
 
-none_first : (i : Interface) (m : Module) → no_sum ≡ sum_of i m []
-none_first i m = (λ j. record { first = nothing (below (length i.slots)) j; other = option_and_then (other_by i (λ s. false)) (nothing (below (length i.slots)) j) })
-
 pub all_sums : (i : Interface) (m : Module) (sites : List Site) (old new : Table) → old ≡ [] → Adds i m sites old new → HasSums i m sites new
 unfolding Adds
-all_sums i m sites old new e p n = p n [] (ap (λ table. sum_at table n) e ∙ none_first i m)
+all_sums i m sites old new e p n = p n [] (ap (λ table. sum_at table n) e ∙ no_list i m)
 
 pub all_registers : (i : Interface) (m text : Module) (instrs : List Instr) (old new : Table) → text ≡ m → old ≡ [] → Adds i text (register_sites m.types instrs) old new → HasRegisters i m instrs new
 unfolding HasRegisters

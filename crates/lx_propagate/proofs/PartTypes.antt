@@ -6,13 +6,8 @@ use Rattle.lx_ir.specs.declared.types.NamedType.{NamedType}
 use Rattle.lx_ir.specs.declared.instr.Argument.{Argument}
 use Rattle.lx_ir.specs.IrType.{IrType, One, Array, Struct, Packed, Named, IrTypes, none, also}
 use Rattle.lx_ir.specs.Layout.{Layout, layout, beside, layout_of, unnamed, fields_of, list_of_types, field_after, part_or, part_of, part_at}
-use Rattle.lx_ir.specs.TypeNodes.{types_of_list}
 use Rattle.lx_slot_types.specs.Sites.{behind_first, field_if_named, index_number, last_field}
 use Rattle.lx_propagate.specs.Parts.{element_in, field_or}
-
-pub fields_listed : (ts : List IrType) → list_of_types (types_of_list ts) ≡ ts
-fields_listed [] = refl
-fields_listed (t ∷ ts) = ap (λ us. t ∷ us) (fields_listed ts)
 
 after_type : (types : List NamedType) (packed : Bool) (laid : Layout) (ts : IrTypes) (k : ℕ) (t : IrType) → (part_or (field_after types packed laid ts k) t).ty ≡ field_or t (slice_get (list_of_types ts) k)
 after_type types true laid none k t = refl

@@ -1,8 +1,8 @@
 -- Runs read from the front are the runs of the schedule.
 use Rattle.std.proofs.Common.{◌≡◌, ℕ, suc, ◌+◌, true, false, Bool, nat_eq, cond, Some, None, List, [], ◌∷◌, ap, sym, ◌∙◌, refl, arith, zero-add, eqb-true}
+use Rattle.lx_words.proofs.Tests.{eq_self, apart_turned}
 use Rattle.lx_report.specs.Runs.{Run, run, joined, runs}
 use Rattle.lx_report.specs.Begun.{begun, runs_from}
-use Rattle.lx_caps.proofs.Tests.{eq_itself, nat_eq_turned}
 
 -- the first run with so many events more
 abbrev widened : ℕ → List Run → List Run
@@ -18,7 +18,7 @@ by_test true x y z p q = p refl
 by_test false x y z p q = q refl
 
 joined_same : (t c : ℕ) (rs : List Run) → joined t (run t c ∷ rs) ≡ run t (suc c) ∷ rs
-joined_same t c rs = ap (λ b. cond b (run t (suc c) ∷ rs) (run t 1 ∷ run t c ∷ rs)) (eq_itself t)
+joined_same t c rs = ap (λ b. cond b (run t (suc c) ∷ rs) (run t 1 ∷ run t c ∷ rs)) (eq_self t)
 
 joined_other : (t u c : ℕ) (rs : List Run) → nat_eq t u ≡ false → joined t (run u c ∷ rs) ≡ run t 1 ∷ run u c ∷ rs
 joined_other t u c rs h = ap (λ b. cond b (run t (suc c) ∷ rs) (run t 1 ∷ run u c ∷ rs)) h
@@ -47,7 +47,7 @@ apart t n u rs h =
     let b = joined_begins u rs in
     ap (λ k. run t (suc n) ∷ k) b.2
     ∙ ap (λ k. run t k ∷ run u b.0 ∷ b.1) (omega arith)
-    ∙ sym (ap (widened n) (ap (joined t) b.2 ∙ joined_other t u b.0 b.1 (nat_eq_turned u t h)))
+    ∙ sym (ap (widened n) (ap (joined t) b.2 ∙ joined_other t u b.0 b.1 (apart_turned u t h)))
 
 runs_from_begun : (t n : ℕ) (s : List ℕ) → runs_from (Some (begun t (suc n))) s ≡ widened n (joined t (runs s))
 runs_from_begun t n [] = ap (λ k. run t k ∷ []) (omega arith)

@@ -3,6 +3,7 @@ use Rattle.std.proofs.Common.{◌≡◌, ⊎_elim, ℕ, zero, suc, true, false, 
 use Rattle.std.proofs.lemmas.Option.{same_Some}
 use Rattle.lx_words.specs.Width.{byte_count}
 use Rattle.lx_words.specs.Word.{Word}
+use Rattle.lx_words.proofs.Tests.{first_of, second_of}
 use Rattle.lx_caps.specs.declared.Principal.{Principal}
 use Rattle.lx_caps.specs.declared.Principal.TheVariants.{Kernel, Shared, Global, Inst}
 use Rattle.lx_caps.specs.declared.Cap.{Cap}
@@ -37,7 +38,6 @@ use Rattle.lx_run_laws.proofs.Decisions.{at_test, at_first, at_first_test, both_
 use Rattle.lx_run_laws.proofs.Items.{asked, errand_refusal, at_item, item_is, item_row, on_a_stack, out_of_memory}
 use Rattle.lx_run_laws.proofs.Refusing.{alias_is}
 use Rattle.lx_run_laws.proofs.Slots.{lacks_refused, other_refused, stands, unknown_refused}
-use Rattle.lx_caps.proofs.Tests.{first_true, second_true}
 use Rattle.lx_model.proofs.Passing.{passed_on}
 
 -- what a module's own write or call needs
@@ -130,8 +130,8 @@ module _ (p : Program) (s : State) (t : ℕ) (r : Request) (who : Principal) (e 
       → decide p s t r ≡ Some o
   placed_decides o placed is =
       row_decides o
-      (passed_on (is_in_memory c) (out_of_memory e.source c) o _ (first_true (is_in_memory c) (not (e.transfers && is_on_stacks c)) placed)
-      (passed_on (not (e.transfers && is_on_stacks c)) (on_a_stack e.source c) o _ (second_true (is_in_memory c) (not (e.transfers && is_on_stacks c)) placed) is))
+      (passed_on (is_in_memory c) (out_of_memory e.source c) o _ (first_of (is_in_memory c) (not (e.transfers && is_on_stacks c)) placed)
+      (passed_on (not (e.transfers && is_on_stacks c)) (on_a_stack e.source c) o _ (second_of (is_in_memory c) (not (e.transfers && is_on_stacks c)) placed) is))
 
   lack_decides : is_placed e c ≡ true → holds s.history who c ≡ false → decide p s t r ≡ Some (not_held who c)
   lack_decides placed =

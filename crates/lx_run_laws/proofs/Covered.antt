@@ -6,6 +6,7 @@ use Rattle.std.proofs.lemmas.Bool.{and_parts, cases_Bool, eq-eqb, eqb-true, or_c
 use Rattle.std.proofs.lemmas.Bool.Decides.{nat_tests}
 use Rattle.std.proofs.lemmas.List.Folds.{list_any-append}
 use Rattle.std.proofs.lemmas.Map.Views.{any-filter_same}
+use Rattle.lx_words.proofs.Tests.{same_tests, nat_turned, either_second}
 use Rattle.lx_caps.specs.declared.Act.TheVariants.{Grant, Strip, Zero, Loan, Lend, Shut, ShutAll}
 use Rattle.lx_caps.specs.declared.Atom.{Atom}
 use Rattle.lx_caps.specs.declared.Atom.TheVariants.{Byte, Call, Ref}
@@ -20,7 +21,6 @@ use Rattle.lx_model.specs.Owned.{ascending, begun_behind, call_address, closed_a
 use Rattle.lx_run_laws.specs.Listed.{is_reported}
 use Rattle.lx_run_laws.proofs.Cuts.{Above, Ascends, Finds, ascending_in, mentioned_in, sorted, above_less}
 use Rattle.lx_run_laws.proofs.Listing.{any_below, any_flat, any_map}
-use Rattle.lx_caps.proofs.Tests.{or_second, same_tests, nat_eq_swapped}
 
 abbrev Covers : Atom → List Cap → Type 0
 Covers x cs = list_any (λ c. has c x) cs ≡ true
@@ -36,7 +36,7 @@ call_in a (cap.Ref t b) is = absurd (cc)
 kept_in : (a : ℕ) (test : ℕ → Bool) (ns : List ℕ) → test a ≡ true → Finds (nat_eq a) ns → Finds (λ b. nat_eq b a) (filter test ns)
 kept_in a test ns is found =
     let turned : Finds (nat_eq a) (filter test ns) → Finds (λ b. nat_eq b a) (filter test ns) =
-    λ there. ap (λ (same : ℕ → Bool). list_any same (filter test ns)) (λ j b. nat_eq_swapped b a j) ∙ there in
+    λ there. ap (λ (same : ℕ → Bool). list_any same (filter test ns)) (λ j b. nat_turned b a j) ∙ there in
     turned (any-filter_same (nat_eq a) test true (λ b same. subst (λ k. test k ≡ true) (eqb-true a b same) is) ns ∙ found)
 
 calls_covered : (h : History) (q : Principal) (a : ℕ) → owns h q (Call a) ≡ true → Covers (Call a) (owned_calls h q)
@@ -212,7 +212,7 @@ reaches h q b begun c (d ∷ ds) is low has_begun all up later = elim (cases_Boo
   | inr more ↦ list_any-append (λ k. has k (Byte b)) (closed_at (owns h q (Byte c)) begun c) _
       ∙ or_right (list_any (λ k. has k (Byte b)) (closed_at (owns h q (Byte c)) begun c)) _
       (reaches h q b (begun_behind (owns h q (Byte c)) begun c) d ds is (grind (arith, nat_tests, more)) (begun_on c d (owns h q (Byte c)) begun all.0.0 has_begun) all.1
-      (moved (ends h) c d ds all.0.0 up) (or_second (nat_lt b d) (list_any (nat_lt b) ds) more later))
+      (moved (ends h) c d ds all.0.0 up) (either_second (nat_lt b d) (list_any (nat_lt b) ds) more later))
 ]
 
 -- the first end is not behind the byte
@@ -230,7 +230,7 @@ covered_from h q b (c ∷ cs) same is all low high =
       | inl here ↦ grind (arith, nat_tests, here)
       | inr there ↦ low_first b c cs all.0 there
     ] in
-    reaches h q b None c cs is first tt all (λ n found. up n (subst (Finds (nat_eq n)) same found)) (or_second (nat_lt b c) (list_any (nat_lt b) cs) (grind (arith, nat_tests, first)) high) where
+    reaches h q b None c cs is first tt all (λ n found. up n (subst (Finds (nat_eq n)) same found)) (either_second (nat_lt b c) (list_any (nat_lt b) cs) (grind (arith, nat_tests, first)) high) where
       up : (n : ℕ) → Finds (nat_eq n) (c ∷ cs) → (n ≤ c) ⊎ Finds (nat_eq n) cs
       up n found = elim (or_cases (nat_eq n c) (list_any (nat_eq n) cs) found) [
         | inl here ↦ inl (let alike = eqb-true n c here in omega (arith, alike))

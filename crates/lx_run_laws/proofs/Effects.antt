@@ -4,6 +4,7 @@ use Rattle.std.specs.Prelude.{⊤, nat_le}
 use Rattle.std.specs.Int.{next_multiple_of}
 use Rattle.std.proofs.lemmas.Bool.Decides.{nat_tests}
 use Rattle.lx_words.specs.Word.{Word}
+use Rattle.lx_words.proofs.Tests.{next_above}
 use Rattle.lx_caps.specs.Regions.{stack_start}
 use Rattle.lx_ir.specs.declared.instr.Callee.{Callee}
 use Rattle.lx_ir.specs.declared.instr.Callee.TheVariants as callee
@@ -19,7 +20,6 @@ use Rattle.lx_model.specs.Thread.{CodeBlock, Activation}
 use Rattle.lx_model.specs.Effect.{Effect, Moves, Wants, Enters, Calls, Traps, arrival, call_effect, code_block_named, division, effect, jump_effect, slot_effect, target_effect, text_of, types_of}
 use Rattle.lx_run_laws.specs.Servable.{is_on_stack, is_servable_what}
 use Rattle.lx_run_laws.proofs.Targets.{IsKnown, target_known}
-use Rattle.lx_caps.proofs.Tests.{next_above}
 
 -- bytes of the stack are asked for at no address below this
 abbrev pub IsAbove : ℕ → What → Type 0

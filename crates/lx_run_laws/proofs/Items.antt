@@ -3,6 +3,7 @@ use Rattle.std.proofs.Common.{◌≡◌, ⊎_elim, ℕ, zero, suc, Bool, true, f
 use Rattle.std.specs.List.{list_all}
 use Rattle.std.proofs.lemmas.Bool.{and_from}
 use Rattle.std.proofs.lemmas.Option.{same_Some}
+use Rattle.lx_words.proofs.Tests.{first_of as first_true, second_of}
 use Rattle.lx_caps.specs.declared.Principal.{Principal}
 use Rattle.lx_caps.specs.declared.Cap.{Cap}
 use Rattle.lx_caps.specs.declared.Cap.TheVariants.{Write, Call, Ref}
@@ -21,7 +22,6 @@ use Rattle.lx_model.specs.Act.{or_else, unless, not_held, outside, on_stack, on_
 use Rattle.lx_model.specs.Decide.{outcome_of}
 use Rattle.lx_run_laws.specs.Errands.{Errand, errand_for, errand_of_action, where_true, is_in_memory, is_on_stacks, is_fine}
 use Rattle.lx_run_laws.proofs.Decisions.{either, at_first, at_second}
-use Rattle.lx_caps.proofs.Tests.{first_true, second_true}
 
 -- what an action comes to is what its items are refused for
 
@@ -164,4 +164,4 @@ pub at_item : (h : History) (e : Errand) (before : List Cap) (c : Cap) (after : 
 at_item h e [] c after o fine is = at_first (item_refusal h e.transfers e.gives e.source c) (first_refusal h e.transfers e.gives e.source after) o is
 at_item h e (b ∷ bs) c after o fine is =
     at_second (item_refusal h e.transfers e.gives e.source b) (first_refusal h e.transfers e.gives e.source (bs ++ c ∷ after)) o
-    (fine_none h e b (first_true (is_fine h e b) (list_all (is_fine h e) bs) fine)) (at_item h e bs c after o (second_true (is_fine h e b) (list_all (is_fine h e) bs) fine) is)
+    (fine_none h e b (first_true (is_fine h e b) (list_all (is_fine h e) bs) fine)) (at_item h e bs c after o (second_of (is_fine h e b) (list_all (is_fine h e) bs) fine) is)

@@ -8,7 +8,7 @@ use Rattle.lx_model.specs.Serve.{serve, serve_by}
 use Rattle.lx_model.specs.State.{State}
 use Rattle.lx_model.proofs.Journals.{granted_journal}
 
-decided : (d : Option Outcome) (p : Program) (s : State) (t : ℕ) (r : Request) → (serve_by d p s t r).state.journal ≡ s.journal
+pub decided : (d : Option Outcome) (p : Program) (s : State) (t : ℕ) (r : Request) → (serve_by d p s t r).state.journal ≡ s.journal
 decided None p s t r = granted_journal p s t r.who r.what
 decided (Some o) p s t r = refl
 

@@ -4,6 +4,7 @@ use Rattle.std.specs.List.{flat_map, list_all, list_any}
 use Rattle.std.proofs.lemmas.Bool.{and_from, and_parts, cases_eq, eq-eqb, eqb-true, or_cases, or_left, or_right}
 use Rattle.std.proofs.lemmas.Bool.Decides.{nat_tests}
 use Rattle.std.proofs.lemmas.List.Folds.{list_any-append}
+use Rattle.lx_words.proofs.Tests.{same_tests, or_false}
 use Rattle.lx_caps.specs.declared.Atom.{Atom}
 use Rattle.lx_caps.specs.declared.Atom.TheVariants.{Byte}
 use Rattle.lx_caps.specs.declared.Act.{Act}
@@ -19,7 +20,6 @@ use Rattle.lx_model.specs.declared.program.Program.{Program}
 use Rattle.lx_model.specs.State.{module_principals}
 use Rattle.lx_run_laws.specs.Listed.{is_listed, is_there, receivers}
 use Rattle.lx_run_laws.proofs.Given.{AllGiven, IsCounted}
-use Rattle.lx_caps.proofs.Tests.{or_nothing, same_tests}
 use Rattle.lx_caps.proofs.Principals.{same_principal_is}
 
 -- lists
@@ -38,7 +38,7 @@ below_any test zero is = absurd (cc)
 below_any test (suc n) is =
     elim (or_cases (list_any test (below n)) (test n || false) (sym (list_any-append test (below n) (n ∷ [])) ∙ is)) [
       | inl before ↦ (let (j, less, here) = below_any test n before in (j, omega arith, here))
-      | inr last ↦ (n, omega arith, sym (or_nothing (test n)) ∙ last)
+      | inr last ↦ (n, omega arith, sym (or_false (test n)) ∙ last)
     ]
 
 pub any_flat : {A : Type 0} (test : A → Bool) (f : ℕ → List A) (xs : List ℕ) → list_any (λ x. list_any test (f x)) xs ≡ true → list_any test (flat_map f xs) ≡ true

@@ -4,6 +4,7 @@ use Rattle.std.specs.Prelude.{if◌then◌else◌}
 use Rattle.std.specs.List.{list_all}
 use Rattle.std.proofs.lemmas.List.Sums.{take_while-cons}
 use Rattle.std.proofs.lemmas.Bool.{and_from, cases_Bool}
+use Rattle.lx_words.proofs.Tests.{first_of, second_of}
 use Rattle.lx_caps.specs.declared.Principal.{Principal}
 use Rattle.lx_caps.specs.declared.Principal.TheVariants.{Kernel, Shared, Global, Inst}
 use Rattle.lx_caps.specs.declared.Cap.{Cap}
@@ -24,7 +25,6 @@ use Rattle.lx_run_laws.specs.Errands.{Errand, is_in_memory, is_on_stacks, is_pla
 use Rattle.lx_run_laws.specs.Needs.{is_for_need, IsNamed, IsUnmet}
 use Rattle.lx_run_laws.proofs.Decisions.{at_first, at_first_test, at_test, either, either_test, neither, not_both, same_refusal}
 use Rattle.lx_run_laws.proofs.Items.{fine_none, item_is, none_fine, on_a_stack, out_of_memory}
-use Rattle.lx_caps.proofs.Tests.{first_true, second_true}
 use Rattle.lx_model.proofs.Passing.{passed_on}
 
 pub not_false : {A : Type 0} (b : Bool) → b ≡ true → b ≡ false → A
@@ -101,8 +101,8 @@ module _ (s : State) (w : What) (e : Errand) where
       → item_refusal s.history e.transfers e.gives e.source c ≡ Some o
   behind_places c o placed is =
       item_is s.history e c
-      ∙ passed_on (is_in_memory c) (out_of_memory e.source c) o _ (first_true (is_in_memory c) (not (e.transfers && is_on_stacks c)) placed)
-      (passed_on (not (e.transfers && is_on_stacks c)) (on_a_stack e.source c) o _ (second_true (is_in_memory c) (not (e.transfers && is_on_stacks c)) placed) is)
+      ∙ passed_on (is_in_memory c) (out_of_memory e.source c) o _ (first_of (is_in_memory c) (not (e.transfers && is_on_stacks c)) placed)
+      (passed_on (not (e.transfers && is_on_stacks c)) (on_a_stack e.source c) o _ (second_of (is_in_memory c) (not (e.transfers && is_on_stacks c)) placed) is)
 
   fails_of : (a b : Bool) → (a && b) ≡ false → (a ≡ false) ⊎ ((a ≡ true) × (b ≡ false))
   fails_of true b is = inr (refl, is)
@@ -169,7 +169,7 @@ module _ (s : State) (w : What) (e : Errand) where
       subst (λ (ns : List Need). Needing s w (refusal_of (c ∷ cs)) (asked s.history ns)) (sym (needed_misplaced c cs out))
       (AllMet refl (λ x is. ⊎_elim
       (λ here. misplaced c x out here)
-      (λ behind. not_false (is_placed e c) (first_true (is_placed e c) (is_met s.history (need_of_item e c)) (none_fine s.history e c behind.0)) out)
+      (λ behind. not_false (is_placed e c) (first_of (is_placed e c) (is_met s.history (need_of_item e c)) (none_fine s.history e c behind.0)) out)
       (either (item_refusal s.history e.transfers e.gives e.source c) (refusal_of cs) (Refused x) is)))
 
   -- the decision behind an item that is fine
@@ -192,7 +192,7 @@ module _ (s : State) (w : What) (e : Errand) where
 
   kernel_step : (c : Cap) (cs : List Cap) → is_placed e c ≡ true → e.source ≡ Kernel → ItemsNeed cs → ItemsNeed (c ∷ cs)
   kernel_step c cs placed kernel rest =
-      let in_memory = first_true (is_in_memory c) (not (e.transfers && is_on_stacks c)) placed in
+      let in_memory = first_of (is_in_memory c) (not (e.transfers && is_on_stacks c)) placed in
       let met = subst (λ (q : Principal). is_met s.history (record { who = q; cap = c; kept = e.gives }) ≡ true) (sym kernel) (kernel_meets c e.gives in_memory) in
       subst (λ (d : Option Outcome). Needing s w d (asked s.history (needed (c ∷ cs)))) (sym (refusal_behind c cs (and_from (is_placed e c) _ placed met)))
       (subst (λ (ns : List Need). Needing s w (refusal_of cs) ns)

@@ -6,6 +6,7 @@ use Rattle.std.proofs.lemmas.Bool.{and_from, and_parts, eq-eqb, eqb-true, or_cas
 use Rattle.std.proofs.lemmas.Bool.Decides.{nat_tests}
 use Rattle.std.proofs.lemmas.List.Folds.{list_any-append}
 use Rattle.std.proofs.lemmas.Map.Views.{any-filter_same}
+use Rattle.lx_words.proofs.Tests.{same_tests, nat_turned, or_false}
 use Rattle.lx_caps.specs.declared.Atom.{Atom}
 use Rattle.lx_caps.specs.declared.Atom.TheVariants.{Byte, Call, Ref}
 use Rattle.lx_caps.specs.declared.Act.TheVariants.{Grant, Strip}
@@ -25,7 +26,7 @@ use Rattle.lx_model.specs.Program.{Home, Target, ToNative, ToSlot, ToImport, ToO
 use Rattle.lx_run_laws.specs.Opened.{calls_of, gives_byte, is_call_of, is_constant, is_constant_with, is_shared, is_variable, is_variable_with, module_globals, stays, FirstOwned, StandApart}
 use Rattle.lx_run_laws.proofs.Listing.{any_below, below_any, owns_given}
 use Rattle.lx_run_laws.proofs.OpeningGiven.{opening_given_to}
-use Rattle.lx_caps.proofs.Tests.{or_nothing, same_tests, nat_eq_swapped, no_more}
+use Rattle.lx_caps.proofs.Tests.{no_more}
 use Rattle.lx_model.proofs.Homes.{same_home_is}
 
 -- tests
@@ -152,7 +153,7 @@ modules_byte p q b (m ∷ ms) h =
 
 gives_same : (m : ℕ) (home : Home) → gives_to (Shared m) home ≡ same_home home (Some m)
 gives_same m None = refl
-gives_same m (Some k) = nat_eq_swapped m k
+gives_same m (Some k) = nat_turned m k
 
 bytes_first : (p : Program) (m b : ℕ) → owns (opening_history p) (Shared m) (Byte b) ≡ stays (gives_byte p m b) (is_constant_with p b) (module_globals p)
 bytes_first p m b =
@@ -328,7 +329,7 @@ modules_call p q a (m ∷ ms) h =
 
 calls_first : (p : Program) (m a : ℕ) → owns (opening_history p) (Shared m) (Call a) ≡ (nat_lt m (length p.modules) && calls_of p a m)
 calls_first p m a =
-    modules_call p (Shared m) a (below (length p.modules)) [] ∙ or_nothing (list_any (λ j. nat_eq m j && calls_of p a j) (below (length p.modules)))
+    modules_call p (Shared m) a (below (length p.modules)) [] ∙ or_false (list_any (λ j. nat_eq m j && calls_of p a j) (below (length p.modules)))
     ∙ one_module m (length p.modules) (calls_of p a)
 
 -- references

@@ -3,6 +3,7 @@ use Rattle.std.proofs.Common.{◌≡◌, ◌≢◌, ℕ, ◌≤◌, ◌<◌, Boo
 use Rattle.std.proofs.lemmas.Bool.{and_parts, true≢false, not-true}
 use Rattle.std.proofs.lemmas.List.{length-map}
 use Rattle.std.proofs.lemmas.Option.{slice_get-map, slice_get_within}
+use Rattle.lx_words.proofs.Tests.{not_and}
 use Rattle.lx_caps.specs.declared.Principal.{Principal}
 use Rattle.lx_caps.specs.declared.Principal.TheVariants.{Kernel}
 use Rattle.lx_caps.specs.History.{History}
@@ -29,7 +30,6 @@ use Rattle.lx_run_laws.specs.PlainRuns.{refuses, is_refused_event, IsPlain, AreP
 use Rattle.lx_run_laws.proofs.Placed.{served_placed}
 use Rattle.lx_run_laws.proofs.Replaced.{set_all, set_back, set_length}
 use Rattle.lx_run_laws.proofs.Endings.{IsCalm, turn_calm, threads_calm}
-use Rattle.lx_caps.proofs.Tests.{not_had}
 use Rattle.lx_model.proofs.Threads.{set_here}
 
 -- at most 16 threads keep to their stacks, and what is granted, stripped and zeroed lies in memory
@@ -169,7 +169,7 @@ run_calm p [] w calm = (calm, refl)
 run_calm p (t ∷ ts) w calm =
     let later = run_calm p ts (event p t w) calm in
     let now = event_calm p t w later.0 in
-    (now.0, not_had (is_refused_event p t w) (is_unrefused p ts (event p t w)) now.1 later.1)
+    (now.0, not_and (is_refused_event p t w) (is_unrefused p ts (event p t w)) now.1 later.1)
 
 pub is_plain_run : (plains : PlainLaws) (owners : OwnerLaws) (laws : RequestLaws) (p : Program) (script : List (List ScriptCall)) (s : List ℕ) → length script ≤ 16 → AllPlaced (opening_history p)
     → IsPlainRun p script s

@@ -3,6 +3,7 @@ use Rattle.std.proofs.Common.{◌≡◌, ℕ, ◌<◌, Bool, true, false, Option
 use Rattle.std.specs.Prelude.{⊤, nat_lt, unwrap_or, if◌then◌else◌}
 use Rattle.std.proofs.lemmas.Bool.Decides.{nat_tests}
 use Rattle.lx_words.specs.Word.{Word}
+use Rattle.lx_words.proofs.Lists.{all_at}
 use Rattle.lx_caps.specs.declared.Principal.{Principal}
 use Rattle.lx_caps.specs.Memory.{load64}
 use Rattle.lx_caps.specs.NameLaws.{IsNumbered}
@@ -21,7 +22,6 @@ use Rattle.lx_model.specs.State.{State}
 use Rattle.lx_run_laws.specs.Listed.{has_homes, is_of_program}
 use Rattle.lx_run_laws.proofs.Given.{IsCounted, OrKernel}
 use Rattle.lx_run_laws.proofs.Names.{HasGrown, grows, named_below, one_more, same_names}
-use Rattle.lx_caps.proofs.Items.{all_at}
 use Rattle.lx_model.proofs.Homes.{home_is}
 
 -- the module of a function is one of the program's

@@ -17,7 +17,7 @@ use Rattle.lx_run_laws.proofs.Journal.{noted}
 use Rattle.lx_model.proofs.Threads.{set_here}
 
 -- the event of a thread that has work
-worked : (p : Program) (t : ℕ) (w : World) (x : Thread) → slice_get w.threads t ≡ Some x → has_work x ≡ true → event p t w ≡ after_request p t w (next p t x)
+pub worked : (p : Program) (t : ℕ) (w : World) (x : Thread) → slice_get w.threads t ≡ Some x → has_work x ≡ true → event p t w ≡ after_request p t w (next p t x)
 worked p t w x at work = ap (λ o. event_of o p t w) at ∙ ap (λ b. event_if b p t w x) work
 
 ended_by : (o : Outcome) (calls : List ScriptCall) (x y : Thread) → has_call calls ≡ true → x.calls ≡ calls → y.calls ≡ calls → y.ended ≡ x.ended → HasEnded o x (after_end o y)

@@ -24,7 +24,7 @@ pub record HasCertified {C : Type 0} (stands : Logged C → History → Type 0) 
   pub certified : AreCertified p 0 (take n s) (opening p script) certs
   pub broken : broken_at p s (opening p script) ≡ option_map (λ k. n + k) (broken_at p (drop n s) (behind p script (take n s)))
 
-none_added : (o : Option ℕ) → o ≡ option_map (λ k. 0 + k) o
+pub none_added : (o : Option ℕ) → o ≡ option_map (λ k. 0 + k) o
 none_added None = refl
 none_added (Some k) = ap Some (omega arith)
 

@@ -4,7 +4,6 @@ use Rattle.std.proofs.lemmas.Bool.{and_parts}
 use mathlib.Core.List.{append-nil}
 use Rattle.lx_model.specs.declared.program.Program.{Program}
 use Rattle.lx_model.specs.declared.request.Entry.{Entry}
-use Rattle.lx_model.specs.declared.request.Outcome.{Outcome}
 use Rattle.lx_model.specs.declared.request.Request.{Request}
 use Rattle.lx_model.specs.Account.{schedule_of}
 use Rattle.lx_model.specs.Decide.{decide}
@@ -13,11 +12,7 @@ use Rattle.lx_model.specs.State.{State}
 use Rattle.lx_model.specs.Thread.{Thread, has_work}
 use Rattle.lx_model.specs.Next.{next}
 use Rattle.lx_model.specs.World.{World, event, event_of, event_if, works, can_act, run, is_whole}
-use Rattle.lx_model.proofs.Journals.{granted_journal}
-
-served_keeps : (o : Option Outcome) (p : Program) (s : State) (t : ℕ) (r : Request) → (serve_by o p s t r).state.journal ≡ s.journal
-served_keeps (Some o) p s t r = refl
-served_keeps None p s t r = granted_journal p s t r.who r.what
+use Rattle.lx_run_laws.proofs.Journal.{decided}
 
 map_more : (es : List Entry) (e : Entry) → map (λ (x : Entry). x.thread) (es ++ e ∷ []) ≡ map (λ (x : Entry). x.thread) es ++ e.thread ∷ []
 map_more [] e = refl
@@ -27,7 +22,7 @@ serve_notes : (p : Program) (s : State) (t : ℕ) (r : Request) → map (λ (x :
 serve_notes p s t r =
     let x = serve_by (decide p s t r) p s t r in
     map_more x.state.journal (record { thread = t; request = r; reply = x.reply })
-    ∙ ap (λ (l : List Entry). map (λ (e : Entry). e.thread) l ++ t ∷ []) (served_keeps (decide p s t r) p s t r)
+    ∙ ap (λ (l : List Entry). map (λ (e : Entry). e.thread) l ++ t ∷ []) (decided (decide p s t r) p s t r)
 
 event_if_notes : (p : Program) (t : ℕ) (w : World) (x : Thread) (b : Bool) → b ≡ true → schedule_of (event_if b p t w x) ≡ schedule_of w ++ t ∷ []
 event_if_notes p t w x true is = serve_notes p w.state t (next p t x).request

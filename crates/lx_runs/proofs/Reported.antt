@@ -1,5 +1,5 @@
 -- A report tells of a whole run.
-use Rattle.std.proofs.Common.{◌≡◌, ◌∙◌, sym, ap, subst, refl, ℕ, Bool, true, List, ◌++◌, append_assoc, Option, Result, IfOk, Ok, Err}
+use Rattle.std.proofs.Common.{◌≡◌, ◌∙◌, sym, ap, subst, refl, ℕ, Bool, true, List, ◌++◌, append_assoc, Option}
 use Rattle.std.specs.Prelude.{flat_map}
 use Rattle.std.specs.List.{enumerate_from}
 use Rattle.lx_model.specs.declared.program.Program.{Program}
@@ -75,7 +75,3 @@ pub told_of : (p : Program) (script : List (List ScriptCall)) (s : List ℕ) (as
     → TellsRun p script asked t
 told_of p script s asked t whole is_asked authorised plain explained fitting (text, returned, is, tells) =
     subst (TellsRun p script asked) (sym is) (report_is p script s asked returned text whole is_asked authorised plain explained fitting tells)
-
-pub if_ok : {A E : Type 0} {P Q : A → Type 0} (r : Result A E) → ((a : A) → P a → Q a) → IfOk r P → IfOk r Q
-if_ok (Ok a) f is = f a is
-if_ok (Err e) f is = is

@@ -2,10 +2,11 @@
 use Rattle.std.proofs.Common.{◌≡◌, ◌≢◌, ℕ, suc, ◌+◌, ◌<◌, ◌≤◌, Bool, true, false, ◌&&◌, List, [], ◌∷◌, length, get_or, drop, refl, ◌∙◌, ap}
 use Rattle.std.proofs.lemmas.List.{drop_all}
 use Rattle.lx_words.proofs.Tests.{and_false}
+use Rattle.lx_words.proofs.Lists.{rest_at}
 use Rattle.lx_ir.specs.Init.{Init}
 use Rattle.lx_ir.specs.InitNodes.{inits_of_list}
 use Rattle.lx_same_texts.specs.Same.{same_lists, same_init, same_inits}
-pub use Rattle.lx_ir_verify.proofs.SameTypes.{rest_at, same_step, same_end, other_length, depth_of_item, depth_of_init}
+pub use Rattle.lx_ir_verify.proofs.SameTypes.{same_step, same_end, other_length}
 
 pub lists_step : {A : Type 0} (same : A → A → Bool) (xs ys : List A) (i : ℕ) (x y : A) → i < length xs → i < length ys → x ≡ get_or xs i x → y ≡ get_or ys i y → same_lists same (drop i xs) (drop i ys) ≡ (same x y && same_lists same (drop (i + 1) xs) (drop (i + 1) ys))
 lists_step same xs ys i x y h g d e =

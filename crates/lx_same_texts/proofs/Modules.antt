@@ -22,9 +22,10 @@ use Rattle.std.proofs.lemmas.Bool.{and_from}
 use Rattle.lx_words.proofs.Lists.{same_bytes, bytes_itself}
 use Rattle.lx_words.proofs.Tests.{false_true, first_of, second_of}
 use Rattle.lx_image_texts.proofs.Comparing.{result_itself}
+use Rattle.lx_image_texts.proofs.MarkedCode.{narrow_is, narrow_itself}
 use Rattle.lx_same_texts.specs.Same.{same_lists, same_op, same_brackets, same_init, same_inits, same_named_type, same_global, same_parameter, same_instr, same_block, same_body, same_function, same_module}
 use Rattle.lx_same_texts.specs.SameText.{SameText}
-use Rattle.lx_same_texts.proofs.Parts.{lists_are, lists_themselves, truth_is, truth_itself, type_is, type_itself, types_themselves, op_is, op_itself}
+use Rattle.lx_same_texts.proofs.Parts.{lists_are, lists_themselves, type_is, type_itself, types_themselves, op_is, op_itself}
 
 -- lists by what is compared of their elements
 
@@ -116,10 +117,10 @@ global_is a b e =
     let e3 = first_of (bytes_eq a.name b.name && same_narrow a.constant b.constant && same_type a.ty b.ty) (same_init a.init b.init) e in
     let e2 = first_of (bytes_eq a.name b.name && same_narrow a.constant b.constant) (same_type a.ty b.ty) e3 in
     let e1 = first_of (bytes_eq a.name b.name) (same_narrow a.constant b.constant) e2 in
-    λ j. record { name = same_bytes a.name b.name e1 j; constant = truth_is a.constant b.constant (second_of (bytes_eq a.name b.name) (same_narrow a.constant b.constant) e2) j; ty = type_is a.ty b.ty (second_of (bytes_eq a.name b.name && same_narrow a.constant b.constant) (same_type a.ty b.ty) e3) j; init = init_is a.init b.init (second_of (bytes_eq a.name b.name && same_narrow a.constant b.constant && same_type a.ty b.ty) (same_init a.init b.init) e) j; line = 0 }
+    λ j. record { name = same_bytes a.name b.name e1 j; constant = narrow_is a.constant b.constant (second_of (bytes_eq a.name b.name) (same_narrow a.constant b.constant) e2) j; ty = type_is a.ty b.ty (second_of (bytes_eq a.name b.name && same_narrow a.constant b.constant) (same_type a.ty b.ty) e3) j; init = init_is a.init b.init (second_of (bytes_eq a.name b.name && same_narrow a.constant b.constant && same_type a.ty b.ty) (same_init a.init b.init) e) j; line = 0 }
 
 global_meets : (a b : GlobalVar) → unlined_global a ≡ unlined_global b → same_global a b ≡ true
-global_meets a b p = (and_from (bytes_eq a.name b.name && same_narrow a.constant b.constant && same_type a.ty b.ty) (same_init a.init b.init) (and_from (bytes_eq a.name b.name && same_narrow a.constant b.constant) (same_type a.ty b.ty) (and_from (bytes_eq a.name b.name) (same_narrow a.constant b.constant) (meets bytes_eq bytes_itself a.name b.name (ap (λ (g : GlobalVar). g.name) p)) (meets same_narrow truth_itself a.constant b.constant (ap (λ (g : GlobalVar). g.constant) p))) (meets same_type type_itself a.ty b.ty (ap (λ (g : GlobalVar). g.ty) p))) (meets same_init init_itself a.init b.init (ap (λ (g : GlobalVar). g.init) p)))
+global_meets a b p = (and_from (bytes_eq a.name b.name && same_narrow a.constant b.constant && same_type a.ty b.ty) (same_init a.init b.init) (and_from (bytes_eq a.name b.name && same_narrow a.constant b.constant) (same_type a.ty b.ty) (and_from (bytes_eq a.name b.name) (same_narrow a.constant b.constant) (meets bytes_eq bytes_itself a.name b.name (ap (λ (g : GlobalVar). g.name) p)) (meets same_narrow narrow_itself a.constant b.constant (ap (λ (g : GlobalVar). g.constant) p))) (meets same_type type_itself a.ty b.ty (ap (λ (g : GlobalVar). g.ty) p))) (meets same_init init_itself a.init b.init (ap (λ (g : GlobalVar). g.init) p)))
 
 block_is : (a b : Block) → same_block a b ≡ true → block_text a ≡ block_text b
 block_is a b e =

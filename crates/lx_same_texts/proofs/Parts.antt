@@ -1,5 +1,5 @@
 -- Parts that are compared as the same are the same, and each is the same as itself.
-use Rattle.std.proofs.Common.{◌≡◌, ℕ, Bool, true, false, ◌&&◌, Option, Some, None, List, [], ◌∷◌, nat_eq, refl, ap}
+use Rattle.std.proofs.Common.{◌≡◌, ℕ, Bool, true, ◌&&◌, Option, List, [], ◌∷◌, nat_eq, refl, ap}
 use Rattle.std.specs.Prelude.{bytes_eq}
 use Rattle.std.proofs.lemmas.Bool.{and_from}
 use Rattle.lx_words.specs.declared.word.BinOp.{BinOp}
@@ -23,12 +23,13 @@ use Rattle.lx_ir.specs.IrType.{IrType, One, Array, Struct, Packed, Named, IrType
 use Rattle.lx_ir.specs.Lawful.{same_scalar}
 use Rattle.lx_ir.specs.Text.{conversion_word, unary_word, unary_of_word}
 use Rattle.lx_ir.specs.Faults.{same_symbol, same_value, same_result, same_type, same_types}
-use Rattle.lx_image_texts.specs.ImageFaults.{same_narrow, same_register, same_argument, same_returned}
+use Rattle.lx_image_texts.specs.ImageFaults.{same_narrow, same_register, same_argument}
 use Rattle.lx_words.proofs.Lists.{same_bytes, bytes_itself}
 use Rattle.lx_words.proofs.Tests.{false_true, first_of, second_of, true_eq, eq_self}
 use Rattle.lx_ir.specs.declared.types.Scalar.TheVariants.{Int, Ptr}
 use Rattle.lx_ir.proofs.Equality.{scalar_is, scalar_itself, symbol_is, symbol_itself, value_is, value_itself, result_is}
-use Rattle.lx_image_texts.proofs.Comparing.{register_itself, result_itself, returned_itself}
+use Rattle.lx_image_texts.proofs.Comparing.{register_itself, result_itself, returned_itself, argument_is, argument_itself, register_is, returned_is}
+use Rattle.lx_image_texts.proofs.MarkedCode.{narrow_is, narrow_itself}
 use Rattle.lx_same_texts.specs.Same.{same_lists, operator_number, same_operator, predicate_number, same_predicate, same_conversion, same_unary, same_target, same_edge, same_case, same_binary, same_comparison, same_convert, same_unary_op, same_select, same_phi, same_alloca, same_load, same_store, same_element_pointer, same_call, same_copy, same_fill, same_return, same_jump, same_branch, same_switch, same_unreachable, same_guard, same_check, same_enter, same_pre, same_post, same_leave, same_op}
 
 pub lists_are : {A : Type 0} (same : A → A → Bool) → ((x y : A) → same x y ≡ true → x ≡ y) → (xs ys : List A) → same_lists same xs ys ≡ true → xs ≡ ys
@@ -42,16 +43,6 @@ lists_themselves same law [] = refl
 lists_themselves same law (x ∷ xs) = and_from (same x x) (same_lists same xs xs) (law x) (lists_themselves same law xs)
 
 -- words
-
-pub truth_is : (a b : Bool) → same_narrow a b ≡ true → a ≡ b
-truth_is true true e = refl
-truth_is false false e = refl
-truth_is true false e = false_true e
-truth_is false true e = false_true e
-
-pub truth_itself : (a : Bool) → same_narrow a a ≡ true
-truth_itself true = refl
-truth_itself false = refl
 
 operator_is : (a b : BinOp) → same_operator a b ≡ true → a ≡ b
 operator_is binop.Add binop.Add e = refl
@@ -91,26 +82,6 @@ conversion_is conversion.IntToPtr conversion.IntToPtr e = refl
 conversion_is _ _ e = false_true e
 
 -- operands
-
-register_is : (a b : Option ℕ) → same_register a b ≡ true → a ≡ b
-register_is None None e = refl
-register_is (Some a) (Some b) e = ap (λ (n : ℕ). Some n) (true_eq a b e)
-register_is None (Some b) e = false_true e
-register_is (Some a) None e = false_true e
-
-argument_is : (a b : Argument) → same_argument a b ≡ true → a ≡ b
-argument_is a b e =
-    let e1 = first_of (same_scalar a.ty b.ty) (same_value a.value b.value) e in
-    λ j. record { ty = scalar_is a.ty b.ty e1 j; value = value_is a.value b.value (second_of (same_scalar a.ty b.ty) (same_value a.value b.value) e) j }
-
-argument_itself : (a : Argument) → same_argument a a ≡ true
-argument_itself a = (and_from (same_scalar a.ty a.ty) (same_value a.value a.value) (scalar_itself a.ty) (value_itself a.value))
-
-returned_is : (a b : Option Argument) → same_returned a b ≡ true → a ≡ b
-returned_is None None e = refl
-returned_is (Some a) (Some b) e = ap (λ (x : Argument). Some x) (argument_is a b e)
-returned_is None (Some b) e = false_true e
-returned_is (Some a) None e = false_true e
 
 target_is : (c d : Callee) → same_target c d ≡ true → c ≡ d
 target_is (callee.Symbol s) (callee.Symbol t) e = ap (λ (x : Symbol). callee.Symbol x) (symbol_is s t e)
@@ -261,7 +232,7 @@ copy_is a b c d (op.CopyBlock p q r s) e =
     let e3 = first_of (same_narrow a p && same_value b q && same_value c r) (same_argument d s) e in
     let e2 = first_of (same_narrow a p && same_value b q) (same_value c r) e3 in
     let e1 = first_of (same_narrow a p) (same_value b q) e2 in
-    λ j. op.CopyBlock (truth_is a p e1 j) (value_is b q (second_of (same_narrow a p) (same_value b q) e2) j) (value_is c r (second_of (same_narrow a p && same_value b q) (same_value c r) e3) j) (argument_is d s (second_of (same_narrow a p && same_value b q && same_value c r) (same_argument d s) e) j)
+    λ j. op.CopyBlock (narrow_is a p e1 j) (value_is b q (second_of (same_narrow a p) (same_value b q) e2) j) (value_is c r (second_of (same_narrow a p && same_value b q) (same_value c r) e3) j) (argument_is d s (second_of (same_narrow a p && same_value b q && same_value c r) (same_argument d s) e) j)
 copy_is _ _ _ _ _ e = false_true e
 
 fill_is : (a : Value) (b : Value) (c : Argument) (o : Op) → same_fill (op.FillBlock a b c) o ≡ true → op.FillBlock a b c ≡ o
@@ -304,7 +275,7 @@ guard_is : (a : Value) (b : Value) (c : Bool) (o : Op) → same_guard (op.Guard 
 guard_is a b c (op.Guard p q r) e =
     let e2 = first_of (same_value a p && same_value b q) (same_narrow c r) e in
     let e1 = first_of (same_value a p) (same_value b q) e2 in
-    λ j. op.Guard (value_is a p e1 j) (value_is b q (second_of (same_value a p) (same_value b q) e2) j) (truth_is c r (second_of (same_value a p && same_value b q) (same_narrow c r) e) j)
+    λ j. op.Guard (value_is a p e1 j) (value_is b q (second_of (same_value a p) (same_value b q) e2) j) (narrow_is c r (second_of (same_value a p && same_value b q) (same_narrow c r) e) j)
 guard_is _ _ _ _ e = false_true e
 
 check_is : (a : Value) (o : Op) → same_check (op.Check a) o ≡ true → op.Check a ≡ o
@@ -372,14 +343,14 @@ op_itself (op.Load a b c) = (and_from (nat_eq a a && same_scalar b b) (same_valu
 op_itself (op.Store a b c) = (and_from (same_scalar a a && same_value b b) (same_value c c) (and_from (same_scalar a a) (same_value b b) (scalar_itself a) (value_itself b)) (value_itself c))
 op_itself (op.GetElementPtr a b c d) = (and_from (nat_eq a a && same_type b b && same_value c c) (same_lists same_argument d d) (and_from (nat_eq a a && same_type b b) (same_value c c) (and_from (nat_eq a a) (same_type b b) (eq_self a) (type_itself b)) (value_itself c)) (lists_themselves same_argument argument_itself d))
 op_itself (op.Call a b c d) = (and_from (same_register a a && same_result b b && same_target c c) (same_lists same_argument d d) (and_from (same_register a a && same_result b b) (same_target c c) (and_from (same_register a a) (same_result b b) (register_itself a) (result_itself b)) (target_itself c)) (lists_themselves same_argument argument_itself d))
-op_itself (op.CopyBlock a b c d) = (and_from (same_narrow a a && same_value b b && same_value c c) (same_argument d d) (and_from (same_narrow a a && same_value b b) (same_value c c) (and_from (same_narrow a a) (same_value b b) (truth_itself a) (value_itself b)) (value_itself c)) (argument_itself d))
+op_itself (op.CopyBlock a b c d) = (and_from (same_narrow a a && same_value b b && same_value c c) (same_argument d d) (and_from (same_narrow a a && same_value b b) (same_value c c) (and_from (same_narrow a a) (same_value b b) (narrow_itself a) (value_itself b)) (value_itself c)) (argument_itself d))
 op_itself (op.FillBlock a b c) = (and_from (same_value a a && same_value b b) (same_argument c c) (and_from (same_value a a) (same_value b b) (value_itself a) (value_itself b)) (argument_itself c))
 op_itself (op.Ret a) = (returned_itself a)
 op_itself (op.Jump a) = (bytes_itself a)
 op_itself (op.Branch a b c) = (and_from (same_value a a && bytes_eq b b) (bytes_eq c c) (and_from (same_value a a) (bytes_eq b b) (value_itself a) (bytes_itself b)) (bytes_itself c))
 op_itself (op.Switch a b c d) = (and_from (same_scalar a a && same_value b b && bytes_eq c c) (same_lists same_case d d) (and_from (same_scalar a a && same_value b b) (bytes_eq c c) (and_from (same_scalar a a) (same_value b b) (scalar_itself a) (value_itself b)) (bytes_itself c)) (lists_themselves same_case case_itself d))
 op_itself op.Unreachable = refl
-op_itself (op.Guard a b c) = (and_from (same_value a a && same_value b b) (same_narrow c c) (and_from (same_value a a) (same_value b b) (value_itself a) (value_itself b)) (truth_itself c))
+op_itself (op.Guard a b c) = (and_from (same_value a a && same_value b b) (same_narrow c c) (and_from (same_value a a) (same_value b b) (value_itself a) (value_itself b)) (narrow_itself c))
 op_itself (op.Check a) = (value_itself a)
 op_itself (op.Enter a) = (symbol_itself a)
 op_itself (op.Pre a b) = (and_from (same_symbol a a) (nat_eq b b) (symbol_itself a) (eq_self b))

@@ -25,7 +25,7 @@ stopped stands p before after s t r o answer e is tries ends told =
     let tried = subst (λ (h : Halt). Tries stands p before s t r.who r.what (Err h)) is tries in
     subst (λ (d : Option Outcome). Gives stands p after answer (serve_by d p s t r)) (sym tried.0) (record { reply = told; state = ends tried.1 })
 
-served_journal : (p : Program) (s : State) (t : ℕ) (r : Request) (d : Option Outcome) → (serve_by d p s t r).state.journal ≡ s.journal
+pub served_journal : (p : Program) (s : State) (t : ℕ) (r : Request) (d : Option Outcome) → (serve_by d p s t r).state.journal ≡ s.journal
 served_journal p s t r (Some o) = refl
 served_journal p s t r None = granted_journal p s t r.who r.what
 

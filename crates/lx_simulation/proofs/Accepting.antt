@@ -1,9 +1,12 @@
 -- A program with the images of its modules is accepted.
-use Rattle.std.proofs.Common.{◌≡◌, ℕ, zero, suc, ◌+◌, ◌<◌, ◌≤◌, Bool, true, false, not, List, [], ◌∷◌, ◌++◌, length, map, take, drop, Option, Some, None, inl, inr, refl, sym, subst, ◌∙◌, ap, arith}
+use Rattle.std.proofs.Common.{◌≡◌, ℕ, zero, suc, ◌+◌, ◌<◌, ◌≤◌, Bool, true, false, not, List, [], ◌∷◌, ◌++◌, length, map, take, drop, Option, Some, None, inl, inr, refl, sym, ◌∙◌, ap}
 use Rattle.std.specs.Prelude.{slice_get, option_map, option_and_then, filter, cond, nat_eq, unwrap_or, codes}
 use Rattle.std.specs.List.{list_all, starts_with}
 use Rattle.std.proofs.lemmas.Option.{slice_get-map, slice_get_past}
 use Rattle.std.proofs.lemmas.Bool.{cases_lt, and_from}
+use Rattle.lx_words.proofs.Tests.{true_false}
+use Rattle.lx_words.proofs.Options.{none_some, some_same}
+use Rattle.lx_words.proofs.Lists.{all_at, there_is, got_past, got_take, got_first, split_at}
 use Rattle.lx_ir.specs.declared.module.Block.{Block}
 use Rattle.lx_ir.specs.declared.module.Function.{Function}
 use Rattle.lx_ir.specs.declared.module.GlobalVar.{GlobalVar}
@@ -17,8 +20,9 @@ use Rattle.lx_ir.specs.Operands.{is_image_line}
 use Rattle.lx_annot.specs.declared.interface.Interface.{Interface}
 use Rattle.lx_image_texts.specs.Marks.{is_wrapped, one_if, wrapped_before, wrapper_number}
 use Rattle.lx_images.specs.ImageCode.{text_op, image_ops, Bare}
-use Rattle.lx_image_texts.specs.Guards.{FunctionText, function_text, IsGuarded, AreGuarded, Guards}
+use Rattle.lx_image_texts.specs.Guards.{FunctionText, function_text, Guards}
 use Rattle.lx_image_texts.specs.WrapperText.{out_if, out_wrappers, in_wrappers, wrappers_of}
+use Rattle.lx_image_texts.proofs.Calling.{wrapped_at, guarded_at}
 use Rattle.lx_model.specs.declared.program.Program.{Program}
 use Rattle.lx_model.specs.declared.program.ProgramModule.{ProgramModule}
 use Rattle.lx_model.specs.declared.program.ProgramFunction.{ProgramFunction}
@@ -26,15 +30,13 @@ use Rattle.lx_model.specs.declared.program.ProgramFunction.TheVariants.{Of, Nati
 use Rattle.lx_model.specs.Program.{home_of_entry, function_of_entry, kernel_function, module_of, module_or_empty}
 use Rattle.lx_model.specs.Thread.{code_block_of, routine_of, routine_or_none}
 use Rattle.lx_images.specs.Code.{Code, image_routine, image_of_entry, wrapped_name, out_import}
-use Rattle.lx_simulation.proofs.Wrapping.{images_wrap, split_at, guarded_names, front}
+use Rattle.lx_simulation.proofs.Wrapping.{images_wrap, guarded_names, front}
 use Rattle.lx_images.specs.Guarded.{bare_of, bare_among, image_block, routine_in_image, guarded_routine, function_spares_well, CallsOutIf, CallsOut, Accepted}
 use Rattle.lx_images.specs.HasImages.{HasImages}
 use Rattle.lx_images.specs.Places.{IsIn}
-use Rattle.lx_simulation.proofs.Elements.{none_some, all_in, in_flat, in_got, in_map, in_second}
+use Rattle.lx_simulation.proofs.Elements.{all_in, in_flat, in_got, in_map, in_second}
 use Rattle.lx_simulation.proofs.Verifying.{sound}
 use Rattle.lx_simulation.proofs.Imaging.{function_shown}
-use Rattle.lx_caps.proofs.Tests.{true_false}
-use Rattle.lx_caps.proofs.Items.{all_at, some_same, there, got_past}
 
 -- the names of the image's functions
 
@@ -58,32 +60,11 @@ record IsImage (m i : Module) : Type 0 where
 
 -- lists
 
-pub got_take : {A : Type 0} (xs : List A) (n k : ℕ) → k < n → slice_get (take n xs) k ≡ slice_get xs k
-got_take [] zero k h = absurd (omega (arith, h))
-got_take [] (suc n) k h = refl
-got_take (x ∷ xs) zero k h = absurd (omega (arith, h))
-got_take (x ∷ xs) (suc n) zero h = refl
-got_take (x ∷ xs) (suc n) (suc k) h = got_take xs n k (omega (arith, h))
-
-got_first : {A : Type 0} (xs ys : List A) (k : ℕ) (x : A) → slice_get xs k ≡ Some x → slice_get (xs ++ ys) k ≡ Some x
-got_first [] ys k x e = cc
-got_first (y ∷ xs) ys zero x e = e
-got_first (y ∷ xs) ys (suc k) x e = got_first xs ys k x e
-
--- an import's wrapper stands behind as many as there are before it
+-- an import's wrapper stands behind as many as there_is are before it
 wrapped_cases : (y : Function) (ys : List Function) (k : ℕ) (x : Function) (b : Bool) → is_wrapped y ≡ b →
     slice_get (filter is_wrapped ys) (wrapped_before ys k) ≡ Some x → slice_get (cond b (y ∷ filter is_wrapped ys) (filter is_wrapped ys)) (one_if b (wrapped_before ys k)) ≡ Some x
 wrapped_cases y ys k x true e h = h
 wrapped_cases y ys k x false e h = h
-
-first_wrapped : (y : Function) (ys : List Function) (x : Function) (b : Bool) → y ≡ x → b ≡ true → slice_get (cond b (y ∷ filter is_wrapped ys) (filter is_wrapped ys)) 0 ≡ Some x
-first_wrapped y ys x true same t = ap (λ (z : Function). Some z) same
-first_wrapped y ys x false same t = cc
-
-wrapped_at : (ys : List Function) (k : ℕ) (x : Function) → slice_get ys k ≡ Some x → is_wrapped x ≡ true → slice_get (filter is_wrapped ys) (wrapped_before ys k) ≡ Some x
-wrapped_at [] k x e t = cc
-wrapped_at (y ∷ ys) zero x e t = first_wrapped y ys x (is_wrapped y) (some_same e) (ap is_wrapped (some_same e) ∙ t)
-wrapped_at (y ∷ ys) (suc k) x e t = wrapped_cases y ys k x (is_wrapped y) refl (wrapped_at ys k x e t)
 
 -- names of the parts
 
@@ -208,12 +189,6 @@ calls_out_at c h m f (Some g) e =
 
 -- what runs of a module's function
 
-guarded_at : (m : Module) (fs gs : List Function) (k : ℕ) (f : Function) → AreGuarded m fs gs → slice_get fs k ≡ Some f → (g : Function) × (slice_get gs k ≡ Some g) × IsGuarded m f g
-guarded_at m [] gs k f h e = none_some e
-guarded_at m (x ∷ fs) [] k f h e = absurd h
-guarded_at m (x ∷ fs) (g ∷ gs) zero f h e = (g, refl, subst (λ (y : Function). IsGuarded m y g) (some_same e) h.0)
-guarded_at m (x ∷ fs) (g ∷ gs) (suc k) f h e = guarded_at m fs gs k f h.1 e
-
 -- the image function that runs, and what is shown of it
 record Runs (c : Code) (n m : ℕ) (f : Function) : Type 0 where
   image : Function
@@ -271,7 +246,7 @@ module_routine : (c : Code) → HasImages c → (n m k : ℕ) (f : Option Functi
 module_routine c h n m k (Some f) en ef = (runs c h n m k f en ef).routine
 module_routine c h n m k None en ef =
     let lies = h.linked.table n m k en in
-    none_some (sym ef ∙ (there (module_of c.program (Some m)).functions k lies.1).1)
+    none_some (sym ef ∙ (there_is (module_of c.program (Some m)).functions k lies.1).1)
 
 entry_routine : (c : Code) → HasImages c → (n : ℕ) (e : Option ProgramFunction) → slice_get c.program.functions n ≡ e →
     image_routine c n ≡ guarded_routine c (unwrap_or (home_of_entry e) None) n (routine_or_none (function_of_entry c.program e))

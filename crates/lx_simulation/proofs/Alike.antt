@@ -3,7 +3,7 @@ use Rattle.std.proofs.Common.{◌≡◌, ℕ, zero, suc, ◌+◌, Bool, true, fa
 use Rattle.std.specs.Prelude.{bytes_eq, codes, flat_map, is_some, option_map, slice_get}
 use Rattle.std.specs.List.{list_all, list_any}
 use Rattle.std.proofs.lemmas.Option.{slice_get-map}
-use Rattle.lx_words.proofs.Lists.{map_length, map_append as map_join}
+use Rattle.lx_words.proofs.Lists.{map_length, map_append as map_join, no_list, heads, tails}
 use Rattle.lx_words.proofs.Options.{some_same, none_some}
 use Rattle.lx_ir.specs.declared.types.NamedType.{NamedType}
 use Rattle.lx_ir.specs.declared.module.Symbol.TheVariants as symbol
@@ -20,15 +20,7 @@ use Rattle.lx_ir.specs.Lookup.{is_defined, blocks_of_option, instrs_of}
 use Rattle.lx_image_texts.specs.Marks.{is_wrapped, one_if, wrapped_before, callee_if, callee_for, image_op}
 use Rattle.lx_image_texts.specs.Guards.{BlockText, block_text, FunctionText, function_text}
 use Rattle.lx_image_texts.specs.Spared.{uses_as_address, allocates, is_spared_in, is_spared}
-
-pub heads : {A : Type 0} {x y : A} {xs ys : List A} → ◌≡◌ {A = List A} (x ∷ xs) (y ∷ ys) → x ≡ y
-heads e = cc
-
-pub tails : {A : Type 0} {x y : A} {xs ys : List A} → ◌≡◌ {A = List A} (x ∷ xs) (y ∷ ys) → xs ≡ ys
-tails e = cc
-
-pub no_list : {A B : Type 0} {x : A} {xs : List A} → ◌≡◌ {A = List A} [] (x ∷ xs) → B
-no_list e = cc
+use Rattle.lx_image_texts.proofs.Back.{some_kept}
 
 -- two functions, and the functions of two modules, that differ in lines alone
 
@@ -40,10 +32,6 @@ AreAlike fs gs = map function_text fs ≡ map function_text gs
 
 pub same_name : (f g : Function) → Alike f g → f.name ≡ g.name
 same_name f g e = ap (λ (t : FunctionText). t.name) e
-
-some_kept : {A B : Type 0} (h : A → B) (o : Option A) → is_some (option_map h o) ≡ is_some o
-some_kept h None = refl
-some_kept h (Some x) = refl
 
 same_defined : (f g : Function) → Alike f g → is_defined f ≡ is_defined g
 same_defined f g e = sym (some_kept (map block_text) f.blocks) ∙ (ap (λ (t : FunctionText). is_some t.blocks) e ∙ some_kept (map block_text) g.blocks)

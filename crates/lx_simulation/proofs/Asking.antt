@@ -1,6 +1,8 @@
 -- Where each store has its guard an image thread asks what the monitor's thread asks, for the same principal.
 use Rattle.std.proofs.Common.{◌≡◌, ℕ, zero, suc, List, [], ◌∷◌, Some, inl, inr, sym, subst, ◌∙◌}
 use Rattle.std.specs.Prelude.{slice_get}
+use Rattle.lx_words.proofs.Tests.{true_false}
+use Rattle.lx_words.proofs.Options.{none_some, some_same}
 use Rattle.lx_model.specs.declared.program.ScriptCall.{ScriptCall}
 use Rattle.lx_model.specs.declared.request.Request.{Request}
 use Rattle.lx_model.specs.Laws.{ModelLaws}
@@ -15,14 +17,11 @@ use Rattle.lx_images.specs.Stands.{Well, AskAlike, ThreadStands, ThreadsStand}
 use Rattle.lx_simulation.specs.Simulation.{AllGuarded}
 use Rattle.lx_simulation.proofs.Counted.{image_next as counted_next}
 use Rattle.lx_simulation.proofs.CountedStands.{image_of}
-use Rattle.lx_simulation.proofs.Elements.{none_some}
 use Rattle.lx_simulation.proofs.Agreeing.{runs_agree}
 use Rattle.lx_simulation.proofs.Guarded.{none_bare, guarded_run_agrees}
 use Rattle.lx_simulation.proofs.Runs.{next_agrees, each_get}
 use Rattle.lx_simulation.proofs.Standing.{alike_of}
 use Rattle.lx_simulation.proofs.WordedRuns.{next_alike}
-use Rattle.lx_caps.proofs.Tests.{true_false}
-use Rattle.lx_caps.proofs.Items.{some_same}
 
 -- no ask is a spared one
 not_spared : (c : Code) → Accepted c → AllGuarded c → (thread : Thread) (r s : Request) → AskAlike c thread r s → s ≡ r

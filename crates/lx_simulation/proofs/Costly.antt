@@ -2,6 +2,7 @@
 use Rattle.std.proofs.Common.{◌≡◌, ℕ, ◌+◌, ◌≤◌, Bool, true, false, not, ◌&&◌, arith, List, [], ◌∷◌, Option, Some, None, inl, refl, sym, subst, ◌∙◌, ap}
 use Rattle.std.specs.Prelude.{bytes_eq, codes, cond, slice_get}
 use Rattle.lx_words.specs.Word.{Word}
+use Rattle.lx_words.proofs.Tests.{eq_self, true_false}
 use Rattle.lx_ir.specs.declared.module.Function.{Function}
 use Rattle.lx_ir.specs.Lookup.{is_defined}
 use Rattle.lx_caps.specs.declared.Principal.{Principal}
@@ -41,7 +42,6 @@ use Rattle.lx_simulation.proofs.Marking.{marks_for, top_if}
 use Rattle.lx_simulation.proofs.Asked.{IsLawful, lawful}
 use Rattle.lx_simulation.proofs.Targets.{TargetFits, target_fits, past_functions}
 use Rattle.lx_simulation.proofs.Effects.{room-waiting, room_alike, on_top, effect_agrees}
-use Rattle.lx_caps.proofs.Tests.{eq_itself, true_false}
 
 -- the frame on top in its body, and the frames below
 pub record Standing (c : Code) (a : Activation) (q : Principal) (x : Option Crossing) (fs : List Frame) : Type 0 where
@@ -257,7 +257,7 @@ costly_in c acc t calls ended fuel old a q x fs None (op.Call to ret (callee.Reg
     effect_agrees_at c acc t calls ended fuel old a q x fs no_marks (effect c.program a (op.Call to ret (callee.Register r) args)) None eh s (tt, sym kern)
 costly_in c acc t calls ended fuel old a q x fs (Some m) (op.Call to ret (callee.Register r) args) os eh s kern ec =
     effect_agrees_at c acc t calls ended fuel old a q x fs (marks_for c.program a (Some m) (bare_of c a.function a.label (stores_in os)) (op.Call to ret (callee.Register r) args)) (effect c.program a (op.Call to ret (callee.Register r) args)) (Some m) eh s
-    (tt, top_if _ (shadow_of (frame_of a q x ∷ fs)) (eq_itself _) ∙ sym (on_top q a x fs s.called))
+    (tt, top_if _ (shadow_of (frame_of a q x ∷ fs)) (eq_self _) ∙ sym (on_top q a x fs s.called))
 costly_in c acc t calls ended fuel old a q x fs h o os eh s kern ec =
     other_agrees c acc t calls ended fuel old a q x fs h o os (λ (i : IsCall o). absurd i) eh s kern ec
 

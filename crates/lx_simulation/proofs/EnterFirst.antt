@@ -2,6 +2,8 @@
 use Rattle.std.proofs.Common.{◌≡◌, ℕ, Bool, true, false, List, [], ◌∷◌, Option, Some, None, length, refl, sym, ap, ◌∙◌}
 use Rattle.std.specs.Prelude.{if◌then◌else◌, slice_get, option_and_then, nat_eq, drop}
 use Rattle.std.specs.List.{starts_with}
+use Rattle.lx_words.proofs.Tests.{second_of}
+use Rattle.lx_words.proofs.Lists.{all_at}
 use Rattle.lx_ir.specs.declared.module.Function.{Function}
 use Rattle.lx_ir.specs.declared.module.Module.{Module}
 use Rattle.lx_ir.specs.declared.module.Symbol.{Symbol}
@@ -15,8 +17,6 @@ use Rattle.lx_images.specs.Code.{Code, wrapped_name, wrapped_import}
 use Rattle.lx_images.specs.Wrappers.{lines_of, called_lines}
 use Rattle.lx_images.specs.WrapperForm.{is_wrapper, wraps_named, is_one_block, is_formed_by, is_formed_as, is_formed, first_named, has_name, has_formed_wrappers, have_formed_wrappers}
 use Rattle.lx_images.specs.Lines.{EnterFirst}
-use Rattle.lx_caps.proofs.Tests.{second_true}
-use Rattle.lx_caps.proofs.Items.{all_at}
 
 -- the lines begin with an enter
 abbrev Enters : List Op → Type 0
@@ -29,10 +29,10 @@ by_form j many (o ∷ lines) h = cc
 
 by_number : (x : Module) (f : Function) (name : List ℕ) (j : Option ℕ) → is_formed_by x f name j ≡ true → Enters (lines_of (Some f))
 by_number x f name None h = cc
-by_number x f name (Some j) h = by_form j (length f.params) (lines_of (Some f)) (second_true (has_name (slice_get x.functions j) name) (is_wrapper j (length f.params) (lines_of (Some f))) h)
+by_number x f name (Some j) h = by_form j (length f.params) (lines_of (Some f)) (second_of (has_name (slice_get x.functions j) name) (is_wrapper j (length f.params) (lines_of (Some f))) h)
 
 by_name : (x : Module) (f : Function) (name : List ℕ) → is_formed_as x f (Some name) ≡ true → Enters (lines_of (Some f))
-by_name x f name h = by_number x f name (first_named (lines_of (Some f))) (second_true (is_one_block f.blocks) (is_formed_by x f name (first_named (lines_of (Some f)))) h)
+by_name x f name h = by_number x f name (first_named (lines_of (Some f))) (second_of (is_one_block f.blocks) (is_formed_by x f name (first_named (lines_of (Some f)))) h)
 
 -- a function that wraps an import has a wrapper's name
 named : (f : Function) (name : List ℕ) (b : Bool) → starts_with nat_eq f.name (wrapper_prefix Out) ≡ b → (if b then Some (drop 9 f.name) else None) ≡ Some name → wraps_named f.name ≡ Some (drop 9 f.name)

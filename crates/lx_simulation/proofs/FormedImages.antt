@@ -4,8 +4,10 @@ use Rattle.std.specs.Prelude.{slice_get, option_map, option_and_then, position, 
 use Rattle.std.specs.List.{list_all, starts_with, cons_option}
 use Rattle.std.proofs.lemmas.Option.{slice_get-map, slice_get_within}
 use Rattle.std.proofs.lemmas.Bool.{and_from}
+use Rattle.lx_words.proofs.Tests.{first_of, second_of}
+use Rattle.lx_words.proofs.Options.{none_some, some_same}
+use Rattle.lx_words.proofs.Lists.{bytes_itself, split_at}
 use Rattle.lx_ir.specs.declared.module.Block.{Block}
-use Rattle.lx_ir.specs.declared.module.Parameter.{Parameter}
 use Rattle.lx_ir.specs.declared.module.Function.{Function}
 use Rattle.lx_ir.specs.declared.module.Module.{Module}
 use Rattle.lx_ir.specs.Lawful.{is_own_name}
@@ -15,17 +17,17 @@ use Rattle.lx_slot_types.specs.declared.Marked.{Marked}
 use Rattle.lx_propagate.specs.Slots.{annotated_of}
 use Rattle.lx_image_texts.specs.Marks.{is_wrapped}
 use Rattle.lx_image_texts.specs.Guards.{BlockText, block_text, FunctionText, function_text, Guards}
-use Rattle.lx_image_texts.specs.WrapperText.{Side, In, Out, wrapper_prefix, wrapper_params, wrapper_code, wrapper_of, import_annotation, slot_annotation, out_if, out_wrappers, in_wrapper, in_wrappers, wrappers_of}
+use Rattle.lx_image_texts.specs.WrapperText.{Side, In, Out, wrapper_prefix, wrapper_code, wrapper_of, import_annotation, slot_annotation, out_if, out_wrappers, in_wrapper, in_wrappers, wrappers_of}
+use Rattle.lx_image_texts.proofs.Calling.{same_at}
+use Rattle.lx_image_texts.proofs.Sound.{unlined_ops}
+use Rattle.lx_image_texts.proofs.WrapperValues.{many_params}
 use Rattle.lx_model.specs.declared.program.Program.{Program}
 use Rattle.lx_model.specs.Program.{module_of}
 use Rattle.lx_images.specs.Wrappers.{lines_of}
 use Rattle.lx_images.specs.WrapperForm.{is_one_block, is_wrapper, wraps_named, has_name, first_named, is_formed_by, is_formed_as, is_formed, has_formed_wrappers, have_formed_wrappers, unformed_in, first_unformed}
 use Rattle.lx_simulation.specs.Images.{AreImages}
-use Rattle.lx_simulation.proofs.Elements.{none_some}
 use Rattle.lx_simulation.proofs.Formed.{wrapper_formed}
-use Rattle.lx_simulation.proofs.Wrapping.{is_not, all_at, each_joined, positioned, split_at, front_or_behind, text_lines, lines_of_text, unlined_ops, Each, each_at, front_names, front, From, next_from, first_from, from_start, guarded_names, name_got}
-use Rattle.lx_caps.proofs.Tests.{first_true, second_true}
-use Rattle.lx_caps.proofs.Items.{same_bytes, some_same}
+use Rattle.lx_simulation.proofs.Wrapping.{is_not, all_at, each_joined, positioned, front_or_behind, text_lines, lines_of_text, Each, each_at, front_names, front, From, next_from, first_from, from_start, name_got}
 
 -- it is one block, by its text
 abbrev one_text : Option (List BlockText) → Bool
@@ -49,10 +51,6 @@ record Wraps (m : Module) (t : FunctionText) : Type 0 where
   lines : text_lines t ≡ wrapper_code it number annotation
   params : length t.params ≡ length it.params
   one : one_text t.blocks ≡ true
-
-many_params : (k : ℕ) (ps : List Parameter) → length (wrapper_params k ps) ≡ length ps
-many_params k [] = refl
-many_params k (p ∷ ps) = ap suc (many_params (suc k) ps)
 
 one_wraps : (m : Module) (f : Function) (n : ℕ) (an : Annotation) (side : Side) → slice_get m.functions n ≡ Some f → Wraps m (function_text (wrapper_of f n an side))
 one_wraps m f n an side e = record { it = f; number = n; annotation = an; side = side; got = e; name = refl; lines = unlined_ops (wrapper_code f n an); params = many_params 0 f.params; one = refl }
@@ -101,22 +99,15 @@ got_front [] ys k x e = none_some e
 got_front (y ∷ xs) ys zero x e = (y, refl, some_same e)
 got_front (y ∷ xs) ys (suc k) x e = got_front xs ys k x e
 
--- a function of the module stands in its image at its number
-named_alike : (i : Interface) (m x : Module) → Guards i m x → (k : ℕ) (f : Function) → slice_get m.functions k ≡ Some f → (g : Function) × (slice_get x.functions k ≡ Some g) × (g.name ≡ f.name)
-named_alike i m x h k f e =
-    let l = length m.functions in
-    let g = got_front (take l x.functions) (drop l x.functions) k f.name (ap (λ (ns : List (List ℕ)). slice_get ns k) (guarded_names m m.functions (take l x.functions) h.functions) ∙ name_got m.functions k f e) in
-    (g.0, ap (λ (fs : List Function). slice_get fs k) (sym (split_at l x.functions)) ∙ g.1, g.2)
-
 wrapper_is_formed : (i : Interface) (m x : Module) → Guards i m x → (g : Function) → Wraps m (function_text g) → is_formed x g ≡ true
 wrapper_is_formed i m x h g w =
     let lines : lines_of (Some g) ≡ wrapper_code w.it w.number w.annotation = lines_of_text g ∙ w.lines in
-    let at = named_alike i m x h w.number w.it w.got in
+    let at = same_at i m x h w.number w.it w.got in
     ap (is_formed_as x g) (ap wraps_named w.name ∙ named_for w.side w.it.name)
     ∙ and_from (is_one_block g.blocks) (is_formed_by x g w.it.name (first_named (lines_of (Some g)))) (one_by g.blocks ∙ w.one)
     (ap (is_formed_by x g w.it.name) (ap first_named lines)
     ∙ and_from (has_name (slice_get x.functions w.number) w.it.name) (is_wrapper w.number (length g.params) (lines_of (Some g)))
-    (ap (λ (o : Option Function). has_name o w.it.name) at.1 ∙ (ap (λ (n : List ℕ). bytes_eq n w.it.name) at.2 ∙ same_bytes w.it.name))
+    (ap (λ (o : Option Function). has_name o w.it.name) at.1 ∙ (ap (λ (n : List ℕ). bytes_eq n w.it.name) at.2 ∙ bytes_itself w.it.name))
     (ap (is_wrapper w.number (length g.params)) lines ∙ (ap (λ (n : ℕ). is_wrapper w.number n (wrapper_code w.it w.number w.annotation)) w.params ∙ wrapper_formed w.it w.number w.annotation)))
 
 one_is_formed : (i : Interface) (m x : Module) → Guards i m x → (k : ℕ) (g : Function) → slice_get x.functions k ≡ Some g → is_formed x g ≡ true
@@ -149,8 +140,8 @@ all_images_formed p images are many =
 
 formed_at : (images : List Module) (k : ℕ) (x : Module) → have_formed_wrappers images ≡ true → slice_get images k ≡ Some x → has_formed_wrappers x ≡ true
 formed_at [] k x h e = none_some e
-formed_at (y ∷ ys) zero x h e = ap has_formed_wrappers (sym (some_same e)) ∙ first_true (has_formed_wrappers y) (have_formed_wrappers ys) h
-formed_at (y ∷ ys) (suc k) x h e = formed_at ys k x (second_true (has_formed_wrappers y) (have_formed_wrappers ys) h) e
+formed_at (y ∷ ys) zero x h e = ap has_formed_wrappers (sym (some_same e)) ∙ first_of (has_formed_wrappers y) (have_formed_wrappers ys) h
+formed_at (y ∷ ys) (suc k) x h e = formed_at ys k x (second_of (has_formed_wrappers y) (have_formed_wrappers ys) h) e
 
 unformed_none : (images : List Module) → have_formed_wrappers images ≡ true → (o : Option ℕ) → position (λ (x : Module). not (has_formed_wrappers x)) images ≡ o → o ≡ None
 unformed_none images h None e = refl

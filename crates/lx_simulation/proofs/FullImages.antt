@@ -3,6 +3,8 @@ use Rattle.std.proofs.Common.{◌≡◌, ℕ, ◌<◌, Bool, true, false, List, 
 use Rattle.std.specs.Prelude.{slice_get, option_map, bytes_eq, nat_eq}
 use Rattle.std.proofs.lemmas.Option.{slice_get-map, slice_get_within}
 use Rattle.std.proofs.lemmas.Bool.{cases_lt}
+use Rattle.lx_words.proofs.Options.{some_none, none_some, some_same}
+use Rattle.lx_words.proofs.Lists.{got_take}
 use Rattle.lx_ir.specs.declared.module.Block.{Block}
 use Rattle.lx_ir.specs.declared.module.Function.{Function}
 use Rattle.lx_ir.specs.declared.module.Module.{Module}
@@ -20,10 +22,8 @@ use Rattle.lx_images.specs.ImageCode.{stores_in, bare_here, bare_in}
 use Rattle.lx_images.specs.Guarded.{code_or_none, bare_among}
 use Rattle.lx_simulation.specs.Images.{code_of, AreFullImages}
 use Rattle.lx_simulation.specs.Simulation.{AllGuarded}
-use Rattle.lx_simulation.proofs.Elements.{none_some, some_none}
 use Rattle.lx_simulation.proofs.Imaging.{other_bare, found_here, found_later}
-use Rattle.lx_simulation.proofs.Accepting.{got_take, image_got, no_module}
-use Rattle.lx_caps.proofs.Items.{some_same}
+use Rattle.lx_simulation.proofs.Accepting.{image_got, no_module}
 
 -- a block
 

@@ -8,6 +8,8 @@ use Rattle.lx_words.specs.declared.word.Width.TheVariants as width
 use Rattle.lx_words.specs.declared.word.Width.TheVariants.{W64}
 use Rattle.lx_words.specs.Width.{byte_count}
 use Rattle.lx_words.specs.Word.{Word, word}
+use Rattle.lx_words.proofs.Tests.{true_false, first_of, second_of, zero_more, not_or}
+use Rattle.lx_words.proofs.Options.{none_some, some_same}
 use Rattle.lx_caps.specs.declared.Principal.{Principal}
 use Rattle.lx_caps.specs.declared.Principal.TheVariants.{Kernel, Shared, Global, Inst}
 use Rattle.lx_caps.specs.declared.Cap.TheVariants.{Write}
@@ -44,13 +46,11 @@ use Rattle.lx_images.specs.Guarded.{Accepted, bare_of, spares_well, block_spares
 use Rattle.lx_simulation.proofs.CountedStands.{StageIsBody, InBodyOf, StoreHeld}
 use Rattle.lx_images.specs.Kept.{is_kernel, within, KeepsAll, LiesIn, FramesKept, Kept}
 use Rattle.lx_images.specs.Places.{IsIn, HoldsPlace}
-use Rattle.lx_simulation.proofs.Elements.{none_some, all_in, any_in, in_got, in_map, in_second, in_first}
+use Rattle.lx_simulation.proofs.Elements.{all_in, any_in, in_got, in_map, in_second, in_first}
 use Rattle.lx_simulation.proofs.Verifying.{op_of, Sound, no_parameter}
 use Rattle.lx_simulation.proofs.Walking.{PlaceIf, is_assigned, name_of, RegisteredIn, Registered, here, no_ops}
 use Rattle.lx_simulation.proofs.Sparing.{starts_below}
 use Rattle.lx_simulation.proofs.Frames.{sound_at, StoodBy, StoodIn, StageStood, TopStood, FramesStood, ThreadStood}
-use Rattle.lx_caps.proofs.Tests.{first_true, true_false, second_true, from_zero, bare_spared}
-use Rattle.lx_caps.proofs.Items.{some_same}
 use Rattle.lx_caps.proofs.Bytes.{each_byte-from}
 
 -- bytes that are kept are held, and lie in memory
@@ -150,7 +150,7 @@ store_is_held laws loans h t q rs x n few k i some fits =
 
 -- an instruction that allocates at the register
 allocates_it : (types : List NamedType) (r n : ℕ) (o : Op) → allocates types r n o ≡ true → (ty : IrType) × (o ≡ op.Alloca r ty) × (n ≤ size_of types ty)
-allocates_it types r n (op.Alloca to ty) e = (ty, ap (λ (k : ℕ). op.Alloca k ty) (eqb-true to r (first_true (nat_eq to r) _ e)), leb-true n (size_of types ty) (second_true (nat_eq to r) _ e))
+allocates_it types r n (op.Alloca to ty) e = (ty, ap (λ (k : ℕ). op.Alloca k ty) (eqb-true to r (first_of (nat_eq to r) _ e)), leb-true n (size_of types ty) (second_of (nat_eq to r) _ e))
 allocates_it types r n _ e = true_false (sym e)
 
 -- the register of a spared store's address, and its alloca
@@ -166,7 +166,7 @@ record SparedBy (m : Module) (g : Function) (ty : Scalar) (at : Operand) : Type 
 spared_by : (m : Module) (g : Function) (ty : Scalar) (stored at : Operand) → is_spared m g (op.Store ty stored at) ≡ true → SparedBy m g ty at
 spared_by m g ty stored (value.Constant c) e = true_false (sym e)
 spared_by m g ty stored (value.Register r) e =
-    let found = any_in (λ (i : Instr). allocates m.types r (byte_count (width_of ty)) i.op) (instrs_of g) (first_true (list_any (λ (i : Instr). allocates m.types r (byte_count (width_of ty)) i.op) (instrs_of g)) _ e) in
+    let found = any_in (λ (i : Instr). allocates m.types r (byte_count (width_of ty)) i.op) (instrs_of g) (first_of (list_any (λ (i : Instr). allocates m.types r (byte_count (width_of ty)) i.op) (instrs_of g)) _ e) in
     let a = allocates_it m.types r (byte_count (width_of ty)) found.0.op found.2 in
     record { register = r; is = refl; instr = found.0; here = found.1; allocated = a.0; op_is = a.1; fits = a.2 }
 
@@ -174,11 +174,11 @@ spared_by m g ty stored (value.Register r) e =
 spares_rest : (m : Module) (g : Function) (bare : Bare) (is : List Instr) (k : ℕ) → spares_well m g bare (map op_of is) ≡ true → spares_well m g bare (map op_of (drop k is)) ≡ true
 spares_rest m g bare is zero e = e
 spares_rest m g bare [] (suc k) e = e
-spares_rest m g bare (i ∷ is) (suc k) e = spares_rest m g bare is k (second_true (not (is_store i.op && bare (stores_in (map op_of is))) || is_spared m g i.op) (spares_well m g bare (map op_of is)) e)
+spares_rest m g bare (i ∷ is) (suc k) e = spares_rest m g bare is k (second_of (not (is_store i.op && bare (stores_in (map op_of is))) || is_spared m g i.op) (spares_well m g bare (map op_of is)) e)
 
 head_spared : (m : Module) (g : Function) (bare : Bare) (ty : Scalar) (stored at : Operand) (os : List Op) → bare (stores_in os) ≡ true → spares_well m g bare (op.Store ty stored at ∷ os) ≡ true → is_spared m g (op.Store ty stored at) ≡ true
 head_spared m g bare ty stored at os eb e =
-    bare_spared (bare (stores_in os)) (is_spared m g (op.Store ty stored at)) eb (first_true (not (true && bare (stores_in os)) || is_spared m g (op.Store ty stored at)) (spares_well m g bare os) e)
+    not_or (bare (stores_in os)) (is_spared m g (op.Store ty stored at)) eb (first_of (not (true && bare (stores_in os)) || is_spared m g (op.Store ty stored at)) (spares_well m g bare os) e)
 
 named_block : (g : Function) (bs : List Block) (k j : ℕ) (i : Instr) → slice_get (no_instrs (slice_get bs k)) j ≡ Some i → (b : Block) × (slice_get bs k ≡ Some b)
 named_block g [] k j i e = none_some e
@@ -208,7 +208,7 @@ read_block g k (b ∷ bs) (suc l) j i x e r =
     let at : k + suc l ≡ suc k + l = omega arith in
     in_second x (reads_from g k 0 b.instrs) (reads_of_blocks g (suc k) bs) (read_block g (suc k) bs l j i x e (subst (λ (n : ℕ). IsIn x (reads_of_op g n j i.line i.op)) at r))
 
-abbrev the_read : ℕ → ℕ → ℕ → ℕ → Read
+abbrev pub the_read : ℕ → ℕ → ℕ → ℕ → Read
 the_read k j r line = record { block = k; place = j; register = r; line = line }
 
 store_reads : (g : Function) (k j line : ℕ) (ty : Scalar) (stored : Operand) (r : ℕ) → IsIn (the_read k j r line) (reads_of_op g k j line (op.Store ty stored (value.Register r)))
@@ -269,7 +269,7 @@ place_of_store c acc a m ty stored at behind (Some g) ef et ec eb st =
     let reg : Registered (types_of p a) g a st.walk st.block st.place = subst (λ (x : Home). RegisteredIn x (types_of p a) g a st.walk st.block st.place) et st.registered in
     let seen : IsIn (the_read st.block st.place by.register h.instr.line) (reads_of g)
     = read_block g 0 (blocks_of g) st.block st.place h.instr (the_read st.block st.place by.register h.instr.line) h.got
-    (subst (λ (n : ℕ). IsIn (the_read st.block st.place by.register h.instr.line) (reads_of_op g n st.place h.instr.line h.instr.op)) (from_zero st.block)
+    (subst (λ (n : ℕ). IsIn (the_read st.block st.place by.register h.instr.line) (reads_of_op g n st.place h.instr.line h.instr.op)) (zero_more st.block)
     (subst (λ (o : Op). IsIn (the_read st.block st.place by.register h.instr.line) (reads_of_op g st.block st.place h.instr.line o)) (ap (op.Store ty stored) (sym by.is) ∙ sym h.same)
     (store_reads g st.block st.place h.instr.line ty stored by.register))) in
     let assigned : is_assigned g st.walk st.block st.place by.register ≡ true

@@ -2,6 +2,7 @@
 use Rattle.std.proofs.Common.{◌≡◌, ℕ, true, List, [], not, map, drop, Option, Some, None, refl, sym, subst, ◌∙◌, ap}
 use Rattle.std.specs.Prelude.{slice_get}
 use Rattle.std.specs.List.{list_all}
+use Rattle.lx_words.proofs.Lists.{all_got}
 use Rattle.lx_ir.specs.declared.module.Module.{Module}
 use Rattle.lx_ir.specs.Lawful.{IsPlain}
 use Rattle.lx_ir.specs.Verified.{IsVerified}
@@ -26,7 +27,6 @@ use Rattle.lx_simulation.specs.Accepted.{IsAcceptedBy, AreAccepted, IsImageOfTex
 use Rattle.lx_simulation.proofs.Alike.{same_length}
 use Rattle.lx_simulation.proofs.Marked.{all_guarded}
 use Rattle.lx_simulation.proofs.Wrappers.{same_wrappers}
-use Rattle.lx_model.proofs.Items.{all_got}
 
 -- what slot types hang on is the same for a module of the same text
 half_same : (i : Interface) (a b x : Module) → Guards i a x → SameText a b → IsPlain b → Half b x

@@ -2,6 +2,8 @@
 use Rattle.std.proofs.Common.{◌≡◌, ℕ, suc, ◌<◌, Bool, true, false, not, ◌&&◌, ◌||◌, List, [], ◌∷◌, ◌++◌, length, map, Option, Some, None, inl, inr, refl, sym, subst, ◌∙◌, ap, arith}
 use Rattle.std.specs.Prelude.{nat_eq, bytes_eq}
 use Rattle.std.specs.List.{list_all, list_any}
+use Rattle.lx_words.proofs.Tests.{eq_self, true_false, first_of, second_of, above_fails}
+use Rattle.lx_words.proofs.Lists.{bytes_itself}
 use Rattle.lx_ir.specs.declared.types.Scalar.{Scalar}
 use Rattle.lx_ir.specs.declared.module.Value.{Value as Operand}
 use Rattle.lx_ir.specs.declared.module.Block.{Block}
@@ -23,8 +25,6 @@ use Rattle.lx_images.specs.Guarded.{code_or_none, bare_among, image_block, routi
 use Rattle.lx_images.specs.Places.{IsIn}
 use Rattle.lx_simulation.proofs.Elements.{any_of, in_map}
 use Rattle.lx_simulation.proofs.Verifying.{name_of_block}
-use Rattle.lx_caps.proofs.Tests.{eq_itself, first_true, true_false, second_true, more_differs}
-use Rattle.lx_caps.proofs.Items.{same_bytes}
 
 -- The code of a block is the image of its program's, with the guards that it has.
 
@@ -43,10 +43,10 @@ less_more : (k n : ℕ) → k < n → k < suc n
 less_more k n h = omega (arith, h)
 
 here_same : (n : ℕ) (guarded further : Bool) → bare_here (true && nat_eq n n) guarded further ≡ not guarded
-here_same n guarded further = ap (λ (b : Bool). bare_here (true && b) guarded further) (eq_itself n)
+here_same n guarded further = ap (λ (b : Bool). bare_here (true && b) guarded further) (eq_self n)
 
 here_other : (n k : ℕ) (guarded further : Bool) → k < n → bare_here (true && nat_eq n k) guarded further ≡ further
-here_other n k guarded further h = ap (λ (b : Bool). bare_here (true && b) guarded further) (more_differs n k h)
+here_other n k guarded further h = ap (λ (b : Bool). bare_here (true && b) guarded further) (above_fails n k h)
 
 -- a store, with its guard or spared
 store_shown : (m : Module) (f : Function) (bare : Bare) (ty : Scalar) (x y : Operand) (os is rest : List Op) (b : Bool) → bare (stores_in os) ≡ b → (b ≡ true → is_spared m f (op.Store ty x y) ≡ true) →
@@ -147,7 +147,7 @@ not_any true false h e = sym (h refl)
 not_any false b h e = refl
 
 pub other_name : (names : List (List ℕ)) (x y : List ℕ) → is_distinct (y ∷ names) ≡ true → IsIn x names → bytes_eq y x ≡ false
-other_name names x y d i = not_any (bytes_eq y x) (list_any (bytes_eq y) names) (λ e. any_of (bytes_eq y) names x i e) (first_true (not (list_any (bytes_eq y) names)) (is_distinct names) d)
+other_name names x y d i = not_any (bytes_eq y x) (list_any (bytes_eq y) names) (λ e. any_of (bytes_eq y) names x i e) (first_of (not (list_any (bytes_eq y) names)) (is_distinct names) d)
 
 pub found_here : (c : Block) (cs : List Block) (label : List ℕ) (b : Bool) → bytes_eq c.name label ≡ b → b ≡ true → code_block_named (map code_block_of (c ∷ cs)) label ≡ Some (code_block_of c)
 found_here c cs label true e t = grind (arith, e)
@@ -158,9 +158,9 @@ found_later c cs label e = grind (arith, e)
 
 named : (cs : List Block) (c : Block) → is_distinct (map name_of_block cs) ≡ true → IsIn c cs → code_block_named (map code_block_of cs) c.name ≡ Some (code_block_of c)
 named [] c d i = absurd i
-named (y ∷ cs) c d (inl e) = subst (λ (z : Block). code_block_named (map code_block_of (y ∷ cs)) z.name ≡ Some (code_block_of z)) e (found_here y cs y.name (bytes_eq y.name y.name) refl (same_bytes y.name))
+named (y ∷ cs) c d (inl e) = subst (λ (z : Block). code_block_named (map code_block_of (y ∷ cs)) z.name ≡ Some (code_block_of z)) e (found_here y cs y.name (bytes_eq y.name y.name) refl (bytes_itself y.name))
 named (y ∷ cs) c d (inr i) =
-    found_later y cs c.name (other_name (map name_of_block cs) c.name y.name d (in_map name_of_block c cs i)) ∙ named cs c (second_true (not (list_any (bytes_eq y.name) (map name_of_block cs))) (is_distinct (map name_of_block cs)) d) i
+    found_later y cs c.name (other_name (map name_of_block cs) c.name y.name d (in_map name_of_block c cs i)) ∙ named cs c (second_of (not (list_any (bytes_eq y.name) (map name_of_block cs))) (is_distinct (map name_of_block cs)) d) i
 
 same_labels : (m : Module) (f : Function) (bs cs : List Block) → AreMarked m f bs cs → map name_of_block cs ≡ map name_of_block bs
 same_labels m f [] [] h = refl

@@ -1,6 +1,7 @@
 -- The wrappers of accepted images do the actions of their annotations, in order.
 use Rattle.std.proofs.Common.{◌≡◌, ℕ, suc, Bool, true, false, List, [], ◌∷◌, drop, Option, Some, None, refl, sym, subst, ◌∙◌, ap}
 use Rattle.lx_words.specs.Word.{Word}
+use Rattle.lx_words.proofs.Options.{none_some}
 use Rattle.lx_caps.specs.declared.Principal.{Principal}
 use Rattle.lx_annot.specs.Action.{Action}
 use Rattle.lx_ir.specs.declared.instr.Op.{Op}
@@ -16,7 +17,6 @@ use Rattle.lx_images.specs.Image.{Code, ImageFrame, Runs, Wraps, ImageThread, Im
 use Rattle.lx_images.specs.Wrappers.{called_lines, in_lines}
 use Rattle.lx_images.specs.WrapperLines.{Wording, from_post, from_pre, IsWrapperOf}
 use Rattle.lx_simulation.specs.Crossing.{ready, action_request, ActsBehind, ActsBefore, Crosses}
-use Rattle.lx_simulation.proofs.Elements.{none_some}
 use Rattle.lx_simulation.proofs.WordedReplies.{is_more, is_left, Steps, goes, stands_post}
 
 -- an action that there is, is asked for

@@ -25,6 +25,7 @@ use Rattle.lx_model.specs.Decide.{decide}
 use Rattle.lx_model.specs.Serve.{serve_by, serve, entering, entering_as, with_block, after_try_lock, after_native, grant_what}
 use Rattle.lx_images.specs.Kept.{Kept, OnStack, AskKept, StepKept}
 use Rattle.std.specs.Prelude.{map, length, slice_get, slice_set}
+use Rattle.lx_words.proofs.Tests.{suc_same}
 use Rattle.lx_caps.specs.Regions.{stack_size}
 use Rattle.lx_model.specs.declared.request.Outcome.TheVariants.{Budget}
 use Rattle.lx_model.specs.Thread.{fresh_thread, has_work}
@@ -36,7 +37,6 @@ use Rattle.lx_simulation.proofs.Keeping.{served_kept, stacks_from, stacks_to}
 use Rattle.lx_simulation.proofs.KeepingSteps.{step_kept}
 use Rattle.lx_simulation.proofs.Runs.{each_get}
 use Rattle.lx_simulation.proofs.Sparing.{Spares, spares_strip_above, spares_strip_below, spares_grant, perform_spares, same_history, ends_above, frames_spared}
-use Rattle.lx_caps.proofs.Tests.{one_less as suc_same}
 use Rattle.lx_model.proofs.Passing.{passed}
 
 -- up to the next request

@@ -1,6 +1,7 @@
 -- A step, an event and a run keep the bytes that functions have on the stack.
 use Rattle.std.proofs.Common.{◌≡◌, ℕ, zero, suc, ◌<◌, ◌≤◌, Bool, true, false, List, [], ◌∷◌, Option, Some, None, refl, sym, subst}
 use Rattle.lx_words.specs.Word.{Word}
+use Rattle.lx_words.proofs.Tests.{next_above}
 use Rattle.lx_caps.specs.declared.Principal.{Principal}
 use Rattle.lx_caps.specs.declared.Principal.TheVariants.{Kernel}
 use Rattle.lx_caps.specs.Regions.{stack_end}
@@ -29,7 +30,6 @@ use Rattle.lx_model.specs.Thread.{CodeBlock, Pre, Body, Post}
 use Rattle.lx_model.specs.Effect.{Effect, Moves, Wants, Enters, Calls, Traps, effect, division, arrival, target_effect, slot_effect, call_effect, text_of, argument_words}
 use Rattle.lx_model.specs.Next.{Step, Goes, Asks, comes_to, if_room, if_paid, has_room, has_action, effect_step, instruction_step, stage_step, post_step, frame_step, start_step, undue_step, step, pre_action, post_action}
 use Rattle.lx_simulation.proofs.Keeping.{AskFits, served_kept, started_kept}
-use Rattle.lx_caps.proofs.Tests.{next_above}
 
 -- an effect asks for the function's own bytes, or for ones above
 

@@ -2,6 +2,8 @@
 use Rattle.std.proofs.Common.{◌≡◌, ℕ, zero, suc, ◌+◌, ◌*◌, Bool, true, false, not, List, [], ◌∷◌, length, map, Option, Some, None, inl, inr, refl, subst, ◌∙◌, ap, eq-eqb}
 use Rattle.std.specs.Prelude.{slice_get, slice_set}
 use Rattle.lx_words.specs.Word.{Word}
+use Rattle.lx_words.proofs.Tests.{first_of, second_of}
+use Rattle.lx_words.proofs.Options.{none_some, some_same}
 use Rattle.lx_caps.specs.declared.Principal.{Principal}
 use Rattle.lx_caps.specs.declared.Principal.TheVariants.{Kernel}
 use Rattle.lx_ir.specs.declared.module.Symbol.{Symbol}
@@ -39,9 +41,6 @@ use Rattle.lx_simulation.specs.Crossing.{is_action, lacks, LacksLine, NotFor}
 use Rattle.lx_simulation.proofs.Journals.{by-kept}
 use Rattle.lx_simulation.proofs.Table.{in_either}
 use Rattle.lx_simulation.proofs.Wrapping.{is_not}
-use Rattle.lx_simulation.proofs.Elements.{none_some}
-use Rattle.lx_caps.proofs.Tests.{first_true, second_true}
-use Rattle.lx_caps.proofs.Items.{some_same}
 
 -- the wrappers of the function among these frames have no line for the action
 abbrev Free : ℕ → Bool → ℕ → List ImageFrame → Type 0
@@ -182,14 +181,14 @@ pre_not n post k m j s lines env source dest l env' source' dest' e =
     let function : m ≡ n = cc in
     let side : false ≡ post = cc in
     let number : j ≡ k = cc in
-    is_not (is_action post k (op.Pre s j)) (is_pre s j k post side number) (first_true (not (is_action post k (op.Pre s j))) (lacks post k lines) (l function))
+    is_not (is_action post k (op.Pre s j)) (is_pre s j k post side number) (first_of (not (is_action post k (op.Pre s j))) (lacks post k lines) (l function))
 
 post_not : (n : ℕ) (post : Bool) (k m j : ℕ) (s : Symbol) (lines : List Op) (env : Env) (source dest : Principal) → (m ≡ n → lacks post k (op.Post s j ∷ lines) ≡ true) → NotFor n post k (what.Perform m true j env source dest)
 post_not n post k m j s lines env source dest l env' source' dest' e =
     let function : m ≡ n = cc in
     let side : true ≡ post = cc in
     let number : j ≡ k = cc in
-    is_not (is_action post k (op.Post s j)) (is_post s j k post side number) (first_true (not (is_action post k (op.Post s j))) (lacks post k lines) (l function))
+    is_not (is_action post k (op.Post s j)) (is_post s j k post side number) (first_of (not (is_action post k (op.Post s j))) (lacks post k lines) (l function))
 
 action_free : (n : ℕ) (post : Bool) (k : ℕ) (b : Bool) (v : ImageThread) (fuel m : ℕ) (side : Bool) (j : ℕ) (args : List Word) (x : Option Word) (source dest : Principal) → Free n post k v.frames →
     NotFor n post k (what.Perform m side j (record { args = args; ret = x }) source dest) → FreeStep n post k (action_line b (record v { fuel = fuel }) m side j args x source dest)
@@ -243,7 +242,7 @@ next_free (suc i) n post k c l v h = further_free i n post k c (image_step c v) 
 
 rest_lacks : (post : Bool) (k : ℕ) (lines : List Op) → lacks post k lines ≡ true → lacks post k (behind_head lines) ≡ true
 rest_lacks post k [] h = refl
-rest_lacks post k (o ∷ lines) h = second_true (not (is_action post k o)) (lacks post k lines) h
+rest_lacks post k (o ∷ lines) h = second_of (not (is_action post k o)) (lacks post k lines) h
 
 at_free : (n : ℕ) (post : Bool) (k : ℕ) (c : Code) (t m : ℕ) (args : List Word) (x : Option Word) (fs : List ImageFrame) (lines : List Op) → (m ≡ n → lacks post k lines ≡ true) → Free n post k fs → Free n post k (at_lines c t m args x fs lines)
 at_free n post k c t m args x fs [] l h = (l, h)

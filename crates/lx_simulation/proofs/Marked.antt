@@ -2,6 +2,7 @@
 use Rattle.std.proofs.Common.{◌≡◌, List, [], ◌∷◌, ◌++◌, map, take, length, Option, Some, None, inl, inr, sym, subst, ◌∙◌, ap}
 use Rattle.std.specs.Prelude.{option_map}
 use Rattle.lx_words.proofs.Options.{some_same, none_some}
+use Rattle.lx_words.proofs.Lists.{no_list, heads, tails}
 use Rattle.lx_ir.specs.declared.module.Block.{Block}
 use Rattle.lx_ir.specs.declared.module.Function.{Function}
 use Rattle.lx_ir.specs.declared.module.Module.{Module}
@@ -9,7 +10,7 @@ use Rattle.lx_ir.specs.declared.instr.Op.{Op}
 use Rattle.lx_image_texts.specs.Marks.{mark_of}
 use Rattle.lx_image_texts.specs.Guards.{ops_of, BlockText, block_text, FunctionText, StandsAt, IsMarked, AreMarked, HasMarks, IsGuarded, AreGuarded}
 use Rattle.lx_same_texts.specs.SameText.{SameText}
-use Rattle.lx_simulation.proofs.Alike.{heads, tails, no_list, Alike, AreAlike, same_length, same_image_op, same_spared}
+use Rattle.lx_simulation.proofs.Alike.{Alike, AreAlike, same_length, same_image_op, same_spared}
 
 module _ (a b : Module) (s : SameText a b) where
   module _ (f g : Function) (e : Alike f g) where

@@ -1,5 +1,5 @@
 -- An instruction of the top frame is one step of both machines, with the mark before it.
-use Rattle.std.proofs.Common.{◌≡◌, ℕ, ◌+◌, Bool, true, false, List, [], ◌∷◌, ◌++◌, Some, None, refl, ◌∙◌, ap, arith}
+use Rattle.std.proofs.Common.{◌≡◌, ℕ, ◌+◌, Bool, true, false, List, [], ◌∷◌, ◌++◌, Some, None, refl, ◌∙◌, ap}
 use Rattle.lx_words.specs.declared.word.Width.{Width}
 use Rattle.lx_words.specs.declared.word.Width.TheVariants.{W64}
 use Rattle.lx_words.specs.Word.{word}
@@ -17,6 +17,7 @@ use Rattle.lx_images.specs.Guarded.{guarded_run, waiting_run}
 use Rattle.std.specs.Prelude.{nat_le}
 use Rattle.std.proofs.lemmas.Bool.{and_from}
 use Rattle.lx_words.specs.Width.{byte_count}
+use Rattle.lx_words.proofs.Tests.{le_self}
 use Rattle.lx_ir.specs.declared.instr.Callee.TheVariants as callee
 use Rattle.lx_ir.specs.declared.instr.Op.{Op}
 use Rattle.lx_ir.specs.declared.instr.Op.TheVariants as op
@@ -73,11 +74,8 @@ marked c v is (Some m) a o os = refl
 
 -- who asks
 
-le_itself : (n : ℕ) → nat_le n n ≡ true
-le_itself n = grind arith
-
 pub covered_itself : (at size : ℕ) → covered (Some (at, size)) at size ≡ true
-covered_itself at size = and_from (nat_le at at) (nat_le (at + size) (at + size)) (le_itself at) (le_itself (at + size))
+covered_itself at size = and_from (nat_le at at) (nat_le (at + size) (at + size)) (le_self at) (le_self (at + size))
 
 pub top_if : (b : Bool) (shadow : List Principal) → b ≡ true → principal_if b shadow ≡ top shadow
 top_if true shadow e = refl

@@ -3,6 +3,8 @@ use Rattle.std.proofs.Common.{◌≡◌, ℕ, zero, suc, ◌<◌, ◌≤◌, Boo
 use Rattle.std.specs.Prelude.{All, slice_get}
 use Rattle.std.proofs.lemmas.List.Elements.{All-head, All-tail}
 use Rattle.lx_words.specs.Word.{Word}
+use Rattle.lx_words.proofs.Options.{none_some, some_same}
+use Rattle.lx_words.proofs.Lists.{map_length}
 use Rattle.lx_caps.specs.declared.Principal.{Principal}
 use Rattle.lx_caps.specs.History.{History}
 use Rattle.lx_caps.specs.Laws.{HistoryLaws}
@@ -41,14 +43,12 @@ use Rattle.lx_simulation.proofs.CountedStands.{Each, Well, WorldWell, StandsFor,
 use Rattle.lx_images.specs.Kept.{Kept, WorldKept, AskKept}
 use Rattle.lx_images.specs.Places.{PlacesKept, AllPlaces, WorldPlaces, IsLiveAt, IsLive, IsIn, PlaceKept}
 use Rattle.lx_images.specs.Fitting.{ScriptFits}
-use Rattle.lx_simulation.proofs.Elements.{none_some}
 use Rattle.lx_simulation.proofs.Counting.{CountFits, count_in, widths_length, entry_counts}
 use Rattle.lx_simulation.proofs.Frames.{AllVerified, AskedWell, CallsFit, StoodBy, StoodIn, StageStood, TopStood, WaitStood, FramesStood, ThreadStood, StepStood, step_stood, ReplyFits, taken_stood}
 use Rattle.lx_simulation.proofs.Walking.{is_assigned, Registered, RegisteredIn, place_kept}
 use Rattle.lx_simulation.proofs.Held.{store_held}
 use Rattle.lx_simulation.proofs.KeepingRuns.{within_kept, event_kept, fresh_kept}
 use Rattle.lx_simulation.proofs.Runs.{each_get, each_set, event_agrees, fresh_well, opening_stands}
-use Rattle.lx_caps.proofs.Items.{some_same, map_length}
 
 -- what is replied fits what was asked
 

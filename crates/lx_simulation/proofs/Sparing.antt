@@ -11,6 +11,7 @@ use Rattle.lx_caps.specs.History.{History, has, keeps, same_principal, with_gran
 use Rattle.lx_model.specs.Thread.{Range, Frame, top_of_stack}
 use Rattle.std.specs.Prelude.{slice_get}
 use Rattle.std.proofs.lemmas.Bool.{or_right, not-true}
+use Rattle.lx_words.proofs.Tests.{not_and}
 use Rattle.lx_annot.specs.declared.expr.Env.{Env}
 use Rattle.lx_annot.specs.Action.{Action}
 use Rattle.lx_model.specs.declared.program.Program.{Program}
@@ -20,7 +21,6 @@ use Rattle.lx_model.specs.Decide.{result_or_none, action_result}
 use Rattle.lx_model.specs.Serve.{history_or}
 use Rattle.lx_model.specs.Act.{on_stack, item_refusal, outside}
 use Rattle.lx_images.specs.Kept.{KeepsAll, LiesIn, FramesKept}
-use Rattle.lx_caps.proofs.Tests.{not_had}
 use Rattle.lx_caps.proofs.Covering.{covers_above}
 use Rattle.lx_model.proofs.Passing.{passed, neither}
 use Rattle.lx_model.proofs.ActKeeps.{Keeps, Any, action_keeps}
@@ -33,10 +33,10 @@ pub covers_below : (at size b : ℕ) → b < at → covers at size b ≡ false
 covers_below at size b h = grind (arith, h)
 
 pub spares_strip_above : (low high at size : ℕ) (h : History) → high ≤ at → Spares low high h (Strip (cap.Write at size) ∷ h)
-spares_strip_above low high at size h l q b lb bh o = not_had (covers at size b) (keeps h q (Byte b)) (covers_below at size b (omega arith)) o
+spares_strip_above low high at size h l q b lb bh o = not_and (covers at size b) (keeps h q (Byte b)) (covers_below at size b (omega arith)) o
 
 pub spares_strip_below : (low high at size : ℕ) (h : History) → at + size ≤ low → Spares low high h (Strip (cap.Write at size) ∷ h)
-spares_strip_below low high at size h l q b lb bh o = not_had (covers at size b) (keeps h q (Byte b)) (covers_above at size b (omega arith)) o
+spares_strip_below low high at size h l q b lb bh o = not_and (covers at size b) (keeps h q (Byte b)) (covers_above at size b (omega arith)) o
 
 pub spares_grant : (low high : ℕ) (d : Principal) (c : Cap) (h g : History) → Spares low high h g → Spares low high h (with_grant d c g)
 spares_grant low high Kernel c h g s q b lb bh o = s q b lb bh o
@@ -76,7 +76,7 @@ stripped_spares : (low high : ℕ) (h g : History) (source : Principal) (c : Cap
     → Spares low high h (Strip c ∷ g)
 stripped_spares low high h g source c l u e s q b lb bh o =
     let off = (neither (on_stack true source c) _ (neither (outside source c) _ e).1).0 in
-    not_had (has c (Byte b)) (keeps g q (Byte b)) (off_stack low high source c l u off b lb bh) (s q b lb bh o)
+    not_and (has c (Byte b)) (keeps g q (Byte b)) (off_stack low high source c l u off b lb bh) (s q b lb bh o)
 
 action_spares : (low high : ℕ) (p : Program) (s : State) (t : ℕ) (a : Option Action) (env : Env) (source dest : Principal) → stacks_start ≤ low → high ≤ stacks_start + region_size →
     Spares low high s.history (history_or (result_or_none p s t a env source dest) s.history)

@@ -1,6 +1,7 @@
 -- The table of a well-formed program names functions that modules define.
 use Rattle.std.proofs.Common.{◌≡◌, ℕ, suc, ◌+◌, Bool, true, false, List, [], ◌∷◌, ◌++◌, Some, None, ◌⊎◌, inl, inr, refl, sym, subst, ◌∙◌, ap, arith}
 use Rattle.std.specs.Prelude.{slice_get}
+use Rattle.lx_words.proofs.Options.{some_same}
 use Rattle.lx_ir.specs.declared.module.Function.{Function}
 use Rattle.lx_ir.specs.declared.module.Module.{Module}
 use Rattle.lx_ir.specs.Lookup.{is_defined}
@@ -14,7 +15,6 @@ use Rattle.lx_link_texts.specs.WellFormed.{texts_of, IsWellFormed}
 use Rattle.lx_images.specs.Places.{IsIn}
 use Rattle.lx_images.specs.HasImages.{NamesDefined}
 use Rattle.lx_simulation.proofs.Elements.{in_got}
-use Rattle.lx_caps.proofs.Items.{some_same}
 use Rattle.lx_model.proofs.Homes.{module_at}
 
 pub in_either : {A : Type 0} (x : A) (xs ys : List A) → IsIn x (xs ++ ys) → IsIn x xs ⊎ IsIn x ys

@@ -3,6 +3,7 @@ use Rattle.std.proofs.Common.{◌≡◌, ℕ, zero, suc, Bool, true, false, List
 use Rattle.std.specs.Prelude.{nat_lt}
 use Rattle.lx_words.specs.Word.{Word, word}
 use Rattle.lx_words.specs.declared.word.Width.TheVariants.{W64}
+use Rattle.lx_words.proofs.Tests.{true_false, none_below, some_below}
 use Rattle.lx_caps.specs.declared.Principal.{Principal}
 use Rattle.lx_annot.specs.Action.{Action}
 use Rattle.lx_ir.specs.declared.instr.Op.{Op}
@@ -27,7 +28,6 @@ use Rattle.lx_images.specs.Wrappers.{in_lines}
 use Rattle.lx_images.specs.Image.{ImageFrame, Runs, Wraps, ImageThread, running, stack_top, has_room, after_leaving, past_instruction, at_lines, entered_frames, fits_site, after_entry, after_reply, image_absorb}
 use Rattle.lx_images.specs.WrapperLines.{Wording, from_post, from_pre, IsWrapperOf, WrapsWell}
 use Rattle.lx_simulation.proofs.Worded.{Worded, Ran, Wrapped, counted, lined, Waiting, Placed, Alike, AbsorbAlike}
-use Rattle.lx_caps.proofs.Tests.{less_none, true_false}
 
 -- threads from their parts
 
@@ -80,17 +80,14 @@ abbrev pub is_more : List Action → Bool
 is_more [] = false
 is_more (a ∷ as') = true
 
-none_less : (n : ℕ) → nat_lt 0 (suc n) ≡ true
-none_less n = grind arith
-
 less_suc : (k n : ℕ) → nat_lt (suc k) (suc n) ≡ nat_lt k n
 less_suc k n = grind arith
 
 -- what is left of the actions, by whether there is one of this number
 pub is_left : (xs : List Action) (k : ℕ) → nat_lt k (length xs) ≡ is_more (drop k xs)
-is_left [] zero = less_none 0
-is_left [] (suc k) = less_none (suc k)
-is_left (x ∷ xs) zero = none_less (length xs)
+is_left [] zero = none_below 0
+is_left [] (suc k) = none_below (suc k)
+is_left (x ∷ xs) zero = some_below (length xs)
 is_left (x ∷ xs) (suc k) = less_suc k (length xs) ∙ is_left xs k
 
 abbrev pub Steps : List Action → ℕ → List Action → Type 0

@@ -1,6 +1,7 @@
 -- A step of one machine is a step of the other.
 use Rattle.std.proofs.Common.{◌≡◌, ℕ, zero, suc, Bool, true, false, List, [], ◌∷◌, map, drop, Option, Some, None, refl, sym, subst, ◌∙◌, ap}
 use Rattle.lx_words.specs.Word.{Word}
+use Rattle.lx_words.proofs.Tests.{true_false, false_true}
 use Rattle.lx_caps.specs.declared.Principal.{Principal}
 use Rattle.lx_caps.specs.declared.Principal.TheVariants.{Kernel}
 use Rattle.lx_annot.specs.Action.{Action}
@@ -23,7 +24,6 @@ use Rattle.lx_images.specs.Image.{ImageFrame, ImageThread, ImageStep, Asks, come
 use Rattle.lx_images.specs.WrapperLines.{Wording, from_post, from_pre, IsWrapperOf, WrapsWell}
 use Rattle.lx_simulation.proofs.Worded.{Worded, Ran, Wrapped, counted, lined, line_thread, Waiting, StandsOnTop, Placed, Alike, StepsAlike}
 use Rattle.lx_simulation.proofs.WordedReplies.{counting, reading, made, same_room, leaves, finishes, replied, enter_replied, pre_replied, post_replied, is_more, is_left}
-use Rattle.lx_caps.proofs.Tests.{true_false, false_true}
 
 -- an outcome is due
 comes : (c : Code) (calls : List ScriptCall) (ended : List Ending) (fuel : ℕ) (due : Option Outcome) (fs : List CountedFrame) (gs : List ImageFrame) (shadow : List Principal) (o : Outcome) →

@@ -2,6 +2,7 @@
 use Rattle.std.proofs.Common.{◌≡◌, ℕ, suc, Bool, true, false, List, [], ◌∷◌, ◌++◌, Option, Some, None, refl, sym, ◌∙◌, ap}
 use Rattle.std.specs.Prelude.{filter_map, option_map, slice_get}
 use Rattle.lx_words.proofs.Options.{some_same, none_some}
+use Rattle.lx_words.proofs.Lists.{no_list, heads, tails}
 use Rattle.lx_ir.specs.declared.module.Function.{Function}
 use Rattle.lx_ir.specs.declared.module.Module.{Module}
 use Rattle.lx_annot.specs.declared.action.Annotation.{Annotation}
@@ -11,7 +12,7 @@ use Rattle.lx_propagate.specs.Slots.{annotated_of}
 use Rattle.lx_image_texts.specs.Marks.{is_wrapped}
 use Rattle.lx_image_texts.specs.Guards.{FunctionText, function_text}
 use Rattle.lx_image_texts.specs.WrapperText.{In, Out, wrapper_of, import_annotation, slot_annotation, out_if, out_wrappers, wrappers_of}
-use Rattle.lx_simulation.proofs.Alike.{heads, tails, no_list, Alike, AreAlike, same_got, same_wrapped}
+use Rattle.lx_simulation.proofs.Alike.{Alike, AreAlike, same_got, same_wrapped}
 
 -- what a wrapper takes of the function that it wraps
 abbrev head_of : FunctionText → Function

@@ -5,13 +5,15 @@ use Rattle.std.specs.List.{list_all, list_any, starts_with, cons_option, positio
 use Rattle.std.proofs.lemmas.List.Folds.{find_at}
 use Rattle.std.proofs.lemmas.Option.{slice_get-map}
 use Rattle.std.proofs.lemmas.Bool.{not-true, or_parts, and_from}
+use Rattle.lx_words.proofs.Tests.{true_false, first_of, second_of}
+use Rattle.lx_words.proofs.Options.{none_some, some_same}
+use Rattle.lx_words.proofs.Lists.{bytes_itself, same_bytes, there_is, found_is, split_at}
 use Rattle.lx_ir.specs.declared.module.Block.{Block}
 use Rattle.lx_ir.specs.declared.module.Function.{Function}
 use Rattle.lx_ir.specs.declared.module.GlobalVar.{GlobalVar}
 use Rattle.lx_ir.specs.declared.module.Module.{Module}
 use Rattle.lx_ir.specs.declared.module.Symbol.TheVariants as symbol
 use Rattle.lx_ir.specs.declared.instr.Callee.TheVariants as callee
-use Rattle.lx_ir.specs.declared.instr.Instr.{Instr}
 use Rattle.lx_ir.specs.declared.instr.Op.{Op}
 use Rattle.lx_ir.specs.declared.instr.Op.TheVariants as op
 use Rattle.lx_ir.specs.Lookup.{is_defined, blocks_of_option}
@@ -23,7 +25,8 @@ use Rattle.lx_slot_types.specs.Gets.{slot_of}
 use Rattle.lx_propagate.specs.Slots.{marked, annotated_from, annotated_of}
 use Rattle.lx_image_texts.specs.Marks.{is_wrapped}
 use Rattle.lx_image_texts.specs.Guards.{BlockText, block_text, FunctionText, function_text, AreGuarded, Guards}
-use Rattle.lx_image_texts.specs.WrapperText.{In, wrapper_args, result_register, returned, wrapper_code, unlined, wrapper_of, import_annotation, slot_annotation, out_if, out_wrappers, in_wrapper, in_wrappers, wrappers_of}
+use Rattle.lx_image_texts.specs.WrapperText.{In, wrapper_args, result_register, returned, wrapper_code, wrapper_of, import_annotation, slot_annotation, out_if, out_wrappers, in_wrapper, in_wrappers, wrappers_of}
+use Rattle.lx_image_texts.proofs.Sound.{unlined_ops}
 use Rattle.lx_model.specs.declared.program.Program.{Program}
 use Rattle.lx_model.specs.declared.program.ProgramFunction.{ProgramFunction}
 use Rattle.lx_model.specs.declared.program.ProgramFunction.TheVariants.{Of, Native}
@@ -33,9 +36,6 @@ use Rattle.lx_images.specs.Code.{Code, wrapped_name, out_import, wrapped_import}
 use Rattle.lx_images.specs.HasImages.{HasImages}
 use Rattle.lx_images.specs.Wrappers.{lines_of, function_in_image, called_lines, plain_lines, in_named, lines_or_plain, in_lines_of, in_lines}
 use Rattle.lx_images.specs.WrapperLines.{Wording, from_enter, IsWrapperOf, WrapsWell}
-use Rattle.lx_simulation.proofs.Elements.{none_some}
-use Rattle.lx_caps.proofs.Tests.{first_true, true_false, second_true}
-use Rattle.lx_caps.proofs.Items.{same_bytes as itself, bytes_are, some_same, there}
 
 abbrev out_prefix : List ℕ
 out_prefix = codes "lxfi.out."
@@ -51,11 +51,6 @@ names_of fs = map (λ f. f.name) fs
 pub is_not : (b : Bool) → b ≡ true → not b ≡ true → {A : Type 0} → A
 is_not true e h = true_false (sym h)
 is_not false e h = true_false (sym e)
-
-pub split_at : {A : Type 0} (n : ℕ) (xs : List A) → take n xs ++ drop n xs ≡ xs
-split_at zero xs = refl
-split_at (suc n) [] = refl
-split_at (suc n) (x ∷ xs) = ap (λ ys. x ∷ ys) (split_at n xs)
 
 -- an element of a list stands in its front or behind it
 pub front_or_behind : {A : Type 0} (xs ys : List A) (k : ℕ) (x : A) → slice_get (xs ++ ys) k ≡ Some x → (slice_get xs k ≡ Some x) ⊎ ((j : ℕ) × (slice_get ys j ≡ Some x))
@@ -75,10 +70,6 @@ found_passes_by : {A : Type 0} (p : A → Bool) (y : A) (xs : List A) (x : A) (b
 found_passes_by p y xs x true e h ih = ap p (sym (some_same h)) ∙ e
 found_passes_by p y xs x false e h ih = ih h
 
-found_passes : {A : Type 0} (p : A → Bool) (xs : List A) (x : A) → find p xs ≡ Some x → p x ≡ true
-found_passes p [] x e = none_some e
-found_passes p (y ∷ xs) x e = found_passes_by p y xs x (p y) refl e (found_passes p xs x)
-
 behind_by : {A : Type 0} (p : A → Bool) (x : A) (xs ys : List A) (b : Bool) → p x ≡ b → cond b (Some x) (find p xs) ≡ None → (find p xs ≡ None → find p (xs ++ ys) ≡ find p ys) → cond b (Some x) (find p (xs ++ ys)) ≡ find p ys
 behind_by p x xs ys true e h ih = none_some (sym h)
 behind_by p x xs ys false e h ih = ih h
@@ -96,8 +87,8 @@ pub record At {A : Type 0} (p : A → Bool) (xs : List A) (n : ℕ) : Type 0 whe
 position_by : {A : Type 0} (p : A → Bool) (xs : List A) (n : ℕ) (b : Bool) → nat_lt (position_or_len p xs) (length xs) ≡ b → cond b (Some (position_or_len p xs)) None ≡ Some n → At p xs n
 position_by p xs n true e h =
     let same : position_or_len p xs ≡ n = some_same h in
-    let x = there xs (position_or_len p xs) (ltb-true (position_or_len p xs) (length xs) e) in
-    record { it = x.0; got = ap (slice_get xs) (sym same) ∙ x.1; passes = found_passes p xs x.0 (find_at p xs ∙ x.1) }
+    let x = there_is xs (position_or_len p xs) (ltb-true (position_or_len p xs) (length xs) e) in
+    record { it = x.0; got = ap (slice_get xs) (sym same) ∙ x.1; passes = found_is p xs x.0 (find_at p xs ∙ x.1) }
 position_by p xs n false e h = none_some h
 
 pub positioned : {A : Type 0} (p : A → Bool) (xs : List A) (n : ℕ) → position p xs ≡ Some n → At p xs n
@@ -121,10 +112,6 @@ lines_by (Some (b ∷ bs)) = refl
 
 pub lines_of_text : (f : Function) → lines_of (Some f) ≡ text_lines (function_text f)
 lines_of_text f = lines_by f.blocks
-
-pub unlined_ops : (os : List Op) → map (λ (i : Instr). i.op) (map unlined os) ≡ os
-unlined_ops [] = refl
-unlined_ops (o ∷ os) = ap (λ (xs : List Op). o ∷ xs) (unlined_ops os)
 
 -- a wrapper's lines
 
@@ -188,12 +175,12 @@ wrappers_named i y = each_joined (Named i) (out_wrappers i 0 y.functions) (in_wr
 
 all_second : (xs ys : List (List ℕ)) (p : List ℕ → Bool) → list_all p (xs ++ ys) ≡ true → list_all p ys ≡ true
 all_second [] ys p a = a
-all_second (x ∷ xs) ys p a = all_second xs ys p (second_true (p x) (list_all p (xs ++ ys)) a)
+all_second (x ∷ xs) ys p a = all_second xs ys p (second_of (p x) (list_all p (xs ++ ys)) a)
 
 pub all_at : (p : List ℕ → Bool) (ns : List (List ℕ)) (k : ℕ) (n : List ℕ) → list_all p ns ≡ true → slice_get ns k ≡ Some n → p n ≡ true
 all_at p [] k n a e = none_some e
-all_at p (x ∷ ns) zero n a e = ap p (sym (some_same e)) ∙ first_true (p x) (list_all p ns) a
-all_at p (x ∷ ns) (suc k) n a e = all_at p ns k n (second_true (p x) (list_all p ns) a) e
+all_at p (x ∷ ns) zero n a e = ap p (sym (some_same e)) ∙ first_of (p x) (list_all p ns) a
+all_at p (x ∷ ns) (suc k) n a e = all_at p ns k n (second_of (p x) (list_all p ns) a) e
 
 own_names : (m : Module) → IsPlain m → list_all (λ n. not (is_own_name n)) (names_of m.functions) ≡ true
 own_names m p = all_second (map (λ (g : GlobalVar). g.name) m.globals) (names_of m.functions) (λ n. not (is_own_name n)) p.names
@@ -209,7 +196,7 @@ front_names i m x g = ap (list_all (λ n. not (is_own_name n))) (guarded_names m
 pub front : (xs ys name : List ℕ) → starts_with nat_eq name (xs ++ ys) ≡ true → starts_with nat_eq name xs ≡ true
 front [] ys name e = refl
 front (x ∷ xs) ys [] e = e
-front (x ∷ xs) ys (n ∷ name) e = and_from (nat_eq x n) (starts_with nat_eq name xs) (first_true (nat_eq x n) (starts_with nat_eq name (xs ++ ys)) e) (front xs ys name (second_true (nat_eq x n) (starts_with nat_eq name (xs ++ ys)) e))
+front (x ∷ xs) ys (n ∷ name) e = and_from (nat_eq x n) (starts_with nat_eq name xs) (first_of (nat_eq x n) (starts_with nat_eq name (xs ++ ys)) e) (front xs ys name (second_of (nat_eq x n) (starts_with nat_eq name (xs ++ ys)) e))
 
 -- a function of an image that is named as a wrapper of an import is one
 out_text : (i : Interface) (m x : Module) → Guards i m x → (k : ℕ) (g : Function) → slice_get x.functions k ≡ Some g → starts_with nat_eq g.name out_prefix ≡ true →
@@ -247,7 +234,7 @@ kernel_numbered p name n (Some k) e h =
       it = f.it;
       entry = x.got ∙ ap (λ (y : ProgramFunction). Some y) (kernel_entry k x.it x.passes);
       got = f.got;
-      named = bytes_are f.it.name name (second_true (is_defined f.it) (bytes_eq f.it.name name) f.passes);
+      named = same_bytes f.it.name name (second_of (is_defined f.it) (bytes_eq f.it.name name) f.passes);
     }
 
 kernel_named : (p : Program) (name : List ℕ) (n : ℕ) → kernel_function p name ≡ Some n → KernelFunction p name n
@@ -324,9 +311,9 @@ text_found q (f ∷ fs) = text_found_by q f fs (q f.name) (text_found q fs)
 abbrev is_in : List ℕ → Function → Bool
 is_in name f = bytes_eq f.name (in_prefix ++ name)
 
--- no function of the module itself is named so
+-- no function of the module bytes_itself is named so
 plain_not_by : (n name : List ℕ) (b : Bool) → bytes_eq n (in_prefix ++ name) ≡ b → not (is_own_name n) ≡ true → b ≡ false
-plain_not_by n name true e h = is_not (is_own_name n) (ap is_own_name (bytes_are n (in_prefix ++ name) e)) h
+plain_not_by n name true e h = is_not (is_own_name n) (ap is_own_name (same_bytes n (in_prefix ++ name) e)) h
 plain_not_by n name false e h = refl
 
 plain_not : (n name : List ℕ) → not (is_own_name n) ≡ true → bytes_eq n (in_prefix ++ name) ≡ false
@@ -335,8 +322,8 @@ plain_not n name h = plain_not_by n name (bytes_eq n (in_prefix ++ name)) refl h
 none_plain : (name : List ℕ) (fs : List Function) → list_all (λ n. not (is_own_name n)) (names_of fs) ≡ true → find (is_in name) fs ≡ None
 none_plain name [] a = refl
 none_plain name (f ∷ fs) a =
-    passes_over (is_in name) f fs (plain_not f.name name (first_true (not (is_own_name f.name)) (list_all (λ n. not (is_own_name n)) (names_of fs)) a))
-    ∙ none_plain name fs (second_true (not (is_own_name f.name)) (list_all (λ n. not (is_own_name n)) (names_of fs)) a)
+    passes_over (is_in name) f fs (plain_not f.name name (first_of (not (is_own_name f.name)) (list_all (λ n. not (is_own_name n)) (names_of fs)) a))
+    ∙ none_plain name fs (second_of (not (is_own_name f.name)) (list_all (λ n. not (is_own_name n)) (names_of fs)) a)
 
 -- nor a wrapper of an import
 none_out_if : (name : List ℕ) (i : Interface) (n : ℕ) (f : Function) (ws : List Function) (b : Bool) → find (is_in name) ws ≡ None → find (is_in name) (out_if b i n f ++ ws) ≡ None
@@ -384,7 +371,7 @@ pub first_from : (m : Module) (n : ℕ) (f : Function) (fs : List Function) → 
 first_from m n f fs h = let e : n ≡ n + 0 = omega arith in ap (slice_get m.functions) e ∙ sym (h 0)
 
 turned : (a b : List ℕ) (d : Bool) → bytes_eq b a ≡ d → bytes_eq a b ≡ false → d ≡ false
-turned a b true e h = true_false (sym (ap (bytes_eq a) (bytes_are b a e) ∙ itself a) ∙ h)
+turned a b true e h = true_false (sym (ap (bytes_eq a) (same_bytes b a e) ∙ bytes_itself a) ∙ h)
 turned a b false e h = refl
 
 none_later : (i : Interface) (m : Module) (name : List ℕ) (n : ℕ) (fs : List Function) → From m n fs → list_any (bytes_eq name) (names_of fs) ≡ false → find (is_in name) (filter_map (in_wrapper i m) (annotated_from i m n fs)) ≡ None
@@ -397,7 +384,7 @@ none_later i m name n (f ∷ fs) h a =
 
 here_found : (i : Interface) (n : ℕ) (f : Function) (s : Option ℕ) (ws : List Function) → find (is_in f.name) ws ≡ None → find (is_in f.name) (cons_option (wrapper_if i n f s) ws) ≡ wrapper_if i n f s
 here_found i n f None ws h = h
-here_found i n f (Some t) ws h = finds (is_in f.name) (wrapper_of f n (slot_annotation i t) In) ws (itself f.name)
+here_found i n f (Some t) ws h = finds (is_in f.name) (wrapper_of f n (slot_annotation i t) In) ws (bytes_itself f.name)
 
 not_here : (n : List ℕ) (ns : List (List ℕ)) (k : ℕ) (b : List ℕ) → list_any (bytes_eq n) ns ≡ false → slice_get ns k ≡ Some b → bytes_eq n b ≡ false
 not_here n [] k b a e = none_some e
@@ -416,21 +403,21 @@ in_found i m n (f ∷ fs) zero num g en h d e =
     subst (λ (y : Function). find (is_in y.name) (filter_map (in_wrapper i m) (annotated_from i m n (f ∷ fs))) ≡ wrapper_if i num y (slot_if (is_defined y) (slot_of i m num))) one
     (ap (find (is_in f.name)) (marks_wrap i m n f (is_defined f) (slot_of i m n) (annotated_from i m (suc n) fs) (first_from m n f fs h))
     ∙ (here_found i n f (slot_if (is_defined f) (slot_of i m n)) (filter_map (in_wrapper i m) (annotated_from i m (suc n) fs))
-    (none_later i m f.name (suc n) fs (next_from m n f fs h) (not-true (list_any (bytes_eq f.name) (names_of fs)) (first_true (not (list_any (bytes_eq f.name) (names_of fs))) (is_distinct (names_of fs)) d)))
+    (none_later i m f.name (suc n) fs (next_from m n f fs h) (not-true (list_any (bytes_eq f.name) (names_of fs)) (first_of (not (list_any (bytes_eq f.name) (names_of fs))) (is_distinct (names_of fs)) d)))
     ∙ ap (λ (a : ℕ). wrapper_if i a f (slot_if (is_defined f) (slot_of i m a))) same))
 in_found i m n (f ∷ fs) (suc k) num g en h d e =
     let next : num ≡ suc n + k = omega (arith, en) in
     ap (find (is_in g.name)) (marks_wrap i m n f (is_defined f) (slot_of i m n) (annotated_from i m (suc n) fs) (first_from m n f fs h))
     ∙ (other_over i n f g.name (slot_if (is_defined f) (slot_of i m n)) (filter_map (in_wrapper i m) (annotated_from i m (suc n) fs))
-    (not_here f.name (names_of fs) k g.name (not-true (list_any (bytes_eq f.name) (names_of fs)) (first_true (not (list_any (bytes_eq f.name) (names_of fs))) (is_distinct (names_of fs)) d)) (name_got fs k g e))
-    ∙ in_found i m (suc n) fs k num g next (next_from m n f fs h) (second_true (not (list_any (bytes_eq f.name) (names_of fs))) (is_distinct (names_of fs)) d) e)
+    (not_here f.name (names_of fs) k g.name (not-true (list_any (bytes_eq f.name) (names_of fs)) (first_of (not (list_any (bytes_eq f.name) (names_of fs))) (is_distinct (names_of fs)) d)) (name_got fs k g e))
+    ∙ in_found i m (suc n) fs k num g next (next_from m n f fs h) (second_of (not (list_any (bytes_eq f.name) (names_of fs))) (is_distinct (names_of fs)) d) e)
 
 pub from_start : (m : Module) → From m 0 m.functions
 from_start m j = let e : j ≡ 0 + j = omega arith in ap (slice_get m.functions) e
 
 distinct_second : (xs ys : List (List ℕ)) → is_distinct (xs ++ ys) ≡ true → is_distinct ys ≡ true
 distinct_second [] ys d = d
-distinct_second (x ∷ xs) ys d = distinct_second xs ys (second_true (not (list_any (bytes_eq x) (xs ++ ys))) (is_distinct (xs ++ ys)) d)
+distinct_second (x ∷ xs) ys d = distinct_second xs ys (second_of (not (list_any (bytes_eq x) (xs ++ ys))) (is_distinct (xs ++ ys)) d)
 
 -- among the functions of an image
 image_found : (i : Interface) (m x : Module) → Guards i m x → is_distinct (names_of m.functions) ≡ true → (k : ℕ) (g : Function) → slice_get m.functions k ≡ Some g → is_defined g ≡ true →
@@ -475,7 +462,7 @@ entry_lines c h n (Some (Native k)) en g eg = (plain_wording, refl)
 entry_lines c h n (Some (Of None k)) en None eg = (plain_wording, refl)
 entry_lines c h n (Some (Of None k)) en (Some g) eg = (wording_of g k, refl)
 entry_lines c h n (Some (Of (Some m) k)) en (Some g) eg = module_lines c h n m k g en eg
-entry_lines c h n (Some (Of (Some m) k)) en None eg = none_some (sym eg ∙ (there (module_of c.program (Some m)).functions k (h.linked.table n m k en).1).1)
+entry_lines c h n (Some (Of (Some m) k)) en None eg = none_some (sym eg ∙ (there_is (module_of c.program (Some m)).functions k (h.linked.table n m k en).1).1)
 
 entered_right : (c : Code) → HasImages c → (n : ℕ) → IsWrapperOf c n (in_lines c n)
 entered_right c h n = entry_lines c h n (slice_get c.program.functions n) refl (function_of c.program n) refl

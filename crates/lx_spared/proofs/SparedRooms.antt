@@ -1,12 +1,10 @@
 -- Rooms spare just the stores that may lack their guard, and instructions of lawful functions have their forms.
-use Rattle.std.proofs.Common.{◌≡◌, ℕ, ◌<◌, Bool, true, ◌&&◌, Option, Some, None, List, [], ◌∷◌, refl, ap, ◌∙◌, arith}
+use Rattle.std.proofs.Common.{◌≡◌, ℕ, ◌<◌, Bool, true, ◌&&◌, Option, Some, None, List, [], ◌∷◌, refl, ap, ◌∙◌}
 use Rattle.std.specs.Prelude.{nat_le, flat_map}
 use Rattle.std.specs.List.{list_all}
 use Rattle.std.proofs.lemmas.Bool.{and_from}
-use Rattle.lx_words.specs.declared.word.Width.TheVariants.{W1, W8, W16, W32, W64}
 use Rattle.lx_words.proofs.Tests.{first_of, second_of}
 use Rattle.lx_ir.specs.declared.types.Scalar.{Scalar}
-use Rattle.lx_ir.specs.declared.types.Scalar.TheVariants.{Int, Ptr}
 use Rattle.lx_ir.specs.declared.types.NamedType.{NamedType}
 use Rattle.lx_ir.specs.declared.module.Value.{Value}
 use Rattle.lx_ir.specs.declared.module.Value.TheVariants as value
@@ -20,6 +18,7 @@ use Rattle.lx_ir.specs.Layout.{scalar_size}
 use Rattle.lx_ir.specs.Lookup.{blocks_of, blocks_of_option}
 use Rattle.lx_ir.specs.Operands.{operands_of}
 use Rattle.lx_ir.specs.Lawful.{has_form, is_label, ends_once, is_lawful_value, is_lawful_op, is_lawful_block, is_lawful_function}
+use Rattle.lx_ir.proofs.Layouts.{scalar_align}
 use Rattle.lx_image_texts.proofs.Erasing.{lawful_blocks}
 use Rattle.lx_image_texts.specs.Spared.{is_spared_at, is_spared_in}
 use Rattle.lx_spared.specs.Rooms.{room_at, has_room, spared_by}
@@ -28,19 +27,11 @@ use Rattle.lx_spared.proofs.Stacked.{room_is}
 
 -- rooms spare what is spared
 
-positive : (ty : Scalar) → 0 < scalar_size ty
-positive Ptr = omega arith
-positive (Int W1) = omega arith
-positive (Int W8) = omega arith
-positive (Int W16) = omega arith
-positive (Int W32) = omega arith
-positive (Int W64) = omega arith
-
 abbrev AreRooms : List NamedType → List Instr → List (ℕ × ℕ) → Type 0
 AreRooms types is rooms = (r : ℕ) → room_at rooms r ≡ kept_room r is (widest types r 0 is)
 
 room_spares : (types : List NamedType) (is : List Instr) (rooms : List (ℕ × ℕ)) → AreRooms types is rooms → (ty : Scalar) (at : Value) → has_room rooms (scalar_size ty) at ≡ is_spared_at types is (scalar_size ty) at
-room_spares types is rooms h ty (value.Register r) = ap (nat_le (scalar_size ty)) (h r) ∙ room_is types r (scalar_size ty) is (positive ty)
+room_spares types is rooms h ty (value.Register r) = ap (nat_le (scalar_size ty)) (h r) ∙ room_is types r (scalar_size ty) is (scalar_align ty)
 room_spares types is rooms h ty (value.Constant c) = refl
 
 pub spared_is : (types : List NamedType) (is : List Instr) (rooms : List (ℕ × ℕ)) → AreRooms types is rooms → (o : Op) → spared_by rooms o ≡ is_spared_in types is o

@@ -4,6 +4,8 @@ use Rattle.std.specs.Prelude.{◌⊎◌, cond, bytes_eq, codes, unwrap_or, if◌
 use Rattle.std.proofs.lemmas.Bool.{cases_lt}
 use Rattle.std.proofs.lemmas.List.{drop_all}
 use Rattle.std.proofs.lemmas.Option.{slice_get_past}
+use Rattle.lx_words.proofs.Tests.{below_next}
+use Rattle.lx_words.proofs.Lists.{rest_at}
 use Rattle.lx_ir.specs.declared.module.Function.{Function as TextFunction}
 use Rattle.lx_ir.specs.declared.module.Module.{Module}
 use Rattle.lx_ir.specs.Lookup.{is_defined}
@@ -21,8 +23,6 @@ use Rattle.lx_surface.specs.Right.{IsRight}
 use Rattle.lx_surface.specs.Work.{Grows, given}
 use Rattle.lx_surface.proofs.Rights.{grows_on, put_grows, put_right, same_grows}
 use Rattle.lx_surface.proofs.Sets.{allows_more, thing_there}
-use Rattle.lx_model.proofs.Items.{rest_at}
-use Rattle.lx_model.proofs.Tests.{below_next}
 use Rattle.lx_model.proofs.Homes.{own_named}
 
 -- functions that modules define

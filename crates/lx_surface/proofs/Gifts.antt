@@ -6,6 +6,7 @@ use Rattle.std.proofs.lemmas.Bool.{and_from, and_parts, or_cases, or_left, or_ri
 use Rattle.std.proofs.lemmas.Bool.Decides.{nat_tests}
 use Rattle.std.proofs.lemmas.List.{drop_all}
 use Rattle.std.proofs.lemmas.Option.{slice_get_within}
+use Rattle.lx_words.proofs.Lists.{rest_at}
 use Rattle.lx_annot.specs.declared.action.Annotation.{Annotation}
 use Rattle.lx_annot.specs.declared.action.CapSpec.{CapSpec}
 use Rattle.lx_annot.specs.declared.action.CapSpec.TheVariants as spec
@@ -30,7 +31,6 @@ use Rattle.lx_surface.specs.Work.{given, is_given}
 use Rattle.lx_surface.proofs.Rights.{from_grows, from_right, given_more, grows_on, mark_grows, mark_right, put_grows, put_right, same_grows}
 use Rattle.lx_surface.proofs.Sets.{itself, same_thing, thing_there}
 use Rattle.lx_surface.proofs.Tables.{wait_there}
-use Rattle.lx_model.proofs.Items.{rest_at}
 
 -- one thing
 

@@ -1,5 +1,6 @@
 -- Lines that are there or not.
 use Rattle.std.proofs.Common.{◌≡◌, ℕ, Bool, true, false, Option, Some, None, List, [], ◌++◌, slice_get, sym, ap, ◌∙◌}
+use Rattle.lx_words.proofs.Lists.{nothing_behind}
 use Rattle.lx_ir.specs.declared.module.Function.{Function as TextFunction}
 use Rattle.lx_model.specs.declared.program.Program.{Program}
 use Rattle.lx_model.specs.declared.program.ProgramFunction.{ProgramFunction}
@@ -8,7 +9,6 @@ use Rattle.lx_surface.specs.declared.Thing.TheVariants.{RefType, Function}
 use Rattle.lx_surface.specs.declared.limits.Bound.{Bound}
 use Rattle.lx_surface.specs.Bound.{allows}
 use Rattle.lx_surface.specs.Text.{call_line, entry_line, line_if, named_line}
-use Rattle.lx_model.proofs.Items.{nothing_behind}
 
 pub line : (b : Bool) (old new text : List ℕ) → b ≡ true → new ≡ old ++ text → new ≡ old ++ line_if b text
 line b old new text is put = put ∙ ap (λ c. old ++ line_if c text) (sym is)

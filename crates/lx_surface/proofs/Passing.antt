@@ -1,6 +1,7 @@
 -- What a module can hold goes to all who wait for it.
 use Rattle.std.proofs.Common.{◌≡◌, ℕ, zero, suc, ◌+◌, ◌<◌, Bool, true, false, Option, Some, None, inl, inr, List, slice_get, refl, sym, ap, subst, ◌∙◌, arith}
 use Rattle.std.specs.Prelude.{◌⊎◌}
+use Rattle.lx_words.proofs.Tests.{below_next}
 use Rattle.lx_model.specs.declared.program.Program.{Program}
 use Rattle.lx_surface.specs.declared.Thing.{Thing}
 use Rattle.lx_surface.specs.declared.Thing.TheVariants.{RefType, Function}
@@ -15,7 +16,6 @@ use Rattle.lx_surface.specs.Work.{Grows, given}
 use Rattle.lx_surface.proofs.Places.{number_place, past}
 use Rattle.lx_surface.proofs.Rights.{grows_on, put_grows, put_right, same_grows}
 use Rattle.lx_surface.proofs.Sets.{allows_more, thing_there}
-use Rattle.lx_model.proofs.Tests.{below_next}
 
 -- one module
 

@@ -1,6 +1,7 @@
 -- What is so at each turn stays so where something is put.
 use Rattle.std.proofs.Common.{◌≡◌, ℕ, zero, suc, ◌<◌, ◌≤◌, Bool, true, false, Option, Some, None, inl, inr, List, [], ◌∷◌, ◌++◌, length, slice_get, refl, sym, ap, subst, ◌∙◌, arith}
 use Rattle.std.specs.Prelude.{◌⊎◌, if◌then◌else◌, ⊤}
+use Rattle.lx_words.proofs.Tests.{le_trans}
 use Rattle.lx_model.specs.declared.program.Program.{Program}
 use Rattle.lx_surface.specs.declared.Thing.{Thing}
 use Rattle.lx_surface.specs.declared.Thing.TheVariants.{RefType, Function}
@@ -17,7 +18,6 @@ use Rattle.lx_surface.specs.Work.{Extends, Grows, IsEmpty, IsLonger, given, give
 use Rattle.lx_surface.proofs.Places.{earlier, longer_length, stands}
 use Rattle.lx_surface.proofs.Sets.{allows_more, extends_on, same_extends, thing_extends, thing_sound, thing_there}
 use Rattle.lx_surface.proofs.Tables.{mark_from, receiver_more, receiver_there, wait_from, wait_more, wait_there}
-use Rattle.lx_model.proofs.Tests.{at_most}
 
 -- growing
 
@@ -60,8 +60,8 @@ bound_grows w b more = record { bound = more; waiting = λ m k x is. is }
 
 bound_right : (p : Program) (i j : ℕ) (w : Work) (b : Bound) → IsRight p i j w → Extends w.bound b → IsSound p b → IsRight p i j (record w { bound = b })
 bound_right p i j w b right more sound = record {
-  functions_within = at_most i (length w.bound.functions) (length b.functions) right.functions_within (longer_length w.bound.functions b.functions more.functions);
-  references_within = at_most j (length w.bound.references) (length b.references) right.references_within (longer_length w.bound.references b.references more.references);
+  functions_within = le_trans i (length w.bound.functions) (length b.functions) right.functions_within (longer_length w.bound.functions b.functions more.functions);
+  references_within = le_trans j (length w.bound.references) (length b.references) right.references_within (longer_length w.bound.references b.references more.references);
   sound = sound;
   waits_soundly = right.waits_soundly;
   known = right.known;

@@ -4,6 +4,7 @@ use Rattle.std.specs.Prelude.{◌⊎◌, ◌&&◌, ◌||◌, nat_eq, if◌then�
 use Rattle.std.specs.List.{list_any}
 use Rattle.std.proofs.lemmas.Bool.{and_parts, cases_Bool, eq-eqb, eqb-true, or_cases, or_left, or_right}
 use Rattle.std.proofs.lemmas.List.Folds.{list_any-append}
+use Rattle.lx_words.proofs.Lists.{nothing_behind}
 use Rattle.lx_model.specs.declared.program.Program.{Program}
 use Rattle.lx_surface.specs.declared.Thing.{Thing}
 use Rattle.lx_surface.specs.declared.Thing.TheVariants.{RefType, Function}
@@ -14,7 +15,6 @@ use Rattle.lx_surface.specs.Bound.{allows, with_thing}
 use Rattle.lx_surface.specs.Naming.{is_thing}
 use Rattle.lx_surface.specs.Right.{IsSound}
 use Rattle.lx_surface.specs.Work.{Extends, IsLonger}
-use Rattle.lx_model.proofs.Items.{nothing_behind}
 use Rattle.lx_surface.proofs.Places.{itself as is_itself}
 
 -- longer lists

@@ -1,6 +1,7 @@
 -- Each pair has its turn.
 use Rattle.std.proofs.Common.{◌≡◌, ℕ, zero, suc, ◌+◌, ◌<◌, ◌≤◌, Bool, true, false, Option, Some, None, inl, inr, List, length, slice_get, refl, sym, ap, subst, ◌∙◌, arith}
 use Rattle.std.specs.Prelude.{◌⊎◌}
+use Rattle.lx_words.proofs.Tests.{below_next}
 use Rattle.lx_model.specs.declared.program.Program.{Program}
 use Rattle.lx_model.specs.Program.{Home, home_of}
 use Rattle.lx_surface.specs.declared.Thing.{Thing}
@@ -16,7 +17,6 @@ use Rattle.lx_surface.specs.Work.{Grows, is_given}
 use Rattle.lx_surface.proofs.Places.{at_end, earlier, first_is, past, place_of, second_is, stands, within}
 use Rattle.lx_surface.proofs.Rights.{given_more, grows_on, same_grows}
 use Rattle.lx_surface.proofs.Sets.{allows_more}
-use Rattle.lx_model.proofs.Tests.{below_next}
 
 one_more : (n l : ℕ) → n < l → n + 1 ≤ l
 one_more n l h = omega (arith, h)

@@ -1,29 +1,16 @@
 -- The journal has one entry more for each request that is served.
-use Rattle.std.proofs.Common.{◌≡◌, ◌∙◌, refl, ap, ℕ, Option, Some, None, List, [], ◌∷◌, ◌++◌, map}
+use Rattle.std.proofs.Common.{◌≡◌, ◌∙◌, refl, ap, ℕ, List, [], ◌∷◌, ◌++◌, map}
 use Rattle.lx_model.specs.declared.program.Program.{Program}
-use Rattle.lx_model.specs.declared.request.Entry.{Entry as JournalEntry}
-use Rattle.lx_model.specs.declared.request.Outcome.{Outcome}
-use Rattle.lx_model.specs.declared.request.Request.{Request}
 use Rattle.lx_model.specs.State.{State}
-use Rattle.lx_model.specs.Decide.{decide}
-use Rattle.lx_model.specs.Serve.{serve, serve_by}
 use Rattle.lx_caplock.specs.declared.knowledge.Entry.{Entry}
 use Rattle.lx_caplock.specs.Serving.{served_by, state_after}
 use Rattle.lx_threads.specs.Monitor.{threads_of}
-use Rattle.lx_model.proofs.Journals.{granted_journal}
 use Rattle.lx_model.proofs.Threads.{threads_push}
-
-served_journal : (p : Program) (s : State) (t : ℕ) (r : Request) (d : Option Outcome) → (serve_by d p s t r).state.journal ≡ s.journal
-served_journal p s t r (Some o) = refl
-served_journal p s t r None = granted_journal p s t r.who r.what
-
--- the entry of a request that was served
-pub journal_more : (p : Program) (s : State) (t : ℕ) (r : Request) → (serve p s t r).state.journal ≡ s.journal ++ record { thread = t; request = r; reply = (serve p s t r).reply } ∷ []
-journal_more p s t r = let x = serve_by (decide p s t r) p s t r in ap (λ (l : List JournalEntry). l ++ record { thread = t; request = r; reply = x.reply } ∷ []) (served_journal p s t r (decide p s t r))
+use Rattle.lx_run_laws.proofs.Journal.{noted}
 
 journal_one : (p : Program) (s : State) (e : Entry) → map (λ x. x.thread) (served_by p s e).state.journal ≡ map (λ x. x.thread) s.journal ++ e.thread ∷ []
 journal_one p s e =
-    ap (map (λ x. x.thread)) (journal_more p s e.thread e.request) ∙ threads_push s.journal (record { thread = e.thread; request = e.request; reply = (served_by p s e).reply })
+    ap (map (λ x. x.thread)) (noted p s e.thread e.request) ∙ threads_push s.journal (record { thread = e.thread; request = e.request; reply = (served_by p s e).reply })
 
 in_order : (xs ys : List ℕ) (t : ℕ) → (xs ++ t ∷ []) ++ ys ≡ xs ++ t ∷ ys
 in_order [] ys t = refl

@@ -10,7 +10,9 @@ use Rattle.lx_model.specs.Next.{next}
 use Rattle.lx_model.specs.Serve.{serve}
 use Rattle.lx_model.specs.State.{State}
 use Rattle.lx_model.specs.Thread.{Thread, has_work}
-use Rattle.lx_model.specs.World.{World, works, can_act, event, event_of, event_if, after_request, run, is_done, is_whole}
+use Rattle.lx_model.specs.World.{World, works, can_act, event, run, is_done, is_whole}
+use Rattle.lx_run_laws.proofs.Stops.{worked}
+use Rattle.lx_run_laws.proofs.Journal.{noted}
 use Rattle.lx_images.specs.Image.{Code, ImageThread}
 use Rattle.lx_images.specs.ImageWorld.{ImageWorld, image_run}
 use Rattle.lx_images.specs.Shown.{shown}
@@ -22,7 +24,6 @@ use Rattle.lx_threads.specs.Machines.{IsEvent, AreEvents}
 use Rattle.lx_threads.specs.Monitor.{threads_of}
 use Rattle.lx_threads.specs.Imaged.{imaged, IsImageRun}
 use Rattle.lx_threads.specs.Monitored.{StandsThroughout, IsMonitorEvent, AreMonitorEvents, IsMonitored}
-use Rattle.lx_threads.proofs.Journals.{journal_more}
 use Rattle.lx_threads.proofs.Schedules.{world, absorbed, event_is, shown_at}
 
 -- a thread that can act is there
@@ -46,10 +47,6 @@ same_last xs ys x y same =
     sym (last_is at (map seen xs) (seen x))
     ∙ (ap (last at) (sym (map-append seen xs (x ∷ [])) ∙ (same ∙ map-append seen ys (y ∷ []))) ∙ last_is at (map seen ys) (seen y))
 
--- an event of a thread that is there
-event_there : (p : Program) (t : ℕ) (w : World) (x : Thread) → slice_get w.threads t ≡ Some x → has_work x ≡ true → event p t w ≡ after_request p t w (next p t x)
-event_there p t w x there work = ap (λ o. event_of o p t w) there ∙ ap (λ b. event_if b p t w x) work
-
 module _ (showing : ShowingLaws) (c : Code) where
   -- the world and the images behind an event
   behind_event : (s : State) (vs : List ImageThread) (e : Entry) (v : ImageThread) (w : World) → IsEvent (imaged c) c.program s vs e v → StandsThroughout c w (world s vs)
@@ -67,9 +64,9 @@ module _ (showing : ShowingLaws) (c : Code) where
       let r : Request = (next p t x).request in
       let journals = (behind_event s vs e v w is throughout []).state.journal in
       let theirs : (event p t w).state.journal ≡ w.state.journal ++ record { thread = t; request = r; reply = (serve p w.state t r).reply } ∷ []
-      = ap (λ (u : World). u.state.journal) (event_there p t w x at.1 at.2) ∙ journal_more p w.state t r in
+      = ap (λ (u : World). u.state.journal) (worked p t w x at.1 at.2) ∙ noted p w.state t r in
       let same : seen (record { thread = t; request = e.request; reply = (served_by p s e).reply }) ≡ seen (record { thread = t; request = r; reply = (serve p w.state t r).reply })
-      = same_last s.journal w.state.journal _ _ (sym (ap (map seen) (journal_more p s t e.request)) ∙ (journals ∙ ap (map seen) theirs)) in record {
+      = same_last s.journal w.state.journal _ _ (sym (ap (map seen) (noted p s t e.request)) ∙ (journals ∙ ap (map seen) theirs)) in record {
         thread = x;
         there = at.1;
         work = at.2;

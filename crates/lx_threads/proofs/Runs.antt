@@ -10,10 +10,10 @@ use Rattle.lx_caplock.specs.History.{entries_of}
 use Rattle.lx_caplock.specs.Serving.{IsLegal, served_by}
 use Rattle.lx_threads.specs.Machines.{Machine, IsNext, Made, AllMade, IsEvent, AreEvents}
 
-calls_here : (k : ℕ) (e : Entry) (es : List Entry) → k ≡ e.seat → entries_of k (e ∷ es) ≡ e ∷ entries_of k es
+pub calls_here : (k : ℕ) (e : Entry) (es : List Entry) → k ≡ e.seat → entries_of k (e ∷ es) ≡ e ∷ entries_of k es
 calls_here k e es is = ap (λ b. if b then e ∷ entries_of k es else entries_of k es) (eq-eqb k e.seat is)
 
-calls_else : (k : ℕ) (e : Entry) (es : List Entry) → k ≢ e.seat → entries_of k (e ∷ es) ≡ entries_of k es
+pub calls_else : (k : ℕ) (e : Entry) (es : List Entry) → k ≢ e.seat → entries_of k (e ∷ es) ≡ entries_of k es
 calls_else k e es not = ap (λ b. if b then e ∷ entries_of k es else entries_of k es) (ne_eqb k e.seat not)
 
 module _ {N : Type 0} (machine : Machine N) where

@@ -1,5 +1,5 @@
 -- A run whose events are gathered, entry by entry of its schedule.
-use Rattle.std.proofs.Common.{◌≡◌, ◌∙◌, refl, sym, ap, subst, ℕ, ◌+◌, ◌<◌, ◌≤◌, true, false, List, [], ◌∷◌, ◌++◌, append_assoc, length, drop, take, get_or, Option, Some, None, option_map, arith}
+use Rattle.std.proofs.Common.{◌≡◌, ◌∙◌, sym, ap, subst, ℕ, ◌+◌, ◌<◌, ◌≤◌, true, false, List, [], ◌∷◌, ◌++◌, append_assoc, length, drop, take, get_or, Option, Some, None, option_map}
 use Rattle.std.specs.Option.{option_to_list}
 use Rattle.std.proofs.lemmas.List.{drop_all, drop_more, take_all, take_more}
 use mathlib.Core.List.{append-nil}
@@ -12,6 +12,7 @@ use Rattle.lx_runs.specs.Reports.{broken_at}
 use Rattle.lx_runs.proofs.Replays.{at_end, done_end, here, more as on}
 use Rattle.lx_runs.proofs.Wholes.{end_if, entry_if}
 use Rattle.lx_trace_text.specs.declared.Traced.{Traced}
+use Rattle.lx_runs.proofs.Certifying.{none_added}
 use Rattle.lx_trace.specs.Run.{IsOfRun, StandsForTrace}
 use Rattle.lx_trace.specs.Trace.{behind, trace, traced_at}
 use Rattle.lx_trace.specs.declared.run.TraceRun.{TraceRun}
@@ -28,10 +29,6 @@ pub record HasGathered {C : Type 0} (stands : C → History → Type 0) (p : Pro
   pub stands_for : StandsForTrace stands p script (take n s) r
   pub gathered : events ≡ trace p (take n s) (opening p script)
   pub broken : broken_at p s (opening p script) ≡ option_map (λ k. n + k) (broken_at p (drop n s) (behind p script (take n s)))
-
-none_added : (o : Option ℕ) → o ≡ option_map (λ k. 0 + k) o
-none_added None = refl
-none_added (Some k) = ap Some (omega arith)
 
 -- none is done
 pub none_gathered : {C : Type 0} (stands : C → History → Type 0) (p : Program) (script : List (List ScriptCall)) (s : List ℕ) (r : TraceRun C) (events : List Traced) → events ≡ [] → StandsForTrace stands p script [] r → HasGathered stands p script s 0 r events

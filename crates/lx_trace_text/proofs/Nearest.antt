@@ -4,17 +4,9 @@ use Rattle.std.specs.Option.{IsSome}
 use Rattle.std.specs.Ordering.{is_gt, nat_cmp}
 use Rattle.std.specs.declared.cmp.Ordering.TheVariants.{Less, Equal, Greater}
 use Rattle.std.proofs.lemmas.Bool.Decides.{nat_tests}
+use Rattle.lx_words.proofs.Tests.{eq_self, true_eq, true_le}
 use Rattle.lx_trace_text.specs.declared.blocks.Block.{Block}
 use Rattle.lx_trace_text.specs.Blocks.{nearer, nearest, newest}
-
-equal : (a b : ℕ) → nat_eq a b ≡ true → a ≡ b
-equal a b e = grind (arith, nat_tests, e)
-
-same : (a : ℕ) → nat_eq a a ≡ true
-same a = grind (arith, nat_tests)
-
-at_most : (a b : ℕ) → nat_le a b ≡ true → a ≤ b
-at_most a b e = grind (arith, nat_tests, e)
 
 -- the newest block with a start starts there
 pub newest_starts : (bs : List Block) (k : ℕ) (b : Block) → newest bs k ≡ Some b → b.start ≡ k
@@ -22,12 +14,12 @@ newest_starts [] k b h = absurd (cc h)
 newest_starts (c ∷ bs) k b h = by (newest_starts bs k b) (nat_eq c.start k) refl h
   where
     by : (newest bs k ≡ Some b → b.start ≡ k) → (t : Bool) → nat_eq c.start k ≡ t → cond t (Some c) (newest bs k) ≡ Some b → b.start ≡ k
-    by rest true e g = let s : c ≡ b = cc g in ap (λ (x : Block). x.start) (sym s) ∙ equal c.start k e
+    by rest true e g = let s : c ≡ b = cc g in ap (λ (x : Block). x.start) (sym s) ∙ true_eq c.start k e
     by rest false e g = rest g
 
 -- a block in front has its start
 pub front_has : (b : Block) (bs : List Block) → newest (b ∷ bs) b.start ≡ Some b
-front_has b bs = by (nat_eq b.start b.start) (same b.start)
+front_has b bs = by (nat_eq b.start b.start) (eq_self b.start)
   where
     by : (t : Bool) → t ≡ true → cond t (Some b) (newest bs b.start) ≡ Some b
     by true e = refl
@@ -50,11 +42,11 @@ nearest_up_to [] a b h = absurd (cc h)
 nearest_up_to (c ∷ bs) a b h = by (nearest_up_to bs a b) (nearest bs a) refl h
   where
     alone : (t : Bool) → nat_le c.start a ≡ t → (if t then Some c else None) ≡ Some b → b.start ≤ a
-    alone true f g = let s : c ≡ b = cc g in subst (λ (x : Block). x.start ≤ a) s (at_most c.start a f)
+    alone true f g = let s : c ≡ b = cc g in subst (λ (x : Block). x.start ≤ a) s (true_le c.start a f)
     alone false f g = absurd (cc g)
 
     two : (d : Block) → (Some d ≡ Some b → b.start ≤ a) → (t : Bool) → nat_le c.start a ≡ t → (u : Bool) → (if t && u then Some c else Some d) ≡ Some b → b.start ≤ a
-    two d rest true f true g = let s : c ≡ b = cc g in subst (λ (x : Block). x.start ≤ a) s (at_most c.start a f)
+    two d rest true f true g = let s : c ≡ b = cc g in subst (λ (x : Block). x.start ≤ a) s (true_le c.start a f)
     two d rest true f false g = rest g
     two d rest false f u g = rest g
 
@@ -93,7 +85,7 @@ nearest_none (b ∷ bs) a h = ap (nearer a b) (nearest_none bs a (λ k l. behind
     behind k false g = g
 
     by : (t : Bool) → nat_le b.start a ≡ t → (if t then Some b else None) ≡ None
-    by true e = absurd (cc (sym (front_has b bs) ∙ h b.start (at_most b.start a e)))
+    by true e = absurd (cc (sym (front_has b bs) ∙ h b.start (true_le b.start a e)))
     by false e = refl
 
 -- the newest block of the last start up to the address is the nearest one
@@ -119,7 +111,7 @@ nearest_is (c ∷ bs) a k b h l last =
 
     two : nat_eq c.start k ≡ false → b.start ≡ k → (t : Bool) → nat_le c.start a ≡ t → (u : Bool) → nat_le b.start c.start ≡ u → (if t && u then Some c else Some b) ≡ Some b
     two e starts true f true i =
-        let up : c.start ≤ k = last c.start (at_most c.start a f) (front_some c bs) in
+        let up : c.start ≤ k = last c.start (true_le c.start a f) (front_some c bs) in
         absurd (grind (arith, nat_tests, e, i, starts, up))
     two e starts true f false i = refl
     two e starts false f u i = refl
@@ -128,7 +120,7 @@ nearest_is (c ∷ bs) a k b h l last =
     behind e g rest = ap (nearer a c) rest ∙ two e (newest_starts bs k b g) (nat_le c.start a) refl (nat_le b.start c.start) refl
 
     by : (newest bs k ≡ Some b → nearest bs a ≡ Some b) → (t : Bool) → nat_eq c.start k ≡ t → cond t (Some c) (newest bs k) ≡ Some b → nearest (c ∷ bs) a ≡ Some b
-    by rest true e g = here (equal c.start k e) (cc g) (nearest bs a) refl
+    by rest true e g = here (true_eq c.start k e) (cc g) (nearest bs a) refl
     by rest false e g = behind e g (rest g)
 
 -- a number up to another one is not greater

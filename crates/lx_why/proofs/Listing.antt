@@ -2,6 +2,7 @@
 use Rattle.std.proofs.Common.{◌≡◌, ◌∙◌, refl, sym, ap, subst, ℕ, ◌+◌, ◌<◌, true, false, List, [], ◌∷◌, ◌++◌, map, take, get_or, length}
 use Rattle.std.proofs.lemmas.List.{take_more}
 use Rattle.std.proofs.lemmas.List.Elements.{filter_passes}
+use Rattle.lx_words.proofs.Lists.{map_append}
 use Rattle.lx_caps.specs.declared.Principal.{Principal}
 use Rattle.lx_caps.specs.declared.Principal.TheVariants.{Kernel, Shared, Global, Inst}
 use Rattle.lx_certificates.specs.declared.Need.{Need}
@@ -9,7 +10,6 @@ use Rattle.lx_certificates.specs.Certificates.{is_kernel}
 use Rattle.lx_model.specs.Authority.{is_module}
 use Rattle.lx_why.specs.ListedNeeds.{AreOfModules, of_modules}
 use Rattle.lx_why.proofs.Writing.{both}
-use Rattle.lx_caps.proofs.Items.{map_append}
 
 -- one thing's need more
 pub need_more : {A : Type 0} (f : A → Need) (xs : List A) (i : ℕ) (x : A) (old now new : List Need) → i < length xs → x ≡ get_or xs i x → now ≡ old ++ of_modules (map f (take i xs)) → new ≡ now ++ of_modules (f x ∷ [])

@@ -4,8 +4,8 @@ use Rattle.std.specs.Prelude.{filter, flat_map, if◌then◌else◌}
 use Rattle.std.proofs.lemmas.List.Elements.{filter-append}
 use Rattle.std.proofs.lemmas.Grind.{flat_map-append}
 use mathlib.Core.List.{append-nil}
+use Rattle.lx_words.proofs.Lists.{map_append}
 use Rattle.lx_slot_types.specs.Gets.{below}
-use Rattle.lx_caps.proofs.Items.{map_append}
 
 -- what passes of a list, and of one behind it
 pub both : {A : Type 0} (p : A → Bool) (xs ys old now new : List A) → now ≡ old ++ filter p xs → new ≡ now ++ filter p ys → new ≡ old ++ filter p (xs ++ ys)

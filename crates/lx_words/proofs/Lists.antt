@@ -101,7 +101,7 @@ pub map_length : {A B : Type 0} (f : A → B) (xs : List A) → length (map f xs
 map_length f [] = refl
 map_length f (x ∷ xs) = ap suc (map_length f xs)
 
-place_is_here : {A : Type 0} (p : A → Bool) (xs : List A) (k : ℕ) (b : Bool) → nat_lt (position_or_len p xs) (length xs) ≡ b → cond b (Some (position_or_len p xs)) None ≡ Some k → (position_or_len p xs ≡ k) × (position_or_len p xs < length xs)
+pub place_is_here : {A : Type 0} (p : A → Bool) (xs : List A) (k : ℕ) (b : Bool) → nat_lt (position_or_len p xs) (length xs) ≡ b → cond b (Some (position_or_len p xs)) None ≡ Some k → (position_or_len p xs ≡ k) × (position_or_len p xs < length xs)
 place_is_here p xs k true e h = (some_same h, less (position_or_len p xs) (length xs) e) where
   less : (a b : ℕ) → nat_lt a b ≡ true → a < b
   less a b h = grind (arith, h)
@@ -141,7 +141,7 @@ joined_then xs ys zs h e = ap (λ b. b && bytes_eq ys (drop (length xs) zs)) (sy
 pub joined_else : (xs ys zs : List ℕ) → length xs ≤ length zs → bytes_eq xs (take (length xs) zs) ≡ false → false ≡ bytes_eq (xs ++ ys) zs
 joined_else xs ys zs h e = ap (λ b. b && bytes_eq ys (drop (length xs) zs)) (sym e) ∙ joined_name xs ys zs h
 
-found_by : {A : Type 0} (t : A → Bool) (y x : A) (rest : Option A) (b : Bool) → t y ≡ b → (rest ≡ Some x → t x ≡ true) → cond b (Some y) rest ≡ Some x → t x ≡ true
+pub found_by : {A : Type 0} (t : A → Bool) (y x : A) (rest : Option A) (b : Bool) → t y ≡ b → (rest ≡ Some x → t x ≡ true) → cond b (Some y) rest ≡ Some x → t x ≡ true
 found_by t y x rest true is later found = let same : y ≡ x = cc in sym (ap t same) ∙ is
 found_by t y x rest false is later found = later found
 
@@ -207,7 +207,7 @@ from_start xs j = ap (slice_get xs) (omega arith)
 pub position_is : {A : Type 0} (p : A → Bool) (xs : List A) (k : ℕ) → position_or_len p xs ≡ k → k < length xs → position p xs ≡ Some k
 position_is p xs k e l = grind (arith, l, e)
 
-front_step : {A : Type 0} (p : A → Bool) (x : A) (xs ys : List A) (b : Bool) → p x ≡ b → cond (not b) (1 + position_or_len p ys) 0 < suc (length ys) → (position_or_len p ys < length ys → position_or_len p xs ≡ position_or_len p ys) →
+pub front_step : {A : Type 0} (p : A → Bool) (x : A) (xs ys : List A) (b : Bool) → p x ≡ b → cond (not b) (1 + position_or_len p ys) 0 < suc (length ys) → (position_or_len p ys < length ys → position_or_len p xs ≡ position_or_len p ys) →
     cond (not b) (1 + position_or_len p xs) 0 ≡ cond (not b) (1 + position_or_len p ys) 0
 front_step p x xs ys true e l ih = refl
 front_step p x xs ys false e l ih = ap (λ (n : ℕ). 1 + n) (ih (omega (arith, l)))

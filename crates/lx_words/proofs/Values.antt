@@ -5,13 +5,13 @@ use Rattle.std.proofs.lemmas.List.{drop_more}
 use Rattle.lx_words.specs.Text.{digit_value, number_from}
 
 -- more digits make no smaller number
-number_grows : (base number : ℕ) (digits : List ℕ) → 0 < base → number ≤ number_from base number digits
+pub number_grows : (base number : ℕ) (digits : List ℕ) → 0 < base → number ≤ number_from base number digits
 number_grows base number [] h = omega arith
 number_grows base number (d ∷ ds) h =
     let least : number * 1 ≤ number * base = mul-le-mul_left number h in
     omega (arith, least, number_grows base (number * base + digit_value d) ds h)
 
-next : (base number i : ℕ) (digits : List ℕ) → i < length digits → number_from base number (drop i digits) ≡ number_from base (number * base + digit_value (get_or digits i 0)) (drop (i + 1) digits)
+pub next : (base number i : ℕ) (digits : List ℕ) → i < length digits → number_from base number (drop i digits) ≡ number_from base (number * base + digit_value (get_or digits i 0)) (drop (i + 1) digits)
 next base number i digits lt = ap (number_from base number) (drop_more digits i 0 lt)
 
 -- a part that is too large makes the whole too large

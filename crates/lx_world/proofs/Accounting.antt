@@ -5,10 +5,10 @@ use Rattle.std.proofs.lemmas.Grind.{flat_map-append}
 use Rattle.std.proofs.lemmas.List.{flat_map_more}
 use Rattle.std.proofs.lemmas.List.Elements.{filter_map-append}
 use mathlib.Core.List.{append-nil}
+use Rattle.lx_words.proofs.Lists.{map_append}
 use Rattle.lx_caps.specs.declared.Principal.{Principal}
 use Rattle.lx_caps.specs.declared.Principal.TheVariants.{Shared, Global, Inst}
 use Rattle.lx_slot_types.specs.Gets.{below}
-use Rattle.lx_caps.proofs.Items.{map_append}
 
 below_more : {A : Type 0} (f : ℕ → A) (k : ℕ) → map f (below (k + 1)) ≡ map f (below k) ++ f k ∷ []
 below_more f k = ap (λ n. map f (below n)) (add-one k) ∙ map_append f (below k) (k ∷ [])

@@ -6,6 +6,7 @@ use Rattle.std.proofs.lemmas.Bool.{both_ways}
 use Rattle.std.proofs.lemmas.Bool.Decides.{nat_tests}
 use Rattle.std.proofs.lemmas.List.Concat.{flat_map-append}
 use mathlib.Core.List.{append-nil}
+use Rattle.lx_words.proofs.Tests.{first_of, second_of}
 use Rattle.lx_slot_types.specs.Gets.{below}
 use Rattle.lx_caps.specs.declared.Principal.{Principal}
 use Rattle.lx_caps.specs.declared.Cap.{Cap}
@@ -21,7 +22,6 @@ use Rattle.lx_model.specs.Owned.{owned_calls, owned_refs}
 use Rattle.lx_world.specs.Atoms.{caps_of}
 use Rattle.lx_world.specs.Listing.{IsListing}
 use Rattle.lx_world.proofs.Listed.{calls_are, refs_are}
-use Rattle.lx_caps.proofs.Tests.{first_true, second_true}
 
 -- an atom is one of a kind, with its number, or comes before all of the kind, or behind all
 abbrev Stands : (ℕ → Atom) → (Atom → List ℕ) → Atom → Type 0
@@ -38,7 +38,7 @@ module _ (f : ℕ → Atom) (g : Atom → List ℕ) (order : (n m : ℕ) → is_
   none_later : (y : Atom) (xs : List Atom) → ((m : ℕ) → is_before (f m) y ≡ true) → AreAllBehind p (Some y) xs → flat_map g xs ≡ []
   none_later y [] late all = refl
   none_later y (x ∷ xs) late all =
-      let yx : is_before y x ≡ true = first_true (is_before y x) (p x) all.0.0 in
+      let yx : is_before y x ≡ true = first_of (is_before y x) (p x) all.0.0 in
       let later : (m : ℕ) → is_before (f m) x ≡ true = λ m. behind_chain (Some (f m)) y x (late m) yx in
       elim (stands x) [
         | inl own ↦ one_way x (f own.0) (ap (λ z. is_before z (f own.0)) own.1 ∙ (ap (is_before (f own.0)) (sym own.1) ∙ later own.0)) (later own.0)
@@ -57,18 +57,18 @@ module _ (f : ℕ → Atom) (g : Atom → List ℕ) (order : (n m : ℕ) → is_
         | inl own ↦
             (let n = own.0 in
             let here : AreAllBehind p after (f n ∷ xs) = subst (λ y. AreAllBehind p after (y ∷ xs)) own.1 all in
-            let high : from ≤ n = leb-true from n (sym (cut n) ∙ first_true (is_behind after (f n)) (p (f n)) here.0.0) in
+            let high : from ≤ n = leb-true from n (sym (cut n) ∙ first_of (is_behind after (f n)) (p (f n)) here.0.0) in
             subst (λ ns. IsListing (λ m. p (f m)) from (ns ++ flat_map g xs)) (sym own.2) (
               high,
               (λ m le lt. not_owned (is_behind after (f m)) (p (f m)) (cut m ∙ le-leb from m le) (here.0.1 (f m) (order m n ∙ lt-ltb m n lt))),
-              second_true (is_behind after (f n)) (p (f n)) here.0.0,
+              second_of (is_behind after (f n)) (p (f n)) here.0.0,
               listing (Some (f n)) (suc n) xs (λ m. order n m ∙ lt_is n m) here.1,
             ))
         | inr other ↦
             subst (λ ns. IsListing (λ m. p (f m)) from (ns ++ flat_map g xs)) (sym other.0)
             (elim other.1 [
               | inl early ↦
-                  listing (Some x) from xs (λ m. early m ∙ (sym (behind_chain after x (f m) (first_true (is_behind after x) (p x) all.0.0) (early m)) ∙ cut m)) all.1
+                  listing (Some x) from xs (λ m. early m ∙ (sym (behind_chain after x (f m) (first_of (is_behind after x) (p x) all.0.0) (early m)) ∙ cut m)) all.1
               | inr late ↦
                   subst (IsListing (λ m. p (f m)) from) (sym (none_later x xs late all.1))
                   (λ m le. not_owned (is_behind after (f m)) (p (f m)) (cut m ∙ le-leb from m le) (all.0.1 (f m) (late m)))
@@ -117,10 +117,10 @@ module _ (h : History) (q : Principal) (xs : List Atom) (all : AreCallsAndRefs h
 -- no reference of one of the first types comes behind one of a later type
 none_lower : (p : Atom → Bool) (n t a : ℕ) (xs : List Atom) → n ≤ t → AreAllBehind p (Some (atom.Ref t a)) xs → flat_map (caps_of n) xs ≡ []
 none_lower p n t a [] le all = refl
-none_lower p n t a (atom.Byte b ∷ xs) le all = absurd (let no = first_true false (p (atom.Byte b)) all.0.0 in cc)
-none_lower p n t a (atom.Call b ∷ xs) le all = absurd (let no = first_true false (p (atom.Call b)) all.0.0 in cc)
+none_lower p n t a (atom.Byte b ∷ xs) le all = absurd (let no = first_of false (p (atom.Byte b)) all.0.0 in cc)
+none_lower p n t a (atom.Call b ∷ xs) le all = absurd (let no = first_of false (p (atom.Call b)) all.0.0 in cc)
 none_lower p n t a (atom.Ref u b ∷ xs) le all =
-    let up = first_true (is_before (atom.Ref t a) (atom.Ref u b)) (p (atom.Ref u b)) all.0.0 in
+    let up = first_of (is_before (atom.Ref t a) (atom.Ref u b)) (p (atom.Ref u b)) all.0.0 in
     let high : n ≤ u = grind (arith, nat_tests, up, le) in
     let no : nat_lt u n ≡ false = grind (arith, nat_tests, high) in
     ap (λ (c : Bool). (if c then cap.Ref u b ∷ [] else []) ++ flat_map (caps_of n) xs) no ∙ none_lower p n u b xs high all.1

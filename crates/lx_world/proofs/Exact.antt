@@ -1,9 +1,9 @@
 -- Runners that are exactly at their threads.
 use Rattle.std.proofs.Common.{◌≡◌, ℕ, zero, suc, ◌<◌, Bool, true, false, Option, Some, List, [], ◌∷◌, ◌++◌, map, length, IsTrue, inl, inr, refl, sym, ap, subst, ◌∙◌, arith}
 use Rattle.std.specs.Prelude.{nat_eq, option_map, slice_get, slice_set, slice_index_or, ◌⊎◌}
-use Rattle.std.proofs.lemmas.Bool.Decides.{nat_tests}
 use Rattle.std.proofs.lemmas.List.{map-append}
 use Rattle.std.proofs.lemmas.Option.{same_Some, slice_get_read, slice_get_within}
+use Rattle.lx_words.proofs.Tests.{true_eq, apart}
 use Rattle.lx_caps.specs.History.{History}
 use Rattle.lx_model.specs.declared.program.ScriptCall.{ScriptCall}
 use Rattle.lx_model.specs.declared.request.Reply.{Reply}
@@ -43,12 +43,6 @@ get_push [] (suc k) y z e = absurd (cc)
 get_push (x ∷ xs) zero y z e = inl e
 get_push (x ∷ xs) (suc k) y z e = elim (get_push xs k y z e) [ inl a ↦ inl a | inr b ↦ inr (ap suc b.0, b.1) ]
 
-other_place : (k t : ℕ) → nat_eq k t ≡ false → k ≡ t → ⊥
-other_place k t e = grind (arith, nat_tests, e)
-
-same_place : (k t : ℕ) → nat_eq k t ≡ true → k ≡ t
-same_place k t e = grind (arith, nat_tests, e)
-
 -- where all are exact, all but one are
 pub but_for : {C : Type 0} (t : ℕ) (c : Code) (w : World C) (v : ImageWorld) → IsExact c w v → IsExactBut t c w v
 but_for t c w v h = record { code = h.code; threads = record { others = λ k r x other e f. h.threads.each k r x e f } }
@@ -83,9 +77,9 @@ exact_more c rs new ys r calls t number is stand exact fresh =
 replaced_at : (c : Code) (t : ℕ) (rs : List Runner) (xs : List ImageThread) (after : Runner) (z : ImageThread) → AreAtBut t c rs xs → IsAt c t after z
     → (k : ℕ) (r : Runner) (x : ImageThread) (b : Bool) → nat_eq k t ≡ b → slice_get (slice_set rs t after) k ≡ Some r → slice_get (slice_set xs t z) k ≡ Some x → IsAt c k r x
 replaced_at c t rs xs after z h st k r x false is e f =
-    h.others k r x is (sym (set_other rs t k after (other_place k t is)) ∙ e) (sym (set_other xs t k z (other_place k t is)) ∙ f)
+    h.others k r x is (sym (set_other rs t k after (apart k t is)) ∙ e) (sym (set_other xs t k z (apart k t is)) ∙ f)
 replaced_at c t rs xs after z h st k r x true is e f =
-    let same = same_place k t is in
+    let same = true_eq k t is in
     let a = set_at rs t after r (ap (slice_get (slice_set rs t after)) (sym same) ∙ e) in
     let b = set_at xs t z x (ap (slice_get (slice_set xs t z)) (sym same) ∙ f) in
     subst (λ (n : ℕ). IsAt c n r x) (sym same) (subst (λ (p : Runner). IsAt c t p x) a (subst (λ (y : ImageThread). IsAt c t after y) b st))
@@ -149,7 +143,7 @@ exact_others old new c w t after code runners h =
     record {
       code = code ∙ h.code;
       threads = subst (λ (rs : List Runner). AreAtBut t c rs w.threads) (sym runners)
-          (record { others = λ k r x other e f. h.threads.others k r x other (sym (set_other old.runners.list.items t k after (other_place k t other)) ∙ e) f });
+          (record { others = λ k r x other e f. h.threads.others k r x other (sym (set_other old.runners.list.items t k after (apart k t other)) ∙ e) f });
     }
 
 pub place_told : {C : Type 0} (old : World C) (c : Code) (w : ImageWorld) (t : ℕ) (r : Runner) (at : Option Standing) (x : ImageThread) → r ≡ slice_index_or old.runners.list.items t r

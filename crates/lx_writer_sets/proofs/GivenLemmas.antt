@@ -3,13 +3,14 @@ use Rattle.std.proofs.Common.{◌≡◌, ◌∙◌, refl, sym, ap, ℕ, Bool, tr
 use Rattle.std.proofs.lemmas.Bool.Decides.{nat_tests}
 use Rattle.std.proofs.lemmas.List.Folds.{list_any-append}
 use Rattle.std.proofs.lemmas.Nat.Bits.{bit_at-zero}
+use Rattle.lx_words.proofs.Tests.{and_false, or_false}
 use Rattle.lx_caps.specs.declared.Principal.{Principal}
 use Rattle.lx_caps.specs.History.{same_principal}
 use Rattle.lx_writer_sets.specs.declared.entry.Entry.{Entry}
 use Rattle.lx_writer_sets.specs.Bits.{is_set}
 use Rattle.lx_writer_sets.specs.Nodes.{with_mask, put_node}
 use Rattle.lx_writer_sets.specs.Sets.{is_given}
-use Rattle.lx_caps.proofs.Tests.{and_none, or_nothing, or_swap}
+use Rattle.lx_caps.proofs.Tests.{or_swap}
 use Rattle.lx_caps.proofs.Principals.{same_principal_is}
 
 pub none_set : (k : ℕ) → is_set 0 k ≡ false
@@ -43,8 +44,8 @@ owner_at q w true o n m same = let e = same_principal_is q w same in ap (λ (r :
 put_given : (k : ℕ) (q : Principal) (mask : ℕ) (e : ℕ × Entry) → is_given (put_node mask e []) k q ≡ (same_principal q e.1.writer && is_set mask k)
 put_given k q mask e =
     (elim (nat_eq mask 0) as (λ t. nat_eq mask 0 ≡ t → is_given (cond t [] ((e.0, with_mask e.1 mask) ∷ [])) k q ≡ (same_principal q e.1.writer && is_set mask k)) [
-      | true ↦ λ f. let none : mask ≡ 0 = grind (arith, nat_tests, f) in sym (ap (λ (b : Bool). same_principal q e.1.writer && b) (ap (λ m. is_set m k) none ∙ none_set k) ∙ and_none (same_principal q e.1.writer))
-      | false ↦ λ f. or_nothing (same_principal q e.1.writer && is_set mask k)
+      | true ↦ λ f. let none : mask ≡ 0 = grind (arith, nat_tests, f) in sym (ap (λ (b : Bool). same_principal q e.1.writer && b) (ap (λ m. is_set m k) none ∙ none_set k) ∙ and_false (same_principal q e.1.writer))
+      | false ↦ λ f. or_false (same_principal q e.1.writer && is_set mask k)
     ]) refl
 
 or_and : (a b c : Bool) → ((a && c) || (b && c)) ≡ ((a || b) && c)
@@ -65,7 +66,7 @@ kept_more was now e mask k q n o bits given =
     ∙ (ap (λ (b : Bool). (is_given was k q && (n || o q)) || b)
     (put_given k q mask e ∙ (ap (λ (b : Bool). same_principal q e.1.writer && b) bits ∙ owner_at q e.1.writer (same_principal q e.1.writer) o n (is_set e.1.mask k) refl))
     ∙ (or_and (is_given was k q) (p e) (n || o q)
-    ∙ ap (λ (b : Bool). b && (n || o q)) (sym (list_any-append p was (e ∷ []) ∙ ap (λ (b : Bool). is_given was k q || b) (or_nothing (p e)))))))
+    ∙ ap (λ (b : Bool). b && (n || o q)) (sym (list_any-append p was (e ∷ []) ∙ ap (λ (b : Bool). is_given was k q || b) (or_false (p e)))))))
 
 pub by_writer : (s t r : Bool) → s ≡ true → t ≡ true → ((s && t) || r) ≡ true
 by_writer true true r e f = refl

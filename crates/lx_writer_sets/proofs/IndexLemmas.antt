@@ -2,6 +2,7 @@
 use Rattle.std.proofs.Common.{◌≡◌, ◌≢◌, ℕ, ◌<◌, Bool, true, false, ◌&&◌, ◌||◌, nat_eq, cond, List, [], ◌∷◌, ◌++◌, Option, Some, None, length, set, refl, sym, ap, ◌∙◌, subst, arith, eqb-true}
 use Rattle.std.proofs.lemmas.Bool.Decides.{nat_tests}
 use Rattle.std.proofs.lemmas.List.{get_or-set_same, get_or-set_other}
+use Rattle.lx_words.proofs.Tests.{nat_turned}
 use Rattle.lx_caps.specs.declared.Principal.{Principal}
 use Rattle.lx_caps.specs.declared.Principal.TheVariants.{Kernel, Shared, Global, Inst}
 use Rattle.lx_caps.specs.History.{same_principal}
@@ -33,12 +34,9 @@ same_ranks (Inst m k) (Shared n) = grind (arith, nat_tests)
 same_ranks (Inst m k) (Global n) = grind (arith, nat_tests)
 same_ranks (Inst m k) (Inst n l) = grind (arith, nat_tests)
 
-turned : (l k : ℕ) → nat_eq l k ≡ nat_eq k l
-turned l k = grind (arith, nat_tests)
-
 -- two keys are the same where the lists and the writers are
 pub same_key_of : (l k : ℕ) (w q : Principal) → same_key (key_of l w) (key_of k q) ≡ (nat_eq k l && same_principal q w)
-same_key_of l k w q = λ j. turned l k j && same_ranks w q j
+same_key_of l k w q = λ j. nat_turned l k j && same_ranks w q j
 
 -- where a node is found, it stands there
 found_by : (q : Principal) (e : ℕ × Entry) (es : List (ℕ × Entry)) (n : ℕ) (t : Bool) → same_principal q e.1.writer ≡ t → cond t (Some e.0) (node_in q es) ≡ Some n

@@ -15,11 +15,7 @@ use Rattle.lx_writer_sets.specs.Nodes.{has_writer, with_mask, HasBit, AreNodes, 
 use Rattle.lx_writer_sets.specs.Sets.{is_given}
 use Rattle.lx_writer_sets.proofs.GivenLemmas.{none_set}
 use Rattle.lx_caps.proofs.Tests.{and_yes, none_left, none_right}
-
-zero_bit : (a : ℕ) → a < 2 → nat_eq a 1 ≡ false → a ≡ 0
-zero_bit zero h f = refl
-zero_bit (suc zero) h f = absurd (cc)
-zero_bit (suc (suc a)) h f = absurd (omega (arith, h))
+use Rattle.lx_writer_sets.proofs.SlotMasks.{bit_is_none}
 
 -- a bit among the lowest, or none there
 bit_or_none : (m n : ℕ) → ((k : ℕ) × (k < n) × (is_set m k ≡ true)) ⊎ ((k : ℕ) → k < n → is_set m k ≡ false)
@@ -37,7 +33,7 @@ pub some_bit : (m : ℕ) → m < 2 ^ 64 → m ≢ 0 → HasBit m
 some_bit m fits some = elim (bit_or_none m 64) [
   | inl found ↦ record { bit = found.0; within = found.1; set = found.2 }
   | inr none ↦ absurd (some (same_from_bits m 0 (λ i. elim (cases_lt i 64) [
-    | inl lt ↦ zero_bit (bit_at m i) (bit_at-lt m i) (none i lt) ∙ sym (bit_at-zero i)
+    | inl lt ↦ bit_is_none (bit_at m i) (bit_at-lt m i) (none i lt) ∙ sym (bit_at-zero i)
     | inr ge ↦ bit_at_above m 64 i fits ge ∙ sym (bit_at-zero i)
   ])))
 ]

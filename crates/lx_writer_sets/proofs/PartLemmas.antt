@@ -1,6 +1,7 @@
 -- The parts of memory and their lists.
 use Rattle.std.proofs.Common.{◌≡◌, ◌≢◌, ℕ, ◌+◌, ◌-◌, ◌*◌, ◌/◌, ◌%◌, ◌<◌, ◌≤◌, Bool, true, false, not, ◌&&◌, ◌||◌, nat_eq, nat_lt, nat_le, cond, List, [], Option, Some, None, refl, sym, ap, ◌∙◌, arith, eqb-true}
 use Rattle.std.proofs.lemmas.Bool.Decides.{nat_tests}
+use Rattle.lx_words.proofs.Tests.{either_second}
 use Rattle.lx_caps.specs.declared.Principal.{Principal}
 use Rattle.lx_caps.specs.History.{same_principal}
 use Rattle.lx_caps.specs.Regions.{covers, mapped}
@@ -9,7 +10,7 @@ use Rattle.lx_writer_sets.specs.declared.piece.Piece.{Piece}
 use Rattle.lx_writer_sets.specs.declared.entry.Entry.{Entry}
 use Rattle.lx_writer_sets.specs.Bits.{is_set}
 use Rattle.lx_writer_sets.specs.Sets.{lies_in, part_list, is_given, is_given_at, is_recorded}
-use Rattle.lx_caps.proofs.Tests.{and_true, or_second, not_given}
+use Rattle.lx_caps.proofs.Tests.{and_true, not_given}
 
 -- the part of a list
 abbrev part_of : ℕ → ℕ
@@ -57,7 +58,7 @@ or_one false false false d e f g h i is = absurd (cc)
 -- a part of a range of memory has a list
 pub has_list : (p at size : ℕ) → mapped at size ≡ true → 0 < size → at / 64 ≤ p → p * 64 < at + size → part_list p ≡ None → ⊥
 has_list p at size is some below high none =
-    let regions = or_second (nat_eq size 0) ((nat_le 0x1000000 at && nat_le (at + size) (0x1000000 + 0x100000)) || ((nat_le 0x2000000 at && nat_le (at + size) (0x2000000 + 0x100000)) || (nat_le 0x3000000 at && nat_le (at + size) (0x3000000 + 0x100000)))) (grind (arith, nat_tests, some)) is in
+    let regions = either_second (nat_eq size 0) ((nat_le 0x1000000 at && nat_le (at + size) (0x1000000 + 0x100000)) || ((nat_le 0x2000000 at && nat_le (at + size) (0x2000000 + 0x100000)) || (nat_le 0x3000000 at && nat_le (at + size) (0x3000000 + 0x100000)))) (grind (arith, nat_tests, some)) is in
     let tests =
     or_one (nat_le 0x1000000 at && nat_le (at + size) (0x1000000 + 0x100000)) (nat_le 0x2000000 at && nat_le (at + size) (0x2000000 + 0x100000)) (nat_le 0x3000000 at && nat_le (at + size) (0x3000000 + 0x100000))
     (nat_le 0x40000 p && nat_lt p 0x44000) (nat_le 0x80000 p && nat_lt p 0x84000) (nat_le 0xc0000 p && nat_lt p 0xc4000)

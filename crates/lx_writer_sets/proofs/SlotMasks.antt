@@ -6,13 +6,13 @@ use Rattle.std.proofs.lemmas.List.Folds.{list_any_at}
 use Rattle.std.proofs.lemmas.Bool.{both_ways, cases_Bool, false_from_ne_true, or_cases}
 use Rattle.std.proofs.lemmas.Bool.Decides.{nat_tests}
 use Rattle.std.proofs.lemmas.Nat.Bits.{bit_at-lt, bit_at-zero, bit_at_above, same_from_bits}
+use Rattle.lx_words.proofs.Tests.{eq_self, first_of, second_of}
 use Rattle.lx_caps.specs.Regions.{covers}
 use Rattle.lx_writer_sets.specs.declared.entry.Entry.{Entry}
 use Rattle.lx_writer_sets.specs.Bits.{is_set}
 use Rattle.lx_writer_sets.specs.Sets.{eight, has_byte, touches, IsSlotMask}
 use Rattle.lx_writer_sets.proofs.GivenLemmas.{none_set}
 use Rattle.lx_writer_sets.proofs.Masks.{set_in_both}
-use Rattle.lx_caps.proofs.Tests.{eq_itself, first_true, second_true}
 
 -- one of the eight that passes
 one_of_eight : (p : ℕ → Bool) → list_any p eight ≡ true → (k : ℕ) × (k < 8) × (p k ≡ true)
@@ -53,7 +53,7 @@ place_of_eight (suc (suc (suc (suc (suc (suc (suc (suc k)))))))) below = absurd 
 in_eight : (p : ℕ → Bool) (k : ℕ) → k < 8 → p k ≡ true → list_any p eight ≡ true
 in_eight p k below is = list_any_at p eight k 0 below (ap p (place_of_eight k below) ∙ is)
 
-bit_is_none : (b : ℕ) → b < 2 → nat_eq b 1 ≡ false → b ≡ 0
+pub bit_is_none : (b : ℕ) → b < 2 → nat_eq b 1 ≡ false → b ≡ 0
 bit_is_none b below out = grind (arith, nat_tests, below, out)
 
 -- a number of which no bit is set
@@ -76,8 +76,8 @@ module _ (part : ℕ) (e : Entry) (slot more : ℕ) (small : more < 2 ^ 64) (mas
   -- a byte of both
   met : (k : ℕ) → k < 8 → has_byte part e (slot + k) ≡ true → bit_and e.mask more ≡ 0 → ⊥
   met k below is none =
-      let at : part ≡ (slot + k) / 64 = eqb-true part ((slot + k) / 64) (first_true (nat_eq part ((slot + k) / 64)) (is_set e.mask ((slot + k) % 64)) is) in
-      let here = second_true (nat_eq part ((slot + k) / 64)) (is_set e.mask ((slot + k) % 64)) is in
+      let at : part ≡ (slot + k) / 64 = eqb-true part ((slot + k) / 64) (first_of (nat_eq part ((slot + k) / 64)) (is_set e.mask ((slot + k) % 64)) is) in
+      let here = second_of (nat_eq part ((slot + k) / 64)) (is_set e.mask ((slot + k) % 64)) is in
       let there : is_set more ((slot + k) % 64) ≡ true = mask ((slot + k) % 64) (omega arith) ∙ covered slot k (part * 64 + (slot + k) % 64) below (same_place part (slot + k) at) in
       let both : is_set (bit_and e.mask more) ((slot + k) % 64) ≡ true = set_in_both e.mask more ((slot + k) % 64) ∙ (ap (λ b. b && is_set more ((slot + k) % 64)) here ∙ there) in
       both_ways (is_set (bit_and e.mask more) ((slot + k) % 64)) (ap (λ n. is_set n ((slot + k) % 64)) none ∙ none_set ((slot + k) % 64)) both
@@ -87,13 +87,13 @@ module _ (part : ℕ) (e : Entry) (slot more : ℕ) (small : more < 2 ^ 64) (mas
   has_at k below here =
       let at : (part * 64 + k) / 64 ≡ part = omega (arith, below) in
       let place : (part * 64 + k) % 64 ≡ k = omega (arith, below) in
-      ap (λ n. nat_eq part n && is_set e.mask ((part * 64 + k) % 64)) at ∙ (ap (λ n. nat_eq part part && is_set e.mask n) place ∙ (ap (λ b. nat_eq part part && b) here ∙ ap (λ b. b && true) (eq_itself part)))
+      ap (λ n. nat_eq part n && is_set e.mask ((part * 64 + k) % 64)) at ∙ (ap (λ n. nat_eq part part && is_set e.mask n) place ∙ (ap (λ b. nat_eq part part && b) here ∙ ap (λ b. b && true) (eq_self part)))
 
   found : (k : ℕ) → k < 64 → is_set (bit_and e.mask more) k ≡ true → list_any (λ i. has_byte part e (slot + i)) eight ≡ true
   found k below is =
       let both : (is_set e.mask k && is_set more k) ≡ true = sym (set_in_both e.mask more k) ∙ is in
-      let here : is_set e.mask k ≡ true = first_true (is_set e.mask k) (is_set more k) both in
-      let there : covers slot 8 (part * 64 + k) ≡ true = sym (mask k below) ∙ second_true (is_set e.mask k) (is_set more k) both in
+      let here : is_set e.mask k ≡ true = first_of (is_set e.mask k) (is_set more k) both in
+      let there : covers slot 8 (part * 64 + k) ≡ true = sym (mask k below) ∙ second_of (is_set e.mask k) (is_set more k) both in
       let low : slot ≤ part * 64 + k = grind (arith, nat_tests, there) in
       let high : part * 64 + k < slot + 8 = grind (arith, nat_tests, there) in
       let whole : slot + (part * 64 + k - slot) ≡ part * 64 + k = omega (arith, low) in
@@ -104,7 +104,7 @@ module _ (part : ℕ) (e : Entry) (slot more : ℕ) (small : more < 2 ^ 64) (mas
   not_met out k = false_from_ne_true (is_set (bit_and e.mask more) k) (λ is. elim (cases_Bool (nat_lt k 64)) [
     | inl low ↦ both_ways (list_any (λ i. has_byte part e (slot + i)) eight) out (found k (grind (arith, nat_tests, low)) is)
     | inr high ↦ both_ways (is_set more k) (above more k small (grind (arith, nat_tests, high)))
-        (second_true (is_set e.mask k) (is_set more k) (sym (set_in_both e.mask more k) ∙ is))
+        (second_of (is_set e.mask k) (is_set more k) (sym (set_in_both e.mask more k) ∙ is))
   ])
 
   -- the masks have a bit in common exactly where the entry has one of the slot's bytes

@@ -3,6 +3,7 @@ use Rattle.std.proofs.Common.{◌≡◌, ◌∙◌, refl, sym, ap, subst, ℕ, �
 use Rattle.std.specs.List.{list_any}
 use Rattle.std.proofs.lemmas.Bool.{both_ways}
 use Rattle.std.proofs.lemmas.Bool.Decides.{nat_tests}
+use Rattle.lx_words.proofs.Tests.{and_false, or_false}
 use Rattle.lx_caps.specs.declared.Principal.{Principal}
 use Rattle.lx_caps.specs.History.{History, same_principal}
 use Rattle.lx_caps.specs.Precedence.{IsFirstPrincipal}
@@ -13,7 +14,6 @@ use Rattle.lx_writer_sets.specs.Sets.{eight, has_byte, touches, part_list, is_gi
 use Rattle.lx_writer_sets.specs.declared.entry.Entry.{Entry}
 use Rattle.lx_writer_sets.proofs.GivenLemmas.{or_rest}
 use Rattle.lx_writer_sets.proofs.Lists.{and_or}
-use Rattle.lx_caps.proofs.Tests.{and_none, or_nothing}
 use Rattle.lx_caps.proofs.PrincipalOrder.{same_first}
 
 none_of : (ks : List ℕ) → list_any (λ k. false) ks ≡ false
@@ -50,7 +50,7 @@ out_step false false m r = refl
 
 -- the part stands for all nodes
 part_out : (t : Bool) (k : ℕ) (q : Principal) (es : List (ℕ × Entry)) → list_any (λ e. same_principal q e.1.writer && (t && is_set e.1.mask k)) es ≡ (t && is_given es k q)
-part_out t k q [] = sym (and_none t)
+part_out t k q [] = sym (and_false t)
 part_out t k q (e ∷ es) =
     ap (λ (r : Bool). (same_principal q e.1.writer && (t && is_set e.1.mask k)) || r) (part_out t k q es)
     ∙ out_step (same_principal q e.1.writer) t (is_set e.1.mask k) (is_given es k q)
@@ -69,7 +69,7 @@ pub out_of_part : (lists : List (List (ℕ × Entry))) (part slot : ℕ) → ((k
 unfolding writes_part
 out_of_part lists part slot none q =
     let same : (λ (k : ℕ). nat_eq part ((slot + k) / 64) && is_given_at lists (part_list part) ((slot + k) % 64) q) ≡ (λ (k : ℕ). false) =
-    λ j k. (ap (λ (t : Bool). nat_eq part ((slot + k) / 64) && t) (none ((slot + k) % 64) q) ∙ and_none (nat_eq part ((slot + k) / 64))) j in
+    λ j k. (ap (λ (t : Bool). nat_eq part ((slot + k) / 64) && t) (none ((slot + k) % 64) q) ∙ and_false (nat_eq part ((slot + k) / 64))) j in
     ap (λ (p : ℕ → Bool). list_any p eight) same ∙ none_of eight
 
 -- tests that are the same of each of the eight
@@ -91,7 +91,7 @@ or_itself false = refl
 -- a byte of one of two parts
 one_of : (a b r s t : Bool) → (a ≡ true → r ≡ t) → (b ≡ true → s ≡ t) → (a ≡ false → b ≡ true) → ((true && (a && r)) || (b && s)) ≡ t
 one_of true true r s t f g h = ap (λ (x : Bool). r || x) (g refl ∙ sym (f refl)) ∙ (or_itself r ∙ f refl)
-one_of true false r s t f g h = or_nothing r ∙ f refl
+one_of true false r s t f g h = or_false r ∙ f refl
 one_of false true r s t f g h = g refl
 one_of false false r s t f g h = absurd (let e = h refl in cc)
 

@@ -4,6 +4,7 @@ use Rattle.std.proofs.lemmas.Bool.{or_from}
 use Rattle.lx_caps.specs.declared.Principal.{Principal}
 use Rattle.lx_caps.specs.History.{History}
 use Rattle.lx_caps.specs.Writers.{is_slot_writer}
+use Rattle.lx_caps.proofs.Histories.{and_cases}
 use Rattle.lx_writer_sets.specs.declared.entry.Entry.{Entry}
 use Rattle.lx_writer_sets.specs.Sets.{Records, writes_part, IsSomePrincipal, IsSomeWriter}
 use Rattle.lx_writer_sets.proofs.Lists.{and_or}
@@ -28,10 +29,6 @@ pub none_found : (found : Option Principal) → ((q : Principal) → found ≢ S
 none_found None other = refl
 none_found (Some q) other = absurd (other q refl)
 
-wider : (f a b : Bool) → (a ≡ true → b ≡ true) → (f && a) ≡ true → (f && b) ≡ true
-wider true a b to is = to is
-wider false a b to is = absurd (cc)
-
 module _ (lists : List (List (ℕ × Entry))) (h : History) (slot : ℕ) (stands : Records lists h) (t : Principal → Bool) where
   -- those of the slot's writers in a part that pass
   abbrev pub passing : ℕ → Principal → Bool
@@ -42,7 +39,7 @@ module _ (lists : List (List (ℕ × Entry))) (h : History) (slot : ℕ) (stands
       subst (λ n. IsSomePrincipal (λ q. t q && writes_part lists place n q) found) same (subst (λ n. IsSomePrincipal (λ q. t q && writes_part lists n s q) found) at is)
 
   pub in_first : (w : Principal) → IsSomePrincipal (passing (slot / 64)) (Some w) → IsSomeWriter h slot t (Some w)
-  in_first w is = wider (t w) (writes_part lists (slot / 64) slot w) (is_slot_writer h slot w) (writer_in_first lists h slot stands w) is
+  in_first w is = and_cases (t w) (writes_part lists (slot / 64) slot w) (is_slot_writer h slot w) (writer_in_first lists h slot stands w) is
 
   -- nobody in the one part of a slot
   pub none_alone : slot / 64 ≡ (slot + 7) / 64 → IsSomePrincipal (passing (slot / 64)) None → IsSomeWriter h slot t None
@@ -50,7 +47,7 @@ module _ (lists : List (List (ℕ × Entry))) (h : History) (slot : ℕ) (stands
 
   -- nobody in the first part, so somebody in the last one or nobody
   pub in_last : IsSomePrincipal (passing (slot / 64)) None → (found : Option Principal) → IsSomePrincipal (passing ((slot + 7) / 64)) found → IsSomeWriter h slot t found
-  in_last none (Some w) is = wider (t w) (writes_part lists ((slot + 7) / 64) slot w) (is_slot_writer h slot w) (writer_in_last lists h slot stands w) is
+  in_last none (Some w) is = and_cases (t w) (writes_part lists ((slot + 7) / 64) slot w) (is_slot_writer h slot w) (writer_in_last lists h slot stands w) is
   in_last none None is = λ q.
       sym (and_or (t q) (writes_part lists (slot / 64) slot q) (writes_part lists ((slot + 7) / 64) slot q) ∙ ap (λ (b : Bool). t q && b) (both_parts lists h slot stands q))
       ∙ or_from (passing (slot / 64) q) (passing ((slot + 7) / 64) q) (none q) (is q)

@@ -1,5 +1,6 @@
 use Rattle.std.proofs.Common.{◌≡◌, ◌<◌, ◌+◌, ◌*◌, ◌/◌, ◌%◌, nat_eq, true, false, Bool, ℕ, Some, sym, ap, ◌∙◌, arith, eqb-true}
 use Rattle.std.proofs.lemmas.Bool.{and_parts, and_from}
+use Rattle.lx_words.proofs.Tests.{eq_self}
 use Rattle.lx_cap_lists.specs.Holders.{counts}
 use Rattle.lx_caps.specs.Regions.{covers}
 use Rattle.lx_cap_lists.specs.Bits.{is_set}
@@ -9,7 +10,7 @@ use Rattle.lx_cap_lists.specs.Tables.{shown_at, part_list, HoldsPart}
 use Rattle.lx_cap_lists.proofs.PartLemmas.{piece_bit}
 use Rattle.lx_cap_lists.proofs.HeldLemmas.{some_byte}
 use Rattle.lx_cap_tables.proofs.held.holds_part.Goals as goal
-use Rattle.lx_caps.proofs.Tests.{eq_itself, byte_of}
+use Rattle.lx_caps.proofs.Tests.{byte_of}
 
 pub returns-in-Some : goal.returns-in-Some
 returns-in-Some c =
@@ -32,7 +33,7 @@ returns-in-Some c =
           let k = lack.0 in
           let b = part * 64 + k in
           let of = byte_of part k lack.1 in
-          let is : nat_eq part (b / 64) ≡ true = ap (nat_eq part) of.0 ∙ eq_itself part in
+          let is : nat_eq part (b / 64) ≡ true = ap (nat_eq part) of.0 ∙ eq_self part in
           let bit = piece_bit c.piece_of.result part at size b (is_set bits (b % 64)) c.piece_of.ensures.of_the_part (c.piece_of.ensures.bytes b) is (c.piece_bits.ensures (b % 64) (omega arith)) in
           let cov = (and_parts (covers at size b) (nat_eq part (b / 64)) (sym bit ∙ (ap (is_set bits) of.1 ∙ lack.2))).0 in
           (b, cov, ap (λ o. shown_at places o (counts c.args.in_reach) (b % 64)) (ap part_list of.0 ∙ here) ∙ (ap (bit_among (counts c.args.in_reach) (nodes_at places c.in-Some.place)) of.1 ∙ lack.3))

@@ -1,4 +1,4 @@
-use Rattle.lx_cli.proofs.Telling.{if_ok}
+use Rattle.lx_words.proofs.Options.{if_ok}
 use Rattle.lx_cli.proofs.Judging.{judged, present}
 use Rattle.lx_cli.proofs.images.check_input.Goals as goal
 

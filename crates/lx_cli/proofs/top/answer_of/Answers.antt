@@ -1,7 +1,8 @@
 use Rattle.std.proofs.Common.{sym}
+use Rattle.lx_words.proofs.Options.{if_ok}
 use Rattle.lx_cli.specs.Command.{said}
 use Rattle.lx_cli.proofs.Generated.{summed}
-use Rattle.lx_cli.proofs.Telling.{if_ok, generated_is, generated_turn, shelf_turn, not_generated, untold_own, untold_shelf}
+use Rattle.lx_cli.proofs.Telling.{generated_is, generated_turn, shelf_turn, not_generated, untold_own, untold_shelf}
 use Rattle.lx_cli.proofs.top.answer_of.Goals as goal
 
 pub returns-in-Some-clause-answer : goal.returns-in-Some-clause-answer

@@ -1,4 +1,5 @@
 use Rattle.std.proofs.Common.{◌≡◌, refl, subst, None, Some, Result, Ok, Err}
+use Rattle.lx_words.proofs.Options.{if_ok}
 use Rattle.lx_input.specs.Files.InputStop.{InputStop}
 use Rattle.lx_input.specs.Files.Asked.{Asked, AreThere, asked_by}
 use Rattle.lx_input.specs.declared.input.Input.{Input}
@@ -6,7 +7,7 @@ use Rattle.lx_input.specs.Inputs.{InputTurn}
 use Rattle.lx_cli.specs.Command.{MayCome, asked_of, case_of, said}
 use Rattle.lx_cli.specs.declared.answer.Answer.TheVariants as answer
 use Rattle.lx_cli.specs.Told.{TellsInput, TellsOf}
-use Rattle.lx_cli.proofs.Telling.{if_ok, told_input, told_stop, noted_stop, names_none, moved_turn, if_ok_at}
+use Rattle.lx_cli.proofs.Telling.{told_input, told_stop, noted_stop, names_none, moved_turn, if_ok_at}
 use Rattle.lx_cli.proofs.top.answer_to.Goals as goal
 
 pub answer_input-requires-clause-there : goal.answer_input-requires-clause-there

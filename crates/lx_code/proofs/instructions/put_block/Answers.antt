@@ -1,12 +1,12 @@
 use Rattle.std.proofs.Common.{ℕ, ap, arith, get_or, length}
 use Rattle.std.specs.Prelude.{option_map, slice_get}
 use Rattle.std.proofs.lemmas.Option.{slice_get-get_or, slice_get_past}
+use Rattle.lx_words.proofs.Lists.{all_at}
 use Rattle.lx_ir.specs.declared.instr.Instr.{Instr}
 use Rattle.lx_code.specs.Sized.{is_sized}
 use Rattle.lx_code.specs.Fits.{at_place, HasIfLarge}
 use Rattle.lx_code.proofs.Large.{below_next, everywhere, made_here, none_here, still_large}
 use Rattle.lx_code.proofs.Placed.{op_placed}
-use Rattle.lx_code.proofs.Sized.{all_at}
 use Rattle.lx_code.proofs.instructions.put_block.Goals as goal
 
 pub put_op-requires : goal.put_op-requires

@@ -1,12 +1,12 @@
 use Rattle.std.proofs.Common.{◌≡◌, ℕ, ap, arith, get_or, length, sym, subst, true, List, Option}
 use Rattle.std.specs.Prelude.{option_and_then, option_map, slice_get}
 use Rattle.std.proofs.lemmas.Option.{slice_get-get_or, slice_get_past}
+use Rattle.lx_words.proofs.Lists.{all_at}
 use Rattle.lx_ir.specs.declared.instr.Instr.{Instr}
 use Rattle.lx_ir.specs.declared.module.Block.{Block}
 use Rattle.lx_code.specs.Sized.{are_sized_instrs}
 use Rattle.lx_code.specs.Fits.{at_place, op_at, HasIfLarge}
 use Rattle.lx_code.proofs.Large.{below_next, everywhere, in_block, none_here, still_large}
-use Rattle.lx_code.proofs.Sized.{all_at}
 use Rattle.lx_code.proofs.instructions.tables_of.Goals as goal
 
 pub put_block-requires : goal.put_block-requires

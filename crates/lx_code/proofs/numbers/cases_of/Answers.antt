@@ -1,5 +1,5 @@
+use Rattle.lx_words.proofs.Lists.{first_all}
 use Rattle.lx_code.specs.Firsts.{is_case}
-use Rattle.lx_code.proofs.FirstPlaces.{first_all}
 use Rattle.lx_code.proofs.numbers.cases_of.Goals as goal
 
 pub returns : goal.returns

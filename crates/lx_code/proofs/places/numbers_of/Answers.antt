@@ -1,6 +1,6 @@
+use Rattle.lx_words.proofs.Lists.{first_all}
 use Rattle.lx_model.specs.Program.{is_entry}
 use Rattle.lx_code.proofs.places.numbers_of.Goals as goal
-use Rattle.lx_model.proofs.Items.{first_all}
 
 pub returns : goal.returns
 returns c = λ home f. first_all (is_entry home f) c.args.functions.now c.loop-left.left _ c.loop-left-test.false (c.loop-left.invariant.so_far home f)

@@ -1,7 +1,8 @@
 use Rattle.std.proofs.Common.{sym, subst, drop, List, ap, ◌∙◌, ◌+◌, ◌∷◌, add-one}
 use Rattle.std.proofs.lemmas.List.{drop_all}
+use Rattle.lx_words.proofs.Lists.{drop_next}
 use Rattle.lx_ir.specs.declared.instr.Argument.{Argument}
-use Rattle.lx_code.proofs.Ways.{Leads, drop_next, leads_all, leads_on}
+use Rattle.lx_code.proofs.Ways.{Leads, leads_all, leads_on}
 use Rattle.lx_code.proofs.routes.legs_of.Goals as goal
 
 pub loop-index-preserved : goal.loop-index-preserved

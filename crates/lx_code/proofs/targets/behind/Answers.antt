@@ -1,6 +1,6 @@
 use Rattle.std.proofs.Common.{ap, sym, ◌∙◌, arith}
 use Rattle.std.specs.Prelude.{bytes_eq}
-use Rattle.lx_code.proofs.JoinedNames.{joined_then, joined_else}
+use Rattle.lx_words.proofs.Lists.{joined_then, joined_else}
 use Rattle.lx_code.proofs.targets.behind.Goals as goal
 
 pub returns-then-is_same : goal.returns-then-is_same

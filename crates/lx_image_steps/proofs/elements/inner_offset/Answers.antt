@@ -1,10 +1,10 @@
 use Rattle.std.proofs.Common.{◌≡◌, ◌+◌, ◌∷◌, List, drop, ℤ, ap, sym, ◌∙◌, subst, add-one}
 use Rattle.lx_words.specs.Word.{Word, signed}
+use Rattle.lx_words.proofs.Lists.{drop_next}
 use Rattle.lx_ir.specs.Layout.{part_of, unnamed}
 use Rattle.lx_model.specs.Effect.{indices_of, operand}
 use Rattle.lx_image_steps.specs.Parts.{IsOnTheWay, IsPartModulo}
 use Rattle.lx_image_steps.specs.Standing.{run_of}
-use Rattle.lx_code.proofs.Ways.{drop_next}
 use Rattle.lx_image_steps.proofs.Parts.{on_further}
 use Rattle.lx_image_steps.proofs.elements.inner_offset.Goals as goal
 

@@ -1,5 +1,5 @@
 use Rattle.std.proofs.Common.{arith, sym, ◌∙◌}
-use Rattle.lx_ir_offsets.proofs.Depths.{depth_of_item}
+use Rattle.lx_ir.proofs.TypeLists.{depth_of_item}
 use Rattle.lx_ir_offsets.proofs.Inside.{outside_first}
 use Rattle.lx_ir_offsets.proofs.shape.+places.Goals as goal
 

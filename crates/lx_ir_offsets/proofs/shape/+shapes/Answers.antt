@@ -1,5 +1,5 @@
 use Rattle.std.proofs.Common.{arith}
-use Rattle.lx_ir_offsets.proofs.Depths.{depth_of_item}
+use Rattle.lx_ir.proofs.TypeLists.{depth_of_item}
 use Rattle.lx_ir_offsets.proofs.shape.+shapes.Goals as goal
 
 pub fields_shape-shape_of-requires-in-loop-field : goal.fields_shape-shape_of-requires-in-loop-field

@@ -1,5 +1,5 @@
 use Rattle.std.proofs.Common.{◌^◌, arith}
-use Rattle.lx_ir_tokens.proofs.Digits.{too_large}
+use Rattle.lx_words.proofs.Values.{too_large}
 use Rattle.lx_ir_tokens.proofs.said.magnitude.Goals as goal
 
 pub returns-in_err-checked_mul : goal.returns-in_err-checked_mul

@@ -1,5 +1,5 @@
 use Rattle.std.proofs.Common.{arith}
-use Rattle.lx_ir_verify.proofs.SameTypes.{depth_of_init}
+use Rattle.lx_ir.proofs.InitLists.{depth_of_init}
 use Rattle.lx_ir_verify.proofs.types.+fits.Goals as goal
 
 pub inits_fit-init_fits-requires : goal.inits_fit-init_fits-requires

@@ -1,5 +1,5 @@
 use Rattle.std.proofs.Common.{arith}
-use Rattle.lx_ir_verify.proofs.SameTypes.{depth_of_item}
+use Rattle.lx_ir.proofs.TypeLists.{depth_of_item}
 use Rattle.lx_ir_verify.proofs.types.+same.Goals as goal
 
 pub are_same_types-is_same_type-requires : goal.are_same_types-is_same_type-requires

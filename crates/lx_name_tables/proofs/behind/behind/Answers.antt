@@ -1,6 +1,6 @@
 use Rattle.std.proofs.Common.{ap, sym, ◌∙◌, arith}
 use Rattle.std.specs.Prelude.{bytes_eq}
-use Rattle.lx_name_tables.proofs.Join.{joined_then, joined_else}
+use Rattle.lx_words.proofs.Lists.{joined_then, joined_else}
 use Rattle.lx_name_tables.proofs.behind.behind.Goals as goal
 
 pub returns-then-is_same : goal.returns-then-is_same

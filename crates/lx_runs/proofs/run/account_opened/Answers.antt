@@ -1,8 +1,8 @@
 use Rattle.std.proofs.Common.{◌∙◌, sym, ap}
+use Rattle.lx_words.proofs.Options.{if_ok}
 use Rattle.lx_images.specs.Image.{Code}
 use Rattle.lx_runs.specs.Runs.{images_of}
 use Rattle.lx_runs.proofs.Ran.{account_told, opened, opened_code}
-use Rattle.lx_runs.proofs.Reported.{if_ok}
 use Rattle.lx_runs.proofs.run.account_opened.Goals as goal
 
 -- the world whose account is given stands for the run's

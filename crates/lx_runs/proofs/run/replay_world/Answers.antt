@@ -1,8 +1,8 @@
 use Rattle.std.proofs.Common.{◌≡◌, Some, None}
+use Rattle.lx_words.proofs.Options.{if_ok}
 use Rattle.lx_images.specs.ImageWorld.{image_run}
 use Rattle.lx_runs.specs.Replays.{image_broken_at}
 use Rattle.lx_runs.proofs.Ran.{broken_told, opened, opened_code, replay_told}
-use Rattle.lx_runs.proofs.Reported.{if_ok}
 use Rattle.lx_runs.proofs.run.replay_world.Goals as goal
 
 -- the world that is reported stands for the run's

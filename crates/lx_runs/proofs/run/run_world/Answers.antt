@@ -1,5 +1,5 @@
+use Rattle.lx_words.proofs.Options.{if_ok}
 use Rattle.lx_runs.proofs.Ran.{opened, opened_code, run_told}
-use Rattle.lx_runs.proofs.Reported.{if_ok}
 use Rattle.lx_runs.proofs.run.run_world.Goals as goal
 
 -- the world that is reported stands for the run's

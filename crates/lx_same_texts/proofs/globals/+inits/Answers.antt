@@ -1,5 +1,5 @@
 use Rattle.std.proofs.Common.{arith}
-use Rattle.lx_same_texts.proofs.Loops.{depth_of_init}
+use Rattle.lx_ir.proofs.InitLists.{depth_of_init}
 use Rattle.lx_same_texts.proofs.globals.+inits.Goals as goal
 
 pub are_same_inits-is_same_init-requires : goal.are_same_inits-is_same_init-requires

@@ -1,8 +1,9 @@
 use Rattle.std.proofs.Common.{◌≡◌, ◌∙◌, Some}
+use Rattle.lx_words.proofs.Options.{if_ok}
 use Rattle.lx_cli.specs.Command.{CommandTurn, UntoldTurn, Run, asked_of, case_of}
 use Rattle.lx_cli.specs.declared.answer.Answer.{Answer}
 use Rattle.lx_cli.specs.declared.answer.Answer.TheVariants as answer
-use Rattle.lx_cli.proofs.Telling.{if_ok, if_ok_at}
+use Rattle.lx_cli.proofs.Telling.{if_ok_at}
 use Rattle.lx_trace.specs.Traced.{answer_of_stop}
 use Rattle.lx_trace.proofs.Telling.{arose_whole, noted_stop, replayed_stop, told_stop}
 use Rattle.lx_trace.proofs.answer.answer_run.Goals as goal

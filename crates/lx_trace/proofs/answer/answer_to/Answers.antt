@@ -1,7 +1,7 @@
 -- A case is replayed where a schedule is named, and run else.
 use Rattle.std.proofs.Common.{ap, subst, sym, ℕ, List, Option, Some, option_copied}
+use Rattle.lx_words.proofs.Options.{if_ok}
 use Rattle.lx_cli.specs.Command.{CommandTurn, UntoldTurn}
-use Rattle.lx_cli.proofs.Telling.{if_ok}
 use Rattle.lx_trace.specs.Traced.{IsReplayed, TellsTraced, run_of}
 use Rattle.lx_trace.proofs.answer.answer_to.Goals as goal
 

@@ -1,4 +1,5 @@
 use Rattle.std.proofs.Common.{rules, ◌≡◌, ◌&&◌, ◌∷◌, None, sym, ap, ◌∙◌}
+use Rattle.lx_words.proofs.Tests.{and_false}
 use Rattle.lx_caps.specs.Precedence.{is_found}
 use Rattle.lx_caps.specs.History.{same_principal}
 use Rattle.lx_cap_nodes.specs.declared.pool.Family.TheVariants.{Place}
@@ -9,7 +10,6 @@ use Rattle.lx_writer_sets.proofs.SomeLemmas.{none_found, some_here, some_rest}
 use Rattle.lx_writer_sets.proofs.WalkLemmas.{begins}
 use Rattle.lx_writer_sets.proofs.chain.some_writer.Goals as goal
 use Rattle.lx_caps.proofs.Principals.{same_principal_itself}
-use Rattle.lx_caps.proofs.Tests.{and_none}
 
 pub loop-node-init : goal.loop-node-init
 loop-node-init g c =
@@ -48,4 +48,4 @@ pub returns : goal.returns
 returns g c t tells =
     let es = nodes_at c.args.pool.now.places c.args.list in
     let none : c.loop-node.node ≡ None = search rules in
-    λ q. sym (c.loop-node.invariant.rest t tells q) ∙ (ap (λ o. t q && writes_in c.args.at.part (from o es) c.args.at.slot q) none ∙ and_none (t q))
+    λ q. sym (c.loop-node.invariant.rest t tells q) ∙ (ap (λ o. t q && writes_in c.args.at.part (from o es) c.args.at.slot q) none ∙ and_false (t q))

@@ -1,9 +1,9 @@
 use Rattle.std.proofs.Common.{◌∙◌, ap, sym, ◌++◌}
 use Rattle.std.specs.Prelude.{bytes_eq, codes}
+use Rattle.lx_words.proofs.Lists.{none_passes, same_place}
 use Rattle.lx_model.specs.declared.program.Program.{Program}
 use Rattle.lx_model.specs.Program.{slot_named}
 use Rattle.lx_code.specs.Places.{is_named}
-use Rattle.lx_code.proofs.Firsts.{none_passes, same_place}
 use Rattle.lx_code.proofs.targets.Lookup.slot_named.Goals as goal
 
 pub returns-in-Some : goal.returns-in-Some

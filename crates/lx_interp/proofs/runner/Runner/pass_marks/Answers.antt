@@ -1,5 +1,6 @@
 use Rattle.std.proofs.Common.{refl, sym, ◌∙◌}
-use Rattle.lx_interp.proofs.Marking.{no_value, passed_on, passed_step, taken_marks}
+use Rattle.lx_words.proofs.Options.{no_value}
+use Rattle.lx_interp.proofs.Marking.{passed_on, passed_step, taken_marks}
 use Rattle.lx_interp.proofs.runner.Runner.pass_marks.Goals as goal
 
 pub returns-in-Some-clause-goes_on : goal.returns-in-Some-clause-goes_on

@@ -1,11 +1,11 @@
 use Rattle.std.proofs.Common.{Bool, ◌&&◌, ◌∙◌, ap, subst}
+use Rattle.lx_words.proofs.Tests.{and_false}
 use Rattle.lx_cap_nodes.specs.Words.{nodes_at}
 use Rattle.lx_writer_sets.specs.Nodes.{Parts}
 use Rattle.lx_writer_sets.specs.Sets.{IsSomePrincipal, writes_in, writes_part}
 use Rattle.lx_writer_sets.proofs.Slots.{in_part, out_of_part}
 use Rattle.lx_writer_sets.proofs.SomeLemmas.{same_some}
 use Rattle.lx_writer_sets.proofs.parts.PartLists.some_writer.Goals as goal
-use Rattle.lx_caps.proofs.Tests.{and_none}
 
 pub returns-in-Some : goal.returns-in-Some
 returns-in-Some g c t tells =
@@ -18,4 +18,4 @@ returns-in-Some g c t tells =
 
 pub returns-in-None : goal.returns-in-None
 returns-in-None g c t tells =
-    λ q. ap (λ (b : Bool). t q && b) (out_of_part c.args.self.now.lists c.args.at.part c.args.at.slot c.in-None.ensures.none q) ∙ and_none (t q)
+    λ q. ap (λ (b : Bool). t q && b) (out_of_part c.args.self.now.lists c.args.at.part c.args.at.slot c.in-None.ensures.none q) ∙ and_false (t q)
