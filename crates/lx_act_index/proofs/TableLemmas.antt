@@ -12,7 +12,7 @@ use Rattle.lx_caps.specs.Loans.{none_end}
 use Rattle.lx_caps.specs.Regions.{covers, mapped}
 use Rattle.lx_cap_lists.specs.Bits.{is_set}
 use Rattle.lx_cap_lists.specs.Tables.{Key, same_key, call_key, ref_key, behind_parts, bit_of, part_list, place_in, place_of, with_key, or_with}
-use Rattle.lx_cap_lists.proofs.KeyLemmas.{same_self, found_last, found_before, not_last, found_within, one_key}
+use Rattle.lx_cap_lists.proofs.KeyLemmas.{same_self, found_last, found_before, not_last, one_key}
 use Rattle.lx_cap_lists.proofs.PartLemmas.{one_part, list_below}
 use Rattle.lx_act_index.specs.declared.lines.Entry.{Entry}
 use Rattle.lx_act_index.specs.declared.table.Saying.{Saying}
@@ -23,6 +23,7 @@ use Rattle.lx_act_index.specs.Lines.{line_with}
 use Rattle.lx_act_index.specs.Threads.{is_open}
 use Rattle.lx_act_index.specs.Table.{line_at, shown, line_of, key_line, IsTable, entry_of, IsNoted, IsFresh, AreFresh, ArePut, HasGrown, NotedFrom}
 use Rattle.lx_cap_lists.proofs.KeyPlaces.{behind_far, same_parts}
+use Rattle.lx_cap_lists.proofs.PlacesWithin.{list_within, behind_within}
 
 -- fresh lines, one more
 pub fresh_none : (threads : List Thread) (s : Saying) (r : Range) (lines fresh : List (List Entry)) → fresh ≡ [] → AreFresh threads s r lines fresh (r.at / 64)
@@ -133,17 +134,6 @@ part_there at size b is has = there (nat_le 0x40000 (b / 64) && nat_lt (b / 64) 
     there false true z ex ey ez = (b / 64 - 0x80000 + 0x4000, refl)
     there false false true ex ey ez = (b / 64 - 0xc0000 + 0x8000, refl)
     there false false false ex ey ez = absurd (grind (arith, nat_tests, is, has, ex, ey, ez))
-
--- keys
-pub list_within : (atoms : List Key) (k : Key) (i : ℕ) → place_in atoms k ≡ Some i → i < length atoms
-list_within atoms k i e = let h = (found_within (same_key k) 0 atoms i e).1 in omega (arith, h)
-
-pub behind_within : (atoms : List Key) (k : Key) (l : ℕ) → behind_parts (place_in atoms k) ≡ Some l → l < 0xc000 + length atoms
-behind_within atoms k l e = by (place_in atoms k) refl e
-  where
-    by : (o : Option ℕ) → place_in atoms k ≡ o → behind_parts o ≡ Some l → l < 0xc000 + length atoms
-    by None p f = absurd cc
-    by (Some i) p f = let is : 0xc000 + i ≡ l = cc in let h = list_within atoms k i p in omega (arith, is, h)
 
 pub with_fresh : (keys : List Key) (k : Key) → place_in keys k ≡ None → with_key keys k ≡ keys ++ k ∷ []
 with_fresh keys k fresh = ap (λ o. or_with o keys k) fresh
@@ -315,12 +305,6 @@ module _ (threads : List Thread) (s : Saying) (old new : Table) where
           by : (o : Option ℕ) → shown new.lines.items (behind_parts o) ≡ shown old.lines.items (behind_parts o)
           by None = refl
           by (Some i) = others (0xc000 + i) (omega arith)
-
--- the place of an atom has a line
-pub place_within : (atoms : List Key) (x : Atom) (l : ℕ) → place_of atoms x ≡ Some l → l < 0xc000 + length atoms
-place_within atoms (atom.Byte b) l e = let h = list_below (b / 64) l e in omega (arith, h)
-place_within atoms (atom.Call a) l e = behind_within atoms (call_key a) l e
-place_within atoms (atom.Ref t a) l e = behind_within atoms (ref_key t a) l e
 
 -- a table without entries shows no line
 pub none_shown_at : (t : Table) → ((l : ℕ) → line_at t.lines.items l ≡ []) → (x : Atom) → line_of t x ≡ []

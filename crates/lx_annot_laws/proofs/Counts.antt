@@ -1,31 +1,20 @@
 -- There are no more tokens than bytes, and no more statements than tokens.
-use Rattle.std.proofs.Common.{◌≡◌, ℕ, zero, suc, ◌+◌, ◌≤◌, Some, None, List, [], ◌∷◌, length, ap, ◌∙◌, arith}
+use Rattle.std.proofs.Common.{◌≡◌, ℕ, suc, ◌+◌, ◌≤◌, None, List, [], ◌∷◌, length, ap, ◌∙◌, arith}
 use Rattle.std.proofs.lemmas.List.{length-append}
 use Rattle.lx_words.specs.declared.token.TokenRule.{TokenRule}
-use Rattle.lx_words.specs.declared.token.Lexeme.{Lexeme}
 use Rattle.lx_words.specs.declared.token.Lexeme.TheVariants as lexemes
 use Rattle.lx_words.specs.declared.token.Token.{Token}
-use Rattle.lx_words.specs.Lexemes.{lexeme_of}
-use Rattle.lx_words.specs.Longest.{Begins}
 use Rattle.lx_words.specs.Cuts.{Piece, Cuts, token_at, tokens_of, feeds, Scans}
+use Rattle.lx_words.proofs.CutCounts.{some_byte, one_token}
 use Rattle.lx_annot.specs.declared.interface.Interface.{Interface}
 use Rattle.lx_annot_read.specs.declared.head.Version.{Version}
 use Rattle.lx_annot_laws.specs.Statements.{Statement, OfReftype, OfIterator, OfSlot, OfField, OfExport, with_statement, AreStatements}
-
-piece_some : (rule : TokenRule) (text : List ℕ) (lexeme : Lexeme) (n : ℕ) → Begins (lexeme_of rule) text lexeme n → 1 ≤ n
-piece_some rule text lexeme zero b = let e : lexeme_of rule [] ≡ Some lexeme = b.is in cc
-piece_some rule text lexeme (suc n) b = omega arith
-
-one_token : (lexeme : Lexeme) (at end line : ℕ) → length (token_at lexeme at end line) ≤ 1
-one_token lexemes.Space at end line = omega arith
-one_token lexemes.Comment at end line = omega arith
-one_token (lexemes.Token kind) at end line = omega arith
 
 tokens_few : (rule : TokenRule) (pieces : List Piece) (at line : ℕ) (text rest : List ℕ) → Cuts rule text pieces rest → length (tokens_of at line pieces) ≤ length text
 tokens_few rule [] at line text rest cut = omega arith
 tokens_few rule (p ∷ ps) at line text rest (after, e, begins, cut) =
     let one = one_token p.lexeme at (at + length p.bytes) line in
-    let some = piece_some rule text p.lexeme (length p.bytes) begins in
+    let some = some_byte rule text p.lexeme (length p.bytes) begins in
     let more = tokens_few rule ps (at + length p.bytes) (line + feeds p.bytes) after rest cut in
     let size : length text ≡ length p.bytes + length after = ap length e ∙ length-append p.bytes after in
     let all = length-append (token_at p.lexeme at (at + length p.bytes) line) (tokens_of (at + length p.bytes) (line + feeds p.bytes) ps) in

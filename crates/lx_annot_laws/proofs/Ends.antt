@@ -1,5 +1,5 @@
 -- A lexeme ends where a text begins that does not lengthen it.
-use Rattle.std.proofs.Common.{◌≡◌, ℕ, List, [], ◌∷◌, ◌++◌, Bool, true, false, not, ◌&&◌, ◌||◌, refl, sym, ap, ◌∙◌, Option, Some, None}
+use Rattle.std.proofs.Common.{◌≡◌, ℕ, List, [], ◌∷◌, ◌++◌, Bool, true, false, not, ◌&&◌, ◌||◌, refl, sym, ap, ◌∙◌, Some, None}
 use Rattle.std.specs.Prelude.{◌==◌, if◌then◌else◌}
 use Rattle.std.specs.List.{list_all}
 use Rattle.std.proofs.lemmas.Bool.{and_parts, or_from, eqb-true, and_right, or_parts, not-true}
@@ -7,8 +7,9 @@ use Rattle.lx_words.specs.declared.token.TokenRule.TheVariants.{Interface}
 use Rattle.lx_words.specs.declared.token.Lexeme.{Lexeme}
 use Rattle.lx_words.specs.declared.token.Lexeme.TheVariants.{Space, Comment, Token}
 use Rattle.lx_words.specs.declared.token.TokenKind.TheVariants as kinds
-use Rattle.lx_words.specs.Lexemes.{is_space, is_comment_mark, is_digit, is_word_start, is_word_byte, is_name_byte, is_quoted_name_byte, is_line_byte, is_nil, ends_quoted, some_all, ends_name, is_name, is_interface_mark, when, other_lexeme, lexeme_behind}
+use Rattle.lx_words.specs.Lexemes.{is_space, is_comment_mark, is_digit, is_word_start, is_word_byte, is_name_byte, is_line_byte, is_nil, some_all, ends_name, is_name, is_interface_mark, when, other_lexeme, lexeme_behind}
 use Rattle.lx_words.proofs.Lists.{all_lost}
+use Rattle.lx_words.proofs.LostEnds.{some_lost, nil_lost, ended_name_lost, if_lost}
 use Rattle.lx_annot_laws.specs.Says.{ends_word_byte, is_second_byte, is_open_byte, ends_before}
 
 -- Tests.
@@ -24,31 +25,6 @@ ending r e =
     let name = not-true (is_name_byte r) (and_parts (not (is_name_byte r)) (not (r == 34)) e).0 in
     let word = (or_parts (is_word_byte r) (r == 45) name).0 in
     record { name = name; word = word; digit = (or_parts (is_word_start r) (is_digit r) word).1 }
-
-some_lost : (p : ℕ → Bool) (bs : List ℕ) (r : ℕ) (more : List ℕ) → p r ≡ false → some_all p (bs ++ r ∷ more) ≡ false
-some_lost p [] r more e = ap (λ v. v && list_all p more) e
-some_lost p (b ∷ bs) r more e = and_right (p b) (list_all p (bs ++ r ∷ more)) (all_lost p bs r more e)
-
-nil_lost : (bs : List ℕ) (r : ℕ) (more : List ℕ) → is_nil (bs ++ r ∷ more) ≡ false
-nil_lost [] r more = refl
-nil_lost (b ∷ bs) r more = refl
-
-test_lost : (v x y z u : Bool) → (x ≡ true → z ≡ false) → (y ≡ true → u ≡ false) → (if v then x else y) ≡ true → (if v then z else u) ≡ false
-test_lost true x y z u f g e = f e
-test_lost false x y z u f g e = g e
-
-quoted_lost : (p : ℕ → Bool) (bs : List ℕ) (r : ℕ) (more : List ℕ) → ends_quoted p bs ≡ true → ends_quoted p (bs ++ r ∷ more) ≡ false
-quoted_lost p [] r more e = cc e
-quoted_lost p (b ∷ bs) r more e =
-    test_lost (b == 34) (is_nil bs) (p b && ends_quoted p bs) (is_nil (bs ++ r ∷ more)) (p b && ends_quoted p (bs ++ r ∷ more))
-    (λ h. nil_lost bs r more)
-    (λ h. and_right (p b) (ends_quoted p (bs ++ r ∷ more)) (quoted_lost p bs r more (and_parts (p b) (ends_quoted p bs) h).1))
-    e
-
-ended_name_lost : (bs : List ℕ) (r : ℕ) (more : List ℕ) → ends_name bs ≡ true → ends_name (bs ++ r ∷ more) ≡ false
-ended_name_lost [] r more e = cc e
-ended_name_lost (b ∷ bs) r more e =
-    and_right (is_quoted_name_byte b) (ends_quoted is_quoted_name_byte (bs ++ r ∷ more)) (quoted_lost is_quoted_name_byte bs r more (and_parts (is_quoted_name_byte b) (ends_quoted is_quoted_name_byte bs) e).1)
 
 name_lost : (bs : List ℕ) (r : ℕ) (more : List ℕ) → ends_word_byte r ≡ true → is_name bs ≡ true → is_name (bs ++ r ∷ more) ≡ false
 name_lost [] r more h e = cc e
@@ -123,10 +99,6 @@ when_lost bytes rest true w k l h f e = ap (λ b. when b k) (f (ap (λ m. ends_b
     same : k ≡ l
     same = cc e
 when_lost bytes rest false w k l h f e = cc e
-
-if_lost : (v : Bool) (x y z u : Option Lexeme) (l : Lexeme) → (x ≡ Some l → z ≡ None) → (y ≡ Some l → u ≡ None) → (if v then x else y) ≡ Some l → (if v then z else u) ≡ None
-if_lost true x y z u l f g e = f e
-if_lost false x y z u l f g e = g e
 
 module _ (b : ℕ) (bs : List ℕ) (r : ℕ) (more : List ℕ) (l : Lexeme) (h : ends_before l (b ∷ bs) (r ∷ more) ≡ true) where
   other_lost : other_lexeme Interface b bs ≡ Some l → other_lexeme Interface b (bs ++ r ∷ more) ≡ None

@@ -7,9 +7,9 @@ use Rattle.std.proofs.lemmas.List.{take_at, length-append}
 use Rattle.lx_words.specs.declared.token.TokenKind.{TokenKind}
 use Rattle.lx_words.specs.declared.token.TokenKind.TheVariants as kinds
 use Rattle.lx_words.specs.declared.token.TokenRule.TheVariants as rules
-use Rattle.lx_words.specs.declared.token.Lexeme.{Lexeme}
 use Rattle.lx_words.specs.declared.token.Lexeme.TheVariants.{Space, Comment, Token}
 use Rattle.lx_words.specs.Lexemes.{is_space, is_digit, is_word_start, is_word_byte, is_line_byte, is_interface_mark, is_name_byte, is_quoted_name_byte, is_nil, ends_quoted, ends_name, some_all, is_name, when, lexeme_of, lexeme_behind, other_lexeme}
+use Rattle.lx_words.proofs.WholeLexemes.{nil_is, when_is}
 use Rattle.lx_annot_read.specs.Said.{all_but_last, unquoted, struct_of}
 use Rattle.lx_annot_read.specs.Interfaces.{struct_of_kind}
 use Rattle.lx_cproto_print.specs.Printed.{name_text}
@@ -85,10 +85,6 @@ record Closed (xs : List ℕ) : Type 0 where
   whole : xs ≡ inner ++ 34 ∷ []
   passes : list_all is_quoted_name_byte inner ≡ true
 
-nil_is : (xs : List ℕ) → is_nil xs ≡ true → xs ≡ []
-nil_is [] h = refl
-nil_is (x ∷ xs) h = cc
-
 closed_by : (b : ℕ) (bs : List ℕ) (v : Bool) → b == 34 ≡ v → ((h : ends_quoted is_quoted_name_byte bs ≡ true) → Closed bs) → (if v then is_nil bs else is_quoted_name_byte b && ends_quoted is_quoted_name_byte bs) ≡ true → Closed (b ∷ bs)
 closed_by b bs true e more h = record { inner = []; whole = ap (λ c. c ∷ bs) (eqb-true b 34 e) ∙ ap (λ xs. 34 ∷ xs) (nil_is bs h); passes = refl }
 closed_by b bs false e more h =
@@ -120,17 +116,13 @@ behind_percent (b ∷ bs) h = struct_by (b == 34) b bs h
 
 -- A token that is a name behind `%`.
 
-pub whether : (test : Bool) (k l : Lexeme) → when test k ≡ Some l → (test ≡ true) × (k ≡ l)
-whether true k l h = let same : k ≡ l = cc in (refl, same)
-whether false k l h = cc
-
 local_by : (a b c d e t1 t2 t3 t4 t5 t6 : Bool) → (if a then when t1 Space else if b then when t2 Comment else if c then when t3 (Token kinds.Local) else if d then when t4 (Token kinds.Number) else if e then when t5 (Token kinds.Word) else when t6 (Token kinds.Mark)) ≡ Some (Token kinds.Local) → t3 ≡ true
-local_by true b c d e t1 t2 t3 t4 t5 t6 h = let k : Space ≡ Token kinds.Local = (whether t1 Space (Token kinds.Local) h).1 in cc
-local_by false true c d e t1 t2 t3 t4 t5 t6 h = let k : Comment ≡ Token kinds.Local = (whether t2 Comment (Token kinds.Local) h).1 in cc
-local_by false false true d e t1 t2 t3 t4 t5 t6 h = (whether t3 (Token kinds.Local) (Token kinds.Local) h).0
-local_by false false false true e t1 t2 t3 t4 t5 t6 h = let k : Token kinds.Number ≡ Token kinds.Local = (whether t4 (Token kinds.Number) (Token kinds.Local) h).1 in cc
-local_by false false false false true t1 t2 t3 t4 t5 t6 h = let k : Token kinds.Word ≡ Token kinds.Local = (whether t5 (Token kinds.Word) (Token kinds.Local) h).1 in cc
-local_by false false false false false t1 t2 t3 t4 t5 t6 h = let k : Token kinds.Mark ≡ Token kinds.Local = (whether t6 (Token kinds.Mark) (Token kinds.Local) h).1 in cc
+local_by true b c d e t1 t2 t3 t4 t5 t6 h = let k : Space ≡ Token kinds.Local = (when_is t1 Space (Token kinds.Local) h).1 in cc
+local_by false true c d e t1 t2 t3 t4 t5 t6 h = let k : Comment ≡ Token kinds.Local = (when_is t2 Comment (Token kinds.Local) h).1 in cc
+local_by false false true d e t1 t2 t3 t4 t5 t6 h = (when_is t3 (Token kinds.Local) (Token kinds.Local) h).0
+local_by false false false true e t1 t2 t3 t4 t5 t6 h = let k : Token kinds.Number ≡ Token kinds.Local = (when_is t4 (Token kinds.Number) (Token kinds.Local) h).1 in cc
+local_by false false false false true t1 t2 t3 t4 t5 t6 h = let k : Token kinds.Word ≡ Token kinds.Local = (when_is t5 (Token kinds.Word) (Token kinds.Local) h).1 in cc
+local_by false false false false false t1 t2 t3 t4 t5 t6 h = let k : Token kinds.Mark ≡ Token kinds.Local = (when_is t6 (Token kinds.Mark) (Token kinds.Local) h).1 in cc
 
 is_local : (b : ℕ) (bs : List ℕ) → lexeme_of rules.Interface (b ∷ bs) ≡ Some (Token kinds.Local) → is_name bs ≡ true
 unfolding lexeme_behind other_lexeme

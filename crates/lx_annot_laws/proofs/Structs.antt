@@ -11,24 +11,25 @@ use Rattle.lx_words.specs.declared.token.Lexeme.TheVariants as lexemes
 use Rattle.lx_words.specs.Lexemes.{is_space, is_digit, is_word_start, is_word_byte, is_name_byte, is_line_byte, is_interface_mark, is_name, is_nil, when, lexeme_behind, other_lexeme}
 use Rattle.lx_words.proofs.Lists.{any_front, any_last}
 use Rattle.lx_words.proofs.Tests.{and_false}
+use Rattle.lx_words.proofs.WholeLexemes.{when_is}
 use Rattle.lx_annot.specs.declared.interface.Field.{Field}
 use Rattle.lx_annot.specs.declared.interface.Interface.{Interface}
 use Rattle.lx_annot_read.specs.Interfaces.{is_field, is_typed}
 use Rattle.lx_annot_laws.specs.Says.{IsWord}
 use Rattle.lx_annot_laws.specs.Sayable.{IsStructName}
-use Rattle.lx_annot_laws.proofs.StructNames.{name_of_bytes, whether}
+use Rattle.lx_annot_laws.proofs.StructNames.{name_of_bytes}
 use Rattle.lx_cproto.specs.Statements.{struct_type}
 use Rattle.lx_annot_laws.proofs.PrototypeLawful.{same_struct, below_differs}
 
 -- Names.
 
 word_by : (a b c d e t1 t2 t3 t4 t5 t6 : Bool) → (if a then when t1 lexemes.Space else if b then when t2 lexemes.Comment else if c then when t3 (lexemes.Token kinds.Local) else if d then when t4 (lexemes.Token kinds.Number) else if e then when t5 (lexemes.Token kinds.Word) else when t6 (lexemes.Token kinds.Mark)) ≡ Some (lexemes.Token kinds.Word) → (e ≡ true) × (t5 ≡ true)
-word_by true b c d e t1 t2 t3 t4 t5 t6 h = let k : lexemes.Space ≡ lexemes.Token kinds.Word = (whether t1 lexemes.Space (lexemes.Token kinds.Word) h).1 in cc
-word_by false true c d e t1 t2 t3 t4 t5 t6 h = let k : lexemes.Comment ≡ lexemes.Token kinds.Word = (whether t2 lexemes.Comment (lexemes.Token kinds.Word) h).1 in cc
-word_by false false true d e t1 t2 t3 t4 t5 t6 h = let k : lexemes.Token kinds.Local ≡ lexemes.Token kinds.Word = (whether t3 (lexemes.Token kinds.Local) (lexemes.Token kinds.Word) h).1 in cc
-word_by false false false true e t1 t2 t3 t4 t5 t6 h = let k : lexemes.Token kinds.Number ≡ lexemes.Token kinds.Word = (whether t4 (lexemes.Token kinds.Number) (lexemes.Token kinds.Word) h).1 in cc
-word_by false false false false true t1 t2 t3 t4 t5 t6 h = (refl, (whether t5 (lexemes.Token kinds.Word) (lexemes.Token kinds.Word) h).0)
-word_by false false false false false t1 t2 t3 t4 t5 t6 h = let k : lexemes.Token kinds.Mark ≡ lexemes.Token kinds.Word = (whether t6 (lexemes.Token kinds.Mark) (lexemes.Token kinds.Word) h).1 in cc
+word_by true b c d e t1 t2 t3 t4 t5 t6 h = let k : lexemes.Space ≡ lexemes.Token kinds.Word = (when_is t1 lexemes.Space (lexemes.Token kinds.Word) h).1 in cc
+word_by false true c d e t1 t2 t3 t4 t5 t6 h = let k : lexemes.Comment ≡ lexemes.Token kinds.Word = (when_is t2 lexemes.Comment (lexemes.Token kinds.Word) h).1 in cc
+word_by false false true d e t1 t2 t3 t4 t5 t6 h = let k : lexemes.Token kinds.Local ≡ lexemes.Token kinds.Word = (when_is t3 (lexemes.Token kinds.Local) (lexemes.Token kinds.Word) h).1 in cc
+word_by false false false true e t1 t2 t3 t4 t5 t6 h = let k : lexemes.Token kinds.Number ≡ lexemes.Token kinds.Word = (when_is t4 (lexemes.Token kinds.Number) (lexemes.Token kinds.Word) h).1 in cc
+word_by false false false false true t1 t2 t3 t4 t5 t6 h = (refl, (when_is t5 (lexemes.Token kinds.Word) (lexemes.Token kinds.Word) h).0)
+word_by false false false false false t1 t2 t3 t4 t5 t6 h = let k : lexemes.Token kinds.Mark ≡ lexemes.Token kinds.Word = (when_is t6 (lexemes.Token kinds.Mark) (lexemes.Token kinds.Word) h).1 in cc
 
 word_parts : (b : ℕ) (bs : List ℕ) → IsWord (b ∷ bs) → (is_word_start b ≡ true) × (list_all is_word_byte bs ≡ true)
 unfolding lexeme_behind other_lexeme

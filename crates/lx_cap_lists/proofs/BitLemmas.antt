@@ -4,7 +4,7 @@ use Rattle.std.specs.Int.{bit_at}
 use Rattle.std.proofs.lemmas.Bool.Decides.{nat_tests}
 use Rattle.std.proofs.lemmas.Nat.Bits.{bit_at-zero, bit_at-lt, bit_at_not}
 use Rattle.std.proofs.lemmas.Bool.{and_parts}
-use Rattle.lx_words.proofs.Tests.{and_false, or_joined}
+use Rattle.lx_words.proofs.Tests.{and_false, or_joined, or_and, or_swap}
 use Rattle.lx_caps.specs.History.{same_principal}
 use Rattle.lx_cap_lists.specs.declared.entry.Entry.{Entry}
 use Rattle.lx_cap_lists.specs.declared.holder.Holder.{Holder}
@@ -13,7 +13,6 @@ use Rattle.lx_cap_lists.specs.Holders.{same_holder}
 use Rattle.lx_cap_lists.specs.Bits.{is_set}
 use Rattle.lx_cap_lists.specs.Entries.{gives_bit, bit_among, with_mask, left_of, cut_node, cut_all}
 use Rattle.lx_cap_lists.proofs.Masks.{set_in_both}
-use Rattle.lx_caps.proofs.Tests.{or_swap}
 use Rattle.lx_caps.proofs.Principals.{same_principal_is}
 
 pub none_set : (k : ℕ) → is_set 0 k ≡ false
@@ -29,13 +28,6 @@ pub set_left : (mask bits k : ℕ) → bits < 2 ^ 64 → k < 64 → is_set (left
 set_left mask bits k fits below =
     set_in_both mask (18446744073709551615 - bits) k
     ∙ ap (λ b. is_set mask k && b) (ap (λ n. nat_eq n 1) (bit_at_not w64 bits k fits below) ∙ flipped (bit_at bits k) (bit_at-lt bits k))
-
-or_and : (a b c : Bool) → ((a || b) && c) ≡ ((a && c) || (b && c))
-or_and true true true = refl
-or_and true true false = refl
-or_and true false true = refl
-or_and true false false = refl
-or_and false b c = refl
 
 and_join : (a b c : Bool) → (a && (b && c)) ≡ ((a && b) && c)
 and_join true b c = refl

@@ -1,23 +1,12 @@
 -- Whether bits are had: by what the principal keeps itself, or by all that is in reach.
 use Rattle.std.proofs.Common.{◌≡◌, ℕ, ◌<◌, ◌^◌, Bool, true, false, ◌||◌, nat_eq, bit_and, List, ◌∷◌, ◌++◌, sym, ◌∙◌}
 use Rattle.std.proofs.lemmas.Bool.{and_from, or_left, or_right}
-use Rattle.lx_words.proofs.Tests.{eq_self}
-use Rattle.lx_caps.specs.declared.Principal.{Principal}
-use Rattle.lx_caps.specs.declared.Principal.TheVariants.{Kernel, Shared, Global, Inst}
-use Rattle.lx_caps.specs.History.{reaches, same_principal}
-use Rattle.lx_caps.proofs.Principals.{same_principal_itself}
 use Rattle.lx_cap_lists.specs.declared.entry.Entry.{Entry}
 use Rattle.lx_cap_lists.specs.declared.holder.Holder.{Holder}
 use Rattle.lx_cap_lists.specs.Bits.{is_set}
 use Rattle.lx_cap_lists.specs.Entries.{HasBits, bit_among, gives_bit}
 use Rattle.lx_cap_lists.proofs.BitLemmas.{bit_append}
 use Rattle.lx_cap_lists.proofs.HeldLemmas.{missing, present}
-
-pub reaches_itself : (p : Principal) → reaches p p ≡ true
-reaches_itself Kernel = same_principal_itself Kernel
-reaches_itself (Shared m) = same_principal_itself (Shared m)
-reaches_itself (Global m) = eq_self m
-reaches_itself (Inst m k) = or_left (same_principal (Inst m k) (Inst m k)) (same_principal (Shared m) (Inst m k)) (same_principal_itself (Inst m k))
 
 -- what one of the nodes gives is among what all give
 pub bit_there : (among : Holder → Bool) (k : ℕ) (xs ys : List (ℕ × Entry)) (n : ℕ) (v : Entry) → among v.holder ≡ true → is_set v.mask k ≡ true → bit_among among (xs ++ (n, v) ∷ ys) k ≡ true

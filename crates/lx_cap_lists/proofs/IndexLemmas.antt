@@ -4,6 +4,7 @@ use Rattle.std.specs.Prelude.{IfNone, IfSome, suc, zero}
 use Rattle.std.proofs.lemmas.Bool.Decides.{nat_tests}
 use Rattle.std.proofs.lemmas.Bool.{or_from}
 use Rattle.std.proofs.lemmas.List.{get_or-set_same, get_or-set_other}
+use Rattle.lx_words.proofs.Tests.{none_left, none_right, or_other}
 use Rattle.std.proofs.Math.ListN as listn
 use Rattle.lx_cap_nodes.specs.declared.pool.Family.TheVariants as family
 use Rattle.lx_cap_nodes.specs.Names.{has}
@@ -18,7 +19,6 @@ use Rattle.lx_cap_lists.specs.Walks.{StandsAt}
 use Rattle.lx_cap_lists.proofs.BitLemmas.{same_is}
 use Rattle.lx_cap_lists.proofs.HolderKeys.{holder_key_is, holder_turned, key_test}
 use Rattle.lx_cap_lists.proofs.TakenLemmas.{same_some}
-use Rattle.lx_caps.proofs.Tests.{none_left, none_right, or_other}
 
 -- the node that is found is of the holder, and where none is found the holder has none
 node_none : (q : Holder) (es : List (ℕ × Entry)) → is_holder q es ≡ false → node_in q es ≡ None

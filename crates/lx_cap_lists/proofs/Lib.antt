@@ -19,3 +19,4 @@ pub mod ShownLemmas
 pub mod TakenLemmas
 pub mod VisitLemmas
 pub mod WalkLemmas
+pub mod PlacesWithin

@@ -5,6 +5,7 @@ use Rattle.std.proofs.lemmas.Bool.Decides.{nat_tests}
 use Rattle.std.proofs.lemmas.Bool.{cases_lt, or_from, or_left as or_true}
 use Rattle.std.proofs.lemmas.List.{get_or-set_same, get_or-set_other}
 use Rattle.std.proofs.lemmas.Nat.Bits.{same_from_bits, bit_at_above, bit_at_and, bit_at_or, bit_at-lt, bit_at-zero}
+use Rattle.lx_words.proofs.Tests.{none_left, none_right}
 use Rattle.lx_cap_lists.specs.declared.holder.Holder.{Holder}
 use Rattle.lx_cap_lists.specs.Holders.{same_holder}
 use Rattle.std.proofs.Math.ListN as listn
@@ -16,7 +17,6 @@ use Rattle.lx_cap_lists.specs.Kept.{width_of, IsMask, AreNodes, AllNodes}
 use Rattle.lx_cap_lists.proofs.HeldLemmas.{lacks}
 use Rattle.lx_cap_lists.proofs.BitLemmas.{none_set}
 use Rattle.lx_cap_lists.proofs.MoreParts.{either_set}
-use Rattle.lx_caps.proofs.Tests.{none_left, none_right}
 
 -- a number that is not 0 has a bit
 pub some_bit : (w m : ℕ) → ((k : ℕ) → w ≤ k → bit_at m k ≡ 0) → nat_eq m 0 ≡ false → IsMask w m

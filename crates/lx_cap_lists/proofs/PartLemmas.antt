@@ -1,6 +1,7 @@
 -- The parts of memory and their lists.
 use Rattle.std.proofs.Common.{◌≡◌, ◌≢◌, ℕ, suc, ◌+◌, ◌-◌, ◌/◌, ◌%◌, ◌<◌, Bool, true, false, not, ◌&&◌, ◌||◌, nat_eq, nat_lt, nat_le, cond, List, length, Option, Some, None, refl, sym, ap, ◌∙◌, arith}
 use Rattle.std.proofs.lemmas.Bool.Decides.{nat_tests}
+use Rattle.lx_words.proofs.Tests.{and_true}
 use Rattle.lx_caps.specs.Regions.{covers}
 use Rattle.lx_cap_nodes.specs.Words.{nodes_at}
 use Rattle.lx_cap_lists.specs.Pieces.{lies_in}
@@ -8,7 +9,6 @@ use Rattle.lx_cap_lists.specs.declared.piece.Piece.{Piece}
 use Rattle.lx_cap_lists.specs.declared.entry.Entry.{Entry}
 use Rattle.lx_cap_lists.specs.Tables.{part_list, count_in, work_in}
 use Rattle.lx_cap_lists.proofs.Ranges.{covered, covered_more, none_before, all_before}
-use Rattle.lx_caps.proofs.Tests.{and_true}
 
 -- the part of a list
 abbrev part_of : ℕ → ℕ

@@ -4,10 +4,11 @@ use Rattle.std.specs.Prelude.{nat_eq}
 use Rattle.std.proofs.lemmas.List.{get_or-set_same, get_or-set_other, get_or_past, length-map}
 use Rattle.std.proofs.Math.ListN as listn
 use Rattle.std.proofs.lemmas.Bool.{or_right as or_true}
+use Rattle.lx_words.proofs.Tests.{none_left, none_right, or_other}
 use Rattle.lx_cap_nodes.specs.declared.links.Link.{Link}
 use Rattle.lx_cap_nodes.specs.Links.{at_list, no_link, link_at, head_at, with_previous, with_next, passing, heads_passing, IsWithin, Below, Fits, IsList, IsFamily}
 use Rattle.lx_cap_nodes.specs.Names.{has, is_listed, first_of, next_of, next_in, drop_name, Apart}
-use Rattle.lx_cap_nodes.proofs.LinkLemmas.{ne_from_eq, eq_from_ne, or_left, or_right, or_other, link-same, link-other, has_apart, fits-other, IsOut, fits-with_next, fits-with_previous, length-with_next, length-with_previous, fits-before, list_is, below_has, first_has, previous_has, next_is, next_has, drop_out, apart_drop, below_drop, below_more}
+use Rattle.lx_cap_nodes.proofs.LinkLemmas.{ne_from_eq, link-same, link-other, has_apart, fits-other, IsOut, fits-with_next, fits-with_previous, length-with_next, length-with_previous, fits-before, list_is, below_has, first_has, previous_has, next_is, next_has, drop_out, apart_drop, below_drop, below_more}
 
 -- a list without the node's number where it is the first
 unlink_first : (links : List Link) (l : ℕ) (b : Option ℕ) (m : ℕ) (ns : List ℕ) → Fits links l b (m ∷ ns) → Apart (m ∷ ns) → Below (length links) (m ∷ ns) → IsOut b ns → Fits (passing links (link_at links m)) l b ns
@@ -40,7 +41,7 @@ out_from (Some k) ns h = h k refl
 
 out_less : (b : Option ℕ) (m : ℕ) (ns : List ℕ) → IsOut b (m ∷ ns) → IsOut b ns
 out_less None m ns out = tt
-out_less (Some k) m ns out = or_right (nat_eq k m) (has k ns) out
+out_less (Some k) m ns out = none_right (nat_eq k m) (has k ns) out
 
 -- a node that stays is linked to what then stands behind it
 stays_linked : (links : List Link) (l : ℕ) (b : Option ℕ) (m n : ℕ) (ns : List ℕ) → Fits links l b (m ∷ ns) → Apart (m ∷ ns) → Below (length links) (m ∷ ns) → nat_eq n m ≡ false → has n ns ≡ true → link_at (passing links (link_at links n)) m ≡ record { previous = b; next = first_of (drop_name n ns); list = l }
@@ -90,8 +91,8 @@ listed_at (ns ∷ lists) n «in» =
 
 pub unlisted_at : (lists : List (List ℕ)) (n : ℕ) → is_listed n lists ≡ false → (l : ℕ) → has n (at_list lists l) ≡ false
 unlisted_at [] n out l = refl
-unlisted_at (ns ∷ lists) n out zero = or_left (has n ns) (is_listed n lists) out
-unlisted_at (ns ∷ lists) n out (suc l) = unlisted_at lists n (or_right (has n ns) (is_listed n lists) out) l
+unlisted_at (ns ∷ lists) n out zero = none_left (has n ns) (is_listed n lists) out
+unlisted_at (ns ∷ lists) n out (suc l) = unlisted_at lists n (none_right (has n ns) (is_listed n lists) out) l
 
 pub listed_by : (lists : List (List ℕ)) (n l : ℕ) → has n (at_list lists l) ≡ true → is_listed n lists ≡ true
 listed_by [] n l «in» = absurd (cc)

@@ -1,31 +1,16 @@
 -- How the links change as a node comes and goes.
-use Rattle.std.proofs.Common.{◌≡◌, ◌≢◌, ℕ, zero, suc, ◌+◌, ◌<◌, ◌≤◌, Bool, true, false, ◌||◌, cond, eqb, List, [], ◌∷◌, ◌++◌, length, map, get_or, set, Option, Some, None, refl, sym, ap, ◌∙◌, subst, arith, length-set, eqb-true}
+use Rattle.std.proofs.Common.{◌≡◌, ◌≢◌, ℕ, zero, suc, ◌+◌, ◌<◌, ◌≤◌, true, false, ◌||◌, cond, eqb, List, [], ◌∷◌, ◌++◌, length, map, get_or, set, Option, Some, None, refl, sym, ap, ◌∙◌, subst, arith, length-set, eqb-true}
 use Rattle.std.specs.Prelude.{nat_eq}
 use Rattle.std.proofs.lemmas.Bool.Decides.{nat_tests}
 use Rattle.std.proofs.lemmas.List.{get_or-set_same, get_or-set_other, get_or_past, get_or-map, length-map, ext_get_or, get_or_append_left, length_push}
 use Rattle.std.proofs.lemmas.Bool.{or_right as or_true}
-use Rattle.lx_words.proofs.Tests.{eq_self}
+use Rattle.lx_words.proofs.Tests.{eq_self, none_left, none_right, or_other}
 use Rattle.lx_cap_nodes.specs.declared.links.Link.{Link}
 use Rattle.lx_cap_nodes.specs.Links.{at_list, no_link, link_at, head_at, with_previous, with_next, IsWithin, Below, Fits, IsList, IsFamily, walk, lists_of}
 use Rattle.lx_cap_nodes.specs.Names.{has, is_listed, first_of, next_of, next_in, drop_name, Apart}
 
 pub ne_from_eq : (m n : ℕ) → nat_eq m n ≡ false → m ≢ n
 ne_from_eq m n e = λ same. grind (arith, nat_tests, e, same)
-
-pub eq_from_ne : (m n : ℕ) → m ≢ n → nat_eq m n ≡ false
-eq_from_ne m n ne = grind (arith, nat_tests, ne)
-
-pub or_left : (a b : Bool) → (a || b) ≡ false → a ≡ false
-or_left false b e = refl
-or_left true b e = e
-
-pub or_right : (a b : Bool) → (a || b) ≡ false → b ≡ false
-or_right false b e = e
-or_right true b e = absurd (cc)
-
-pub or_other : (a b : Bool) → (a || b) ≡ true → a ≡ false → b ≡ true
-or_other false b e f = e
-or_other true b e f = absurd (cc)
 
 -- a written link is read back, and the others stay
 pub link-same : (links : List Link) (n : ℕ) (x : Link) → n < length links → link_at (set links n x) n ≡ x
@@ -42,8 +27,8 @@ has_apart ns m n out «in» = λ same. absurd (let e : has m ns ≡ true = subst
 pub fits-other : (links : List Link) (l : ℕ) (before : Option ℕ) (ns : List ℕ) (k : ℕ) (x : Link) → has k ns ≡ false → Fits links l before ns → Fits (set links k x) l before ns
 fits-other links l before [] k x out fits = tt
 fits-other links l before (n ∷ ns) k x out fits =
-    let ne = ne_from_eq k n (or_left (nat_eq k n) (has k ns) out) in
-    (link-other links k n x (λ e. ne (sym e)) ∙ fits.0, fits-other links l (Some n) ns k x (or_right (nat_eq k n) (has k ns) out) fits.1)
+    let ne = ne_from_eq k n (none_left (nat_eq k n) (has k ns) out) in
+    (link-other links k n x (λ e. ne (sym e)) ∙ fits.0, fits-other links l (Some n) ns k x (none_right (nat_eq k n) (has k ns) out) fits.1)
 
 -- the option's number, if there is one, is not among these
 abbrev pub IsOut : Option ℕ → List ℕ → Type 0
@@ -124,15 +109,15 @@ next_has n (m ∷ ns) k is =
 -- what stays once a number is dropped
 pub drop_out : (n : ℕ) (ns : List ℕ) → has n ns ≡ false → drop_name n ns ≡ ns
 drop_out n [] out = refl
-drop_out n (m ∷ ns) out = rw (or_left (nat_eq n m) (has n ns) out) (ap (λ ms. m ∷ ms) (drop_out n ns (or_right (nat_eq n m) (has n ns) out)))
+drop_out n (m ∷ ns) out = rw (none_left (nat_eq n m) (has n ns) out) (ap (λ ms. m ∷ ms) (drop_out n ns (none_right (nat_eq n m) (has n ns) out)))
 
 pub has_drop : (m n : ℕ) (ns : List ℕ) → has m ns ≡ false → has m (drop_name n ns) ≡ false
 has_drop m n [] out = refl
 has_drop m n (k ∷ ns) out =
-    let rest = has_drop m n ns (or_right (nat_eq m k) (has m ns) out) in
+    let rest = has_drop m n ns (none_right (nat_eq m k) (has m ns) out) in
     elim (nat_eq n k) as (λ t. has m (cond t (drop_name n ns) (k ∷ drop_name n ns)) ≡ false) [
       | true ↦ rest
-      | false ↦ rw (or_left (nat_eq m k) (has m ns) out) rest
+      | false ↦ rw (none_left (nat_eq m k) (has m ns) out) rest
     ]
 
 pub has_drop_self : (n : ℕ) (ns : List ℕ) → has n (drop_name n ns) ≡ false

@@ -15,20 +15,11 @@ use Rattle.lx_cap_lists.specs.Bits.{is_set}
 use Rattle.lx_cap_lists.specs.Entries.{HasBits, bit_among, cut_all}
 use Rattle.lx_cap_lists.specs.Tables.{Key, same_key, call_key, ref_key, place_in, with_key, or_with, part_list, behind_parts, place_of, bit_of, shown_at, AreEmpty}
 use Rattle.lx_cap_lists.proofs.BitLemmas.{bit_cut}
-use Rattle.lx_cap_lists.proofs.KeyLemmas.{same_self, found_last, found_before, not_last, found_within, one_key}
+use Rattle.lx_cap_lists.proofs.KeyLemmas.{same_self, found_last, found_before, not_last, one_key}
 use Rattle.lx_cap_lists.proofs.NodeLemmas.{one_mask}
 use Rattle.lx_cap_lists.proofs.PartLemmas.{list_below}
 use Rattle.lx_cap_lists.proofs.KeyPlaces.{behind_far, same_parts}
-
-pub list_within : (atoms : List Key) (k : Key) (i : ℕ) → place_in atoms k ≡ Some i → i < length atoms
-list_within atoms k i e = let h = (found_within (same_key k) 0 atoms i e).1 in omega (arith, h)
-
-pub behind_within : (atoms : List Key) (k : Key) (l : ℕ) → behind_parts (place_in atoms k) ≡ Some l → l < 0xc000 + length atoms
-behind_within atoms k l e =
-    (elim (place_in atoms k) as (λ o. place_in atoms k ≡ o → behind_parts o ≡ Some l → l < 0xc000 + length atoms) [
-      | None ↦ λ p f. absurd (cc)
-      | Some i ↦ λ p f. let is : 0xc000 + i ≡ l = cc in let h = list_within atoms k i p in omega (arith, is, h)
-    ]) refl e
+use Rattle.lx_cap_lists.proofs.PlacesWithin.{behind_within}
 
 -- a call or a reference has the lowest bit alone
 lowest_alone : (k : ℕ) → is_set 1 k ≡ true → k ≡ 0
@@ -196,8 +187,3 @@ module _ (old new : List (List (ℕ × Entry))) (atoms : List Key) (k : Key) (to
       key_given among (call_key b) ∙ ap (λ s. (among to && s) || shown_at old (behind_parts (place_in atoms (call_key b))) among 0) (ap (λ y. same_key y (call_key b)) is ∙ apart_refs t a b)
   ref_given t a is among (atom.Ref u b) =
       key_given among (ref_key u b) ∙ ap (λ s. (among to && s) || shown_at old (behind_parts (place_in atoms (ref_key u b))) among 0) (ap (λ y. same_key y (ref_key u b)) is ∙ same_refs t a u b)
-
-pub place_within : (atoms : List Key) (x : Atom) (l : ℕ) → place_of atoms x ≡ Some l → l < 0xc000 + length atoms
-place_within atoms (atom.Byte b) l e = let h = list_below (b / 64) l e in omega (arith, h)
-place_within atoms (atom.Call a) l e = behind_within atoms (call_key a) l e
-place_within atoms (atom.Ref t a) l e = behind_within atoms (ref_key t a) l e

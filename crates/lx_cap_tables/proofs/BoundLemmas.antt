@@ -2,7 +2,8 @@
 use Rattle.std.proofs.Common.{◌≡◌, ℕ, zero, suc, ◌+◌, ◌-◌, ◌*◌, ◌/◌, ◌≤◌, Bool, true, false, not, ◌&&◌, ◌||◌, nat_eq, nat_le, cond, List, [], ◌∷◌, ◌++◌, length, map, Some, None, refl, sym, ap, ◌∙◌, subst, arith, append_assoc}
 use Rattle.std.proofs.lemmas.Bool.Decides.{nat_tests}
 use Rattle.std.proofs.lemmas.List.{length-map}
-use Rattle.std.proofs.lemmas.Bool.{and_parts, and_from, or_right, or_left}
+use Rattle.std.proofs.lemmas.Bool.{and_parts, and_from, or_right}
+use Rattle.lx_words.proofs.Tests.{either}
 use Rattle.lx_caps.specs.declared.Cap.{Cap}
 use Rattle.lx_caps.specs.declared.Cap.TheVariants as cap
 use Rattle.lx_caps.specs.declared.Atom.{Atom}
@@ -25,25 +26,22 @@ use Rattle.lx_cap_tables.proofs.Few.{added, added_self, few, ArePassing}
 use Rattle.lx_cap_lists.proofs.BitLemmas.{same_is}
 use Rattle.lx_cap_lists.proofs.NodeLemmas.{width_part, width_behind}
 use Rattle.lx_cap_lists.proofs.PartLemmas.{list_below}
-use Rattle.lx_cap_tables.proofs.TieLemmas.{same_self, bit_there}
+use Rattle.lx_cap_tables.proofs.TieLemmas.{bit_there}
 use Rattle.lx_caps.proofs.Tests.{byte_of}
 use Rattle.lx_cap_lists.proofs.KeyPlaces.{behind_far}
+use Rattle.lx_cap_lists.proofs.HolderKeys.{holder_itself}
 
 -- one is added, or the others have it
 one_more : (q p : Holder) (others : List Holder) (x rest : Bool) → ((same_holder q p && x) || rest) ≡ true → (rest ≡ true → is_among same_holder q others ≡ true) → is_among same_holder q (and_one same_holder p others) ≡ true
 one_more q p others x rest is more =
     (elim (same_holder q p) as (λ t. same_holder q p ≡ t → ((t && x) || rest) ≡ true → is_among same_holder q (and_one same_holder p others) ≡ true) [
-      | true ↦ λ e f. subst (λ r. is_among same_holder r (and_one same_holder p others) ≡ true) (sym (same_is q p e)) (added_self same_holder same_is same_self p others)
-      | false ↦ λ e f. added same_holder same_is same_self q p others (more f)
+      | true ↦ λ e f. subst (λ r. is_among same_holder r (and_one same_holder p others) ≡ true) (sym (same_is q p e)) (added_self same_holder same_is holder_itself p others)
+      | false ↦ λ e f. added same_holder same_is holder_itself q p others (more f)
     ]) refl is
 
 left_has : (t older : ℕ) (among : Holder → Bool) (s : Holder) → left_by t older among s ≡ true → among s ≡ true
 left_has t older among (Keeper q) is = is
 left_has t older among (Borrower u d q) is = (and_parts (not (nat_eq t u && nat_le older d)) (among (Borrower u d q)) is).1
-
-either : (a b c d : Bool) → (a || b) ≡ true → (a ≡ true → c ≡ true) → (b ≡ true → d ≡ true) → (c || d) ≡ true
-either true b c d e f g = or_left c d (f refl)
-either false b c d e f g = or_right c d (g e)
 
 -- the more holders are asked for, the more is had
 had_more : (a b : Holder → Bool) (h : History) (x : Atom) → ((s : Holder) → a s ≡ true → b s ≡ true) → had a h x ≡ true → had b h x ≡ true
@@ -98,11 +96,11 @@ among_holders q [] = refl
 among_holders q (e ∷ es) = ap (λ b. same_holder q e.1.holder || b) (among_holders q es)
 
 abbrev AreKnown : (Holder → Bool) → List Holder → List Holder → Type 0
-AreKnown p rs hs = ArePassing same_holder same_is same_self p rs hs
+AreKnown p rs hs = ArePassing same_holder same_is holder_itself p rs hs
 
 module _ (places : List (List (ℕ × Entry))) (atoms : List Key) (h : History) (shows : Shows places atoms h) where
   count_holders : (p : Holder → Bool) (es : List (ℕ × Entry)) → AreKnown p (holders h) (map holder_of es) → length es ≤ count_of p (holders h)
-  count_holders p es all = let n = length-map es holder_of in let f = few same_holder same_is same_self p (holders h) (map holder_of es) all in omega (arith, n, f)
+  count_holders p es all = let n = length-map es holder_of in let f = few same_holder same_is holder_itself p (holders h) (map holder_of es) all in omega (arith, n, f)
 
   -- a node's holder has the atom of a bit
   pub has_bit : (x : Atom) (l : ℕ) → place_of atoms x ≡ Some l → (front : List (ℕ × Entry)) (e : ℕ × Entry) (es : List (ℕ × Entry)) → nodes_at places l ≡ front ++ e ∷ es → is_set e.1.mask (bit_of x) ≡ true → has_now h x e.1.holder ≡ true
@@ -110,7 +108,7 @@ module _ (places : List (List (ℕ × Entry))) (atoms : List Key) (h : History) 
       let q = e.1.holder in
       shows (same_holder q) x
       ∙ (ap (λ o. shown_at places o (same_holder q) (bit_of x)) at
-      ∙ (ap (λ r. bit_among (same_holder q) r (bit_of x)) is ∙ bit_there (same_holder q) front e.0 e.1 es (bit_of x) (and_from (same_holder q q) (is_set e.1.mask (bit_of x)) (same_self q) set)))
+      ∙ (ap (λ r. bit_among (same_holder q) r (bit_of x)) is ∙ bit_there (same_holder q) front e.0 e.1 es (bit_of x) (and_from (same_holder q q) (is_set e.1.mask (bit_of x)) (holder_itself q) set)))
 
   part_pass : (part l : ℕ) → part_list part ≡ Some l → (front es : List (ℕ × Entry)) → nodes_at places l ≡ front ++ es → AreNodes 64 es → AreKnown (has_in_part h part) (holders h) (map holder_of es)
   unfolding ArePassing

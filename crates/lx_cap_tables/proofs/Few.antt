@@ -1,8 +1,8 @@
 -- Things that differ, each of which passes and is among others, are no more than those that pass.
 use Rattle.std.proofs.Common.{◌≡◌, suc, ◌≤◌, Bool, true, false, ◌||◌, cond, List, [], ◌∷◌, length, refl, sym, ap, ◌∙◌, subst, arith}
 use Rattle.std.proofs.lemmas.Bool.{or_right, or_left, or_parts}
+use Rattle.lx_words.proofs.Tests.{or_other}
 use Rattle.lx_cap_tables.specs.Work.{is_among, and_one, count_of}
-use Rattle.lx_caps.proofs.Tests.{or_other}
 
 module _ {P : Type 0} (same : P → P → Bool) (same_is : (p q : P) → same p q ≡ true → p ≡ q) (same_self : (p : P) → same p p ≡ true) where
   -- one more

@@ -7,7 +7,7 @@ use Rattle.lx_words.proofs.Tests.{and_false, second_of}
 use Rattle.lx_caps.specs.declared.Principal.{Principal}
 use Rattle.lx_caps.specs.declared.Atom.{Atom}
 use Rattle.lx_caps.specs.declared.Act.TheVariants.{Grant, Strip, Zero, Loan, Lend, Shut, ShutAll}
-use Rattle.lx_caps.specs.Loans.{Ends, Newest, Every, Endings, none_end, opened_by, before_loan, and_more, before_shut, before_shut_all, goes_on, lends}
+use Rattle.lx_caps.specs.Loans.{Ends, Newest, Every, Endings, none_end, before_loan, and_more, before_shut, before_shut_all, goes_on, lends}
 use Rattle.lx_caps.specs.LoanLaws.{open_loans}
 use Rattle.lx_caps.specs.Owners.{leaves}
 use Rattle.lx_caps.specs.History.{History, has, kept_among, owned_among, same_principal}
@@ -15,7 +15,7 @@ use Rattle.lx_cap_lists.specs.declared.holder.Holder.{Holder}
 use Rattle.lx_cap_lists.specs.declared.holder.Holder.TheVariants.{Keeper, Borrower}
 use Rattle.lx_cap_lists.specs.Holders.{by_all, by_keepers, open_count, left_by, had, same_holder}
 use Rattle.lx_caps.proofs.Tests.{and_yes}
-use Rattle.lx_caps.proofs.Endings.{with_here, with_other, opened_other, fewer}
+use Rattle.lx_caps.proofs.Endings.{with_here, with_other, opened_other, fewer, opened_here}
 
 -- how many loans go on
 pub count_loan_here : (t : ℕ) (h : History) (u : ℕ) → nat_eq t u ≡ true → open_count (Loan t ∷ h) u ≡ suc (open_count h u)
@@ -154,11 +154,6 @@ survives e c d = nat_lt d c && leaves (c - 1 - d) e
 abbrev surviving : (Principal → Bool) → Endings → (ℕ → ℕ) → Holder → Bool
 surviving among ends count (Keeper q) = among q
 surviving among ends count (Borrower t d q) = among q && survives (ends t) (count t) d
-
-opened_here : (e : Ends) (t : ℕ) (ends : Endings) (u : ℕ) → nat_eq t u ≡ true → ends u ≡ e → opened_by e t ends u ≡ fewer e
-opened_here (Newest zero) t ends u is e = e
-opened_here (Newest (suc k)) t ends u is e = with_here t (Newest k) ends u is
-opened_here Every t ends u is e = e
 
 loan_numbers : (e : Ends) (c d : ℕ) → nat_lt d c ≡ true → survives (fewer e) c d ≡ survives e (suc c) d
 loan_numbers (Newest zero) c d w = grind (arith, nat_tests, w)

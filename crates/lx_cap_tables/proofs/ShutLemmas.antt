@@ -36,9 +36,10 @@ use Rattle.lx_cap_lists.proofs.KeyLemmas.{one_key}
 use Rattle.lx_cap_tables.proofs.Few.{added, added_self, few, ArePassing}
 use Rattle.lx_cap_lists.proofs.NodeLemmas.{width_part, width_behind}
 use Rattle.lx_cap_lists.proofs.PartLemmas.{list_below}
-use Rattle.lx_cap_tables.proofs.TieLemmas.{in_place, in_owner, value_place, same_self}
+use Rattle.lx_cap_tables.proofs.TieLemmas.{in_place, in_owner, value_place}
 use Rattle.lx_caps.proofs.Tests.{byte_of}
 use Rattle.lx_cap_lists.proofs.KeyPlaces.{behind_far}
+use Rattle.lx_cap_lists.proofs.HolderKeys.{holder_itself}
 
 or_parts : (a b : Bool) → (a || b) ≡ true → (a ≡ false → b ≡ true)
 or_parts true b e f = absurd (cc)
@@ -70,7 +71,7 @@ pair_is x y e =
     λ j. (a j, b j)
 
 pair_self : (x : Pair) → same_pair x x ≡ true
-pair_self x = and_from (same_spot x.0 x.0) (same_holder x.1 x.1) (spot_self x.0) (same_self x.1)
+pair_self x = and_from (same_spot x.0 x.0) (same_holder x.1 x.1) (spot_self x.0) (holder_itself x.1)
 
 -- the spot of an atom
 abbrev spot_of : Atom → Spot
@@ -279,7 +280,7 @@ module _ (pool : Pool Entry) (laws : PoolLaws pool) (owners atoms : List Key) (l
               let list : s.0 ≡ u.0 = cc in
               let same : n ≡ m =
               one_holder (width_of s.0) (nodes_at pool.places s.0) (nodes s.0) s.1 s.2 u.1 u.2 n m e f s.3 (ap (nodes_at pool.places) list ∙ u.3)
-              (ap (same_holder e.holder) (sym same_holder_is) ∙ same_self e.holder) (ap (same_holder f.holder) same_holder_is ∙ same_self f.holder) in
+              (ap (same_holder e.holder) (sym same_holder_is) ∙ holder_itself e.holder) (ap (same_holder f.holder) same_holder_is ∙ holder_itself f.holder) in
               let out = apart_there xs ys n e (subst (λ v. Apart (names v)) is (laws.apart family.Owner o)) in
               let there : has_number n (names ys) ≡ true = ap (λ k. has_number k (names ys)) same ∙ (ap (λ v. has_number m (names v)) r.4 ∙ number_there r.0 r.3 m f) in
               cc)

@@ -2,11 +2,10 @@
 use Rattle.std.proofs.Common.{◌≡◌, ℕ, suc, ◌+◌, ◌/◌, ◌%◌, ◌<◌, Bool, true, false, ◌&&◌, ◌||◌, nat_eq, nat_lt, cond, List, [], ◌∷◌, ◌++◌, Option, Some, None, refl, sym, ap, ◌∙◌, subst, arith, eqb-true}
 use Rattle.std.proofs.lemmas.Bool.Decides.{nat_tests}
 use Rattle.std.proofs.lemmas.Bool.{and_parts, and_from, or_right, or_left}
-use Rattle.lx_words.proofs.Tests.{eq_self, same_tests}
+use Rattle.lx_words.proofs.Tests.{eq_self, same_tests, and_or}
 use Rattle.lx_caps.specs.declared.Principal.{Principal}
 use Rattle.lx_caps.specs.declared.Atom.{Atom}
 use Rattle.lx_caps.specs.declared.Atom.TheVariants as atom
-use Rattle.lx_caps.specs.History.{same_principal}
 use Rattle.lx_caps.specs.Order.{is_behind, IsFirst}
 use Rattle.lx_cap_nodes.specs.declared.pool.Family.TheVariants as family
 use Rattle.lx_cap_nodes.specs.declared.pool.ListName.TheVariants as name
@@ -21,7 +20,7 @@ use Rattle.lx_cap_lists.specs.Entries.{gives_bit, bit_among}
 use Rattle.lx_cap_lists.specs.declared.holder.Holder.{Holder}
 use Rattle.lx_cap_lists.specs.declared.holder.Holder.TheVariants.{Keeper, Borrower}
 use Rattle.lx_cap_lists.specs.Atoms.{spot_atom, entry_atom, gives_atom, atom_among, spot_fits}
-use Rattle.lx_cap_lists.specs.Holders.{held_by, same_holder}
+use Rattle.lx_cap_lists.specs.Holders.{held_by}
 use Rattle.lx_cap_lists.specs.Lists.{some_below}
 use Rattle.lx_cap_lists.specs.Loans.{is_open, loans_of}
 use Rattle.lx_cap_lists.specs.Owned.{AllFit, given_in, lent_atom, listed_atom}
@@ -31,8 +30,7 @@ use Rattle.lx_cap_tables.proofs.Below.{some_from, some_inside}
 use Rattle.lx_cap_lists.proofs.KeyLemmas.{one_key}
 use Rattle.lx_cap_lists.proofs.PartLemmas.{one_part, list_below, part_small}
 use Rattle.lx_cap_lists.specs.declared.holder.Holder.{Holder}
-use Rattle.lx_caps.proofs.Tests.{and_or}
-use Rattle.lx_caps.proofs.Principals.{same_principal_itself, same_principal_is}
+use Rattle.lx_caps.proofs.Principals.{same_principal_is}
 use Rattle.lx_cap_lists.proofs.KeyPlaces.{behind_far}
 
 -- a list split at a node with such an entry
@@ -97,10 +95,6 @@ value_place (es ∷ lists) n v h =
       | true ↦ λ g. let s = value_split es n v g in record { l = 0; xs = s.0; ys = s.1; is = s.2 }
       | false ↦ λ g. let p = value_place lists n v g in record { l = suc p.l; xs = p.xs; ys = p.ys; is = p.is }
     ]) h
-
-pub same_self : (s : Holder) → same_holder s s ≡ true
-same_self (Keeper p) = same_principal_itself p
-same_self (Borrower t d p) = and_from (nat_eq t t) (nat_eq d d && same_principal p p) (eq_self t) (and_from (nat_eq d d) (same_principal p p) (eq_self d) (same_principal_itself p))
 
 pub is_there : (o : Option ℕ) (l : ℕ) → is_place o l ≡ true → o ≡ Some l
 is_there None l h = absurd (cc)

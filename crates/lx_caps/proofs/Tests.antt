@@ -1,23 +1,7 @@
 -- Tests by their parts: what `true`, `false` and numbers say of them.
-use Rattle.std.proofs.Common.{arith, true, ℕ, ◌≡◌, Bool, false, refl, ◌&&◌, ◌||◌, ◌<◌, ◌≤◌, sym, nat_eq, Some, ◌+◌, nat_lt, ◌⊎◌, not, suc, ◌≢◌, max, zero, ◌-◌, min, ap, ◌%◌, ◌*◌, ◌/◌, if◌then◌else◌, ◌∙◌}
+use Rattle.std.proofs.Common.{arith, true, ℕ, ◌≡◌, Bool, false, refl, ◌&&◌, ◌||◌, ◌<◌, ◌≤◌, sym, nat_eq, ◌+◌, nat_lt, ◌⊎◌, not, suc, ◌≢◌, max, zero, ◌-◌, min, ap, ◌%◌, ◌*◌, ◌/◌, if◌then◌else◌, ◌∙◌}
 use Rattle.std.proofs.lemmas.Bool.Decides.{nat_tests}
-use Rattle.lx_words.proofs.Tests.{or_joined}
-
-pub and_or : (a b c : Bool) → (a && (b || c)) ≡ ((a && b) || (a && c))
-and_or true b c = refl
-and_or false b c = refl
-
-pub and_true : (r : Bool) → r ≡ (r && true)
-and_true true = refl
-and_true false = refl
-
-pub or_swap : (a b c : Bool) → (a || (b || c)) ≡ (b || (a || c))
-or_swap true true c = refl
-or_swap true false c = refl
-or_swap false b c = refl
-
-pub some_is : (m n : ℕ) → Some m ≡ Some n → m ≡ n
-some_is m n is = cc
+use Rattle.lx_words.proofs.Tests.{or_joined, and_or}
 
 pub less_differs : (n f : ℕ) → n < f → nat_eq n f ≡ false
 less_differs n f h = grind (arith, nat_tests, h)
@@ -27,9 +11,6 @@ one_more n = omega arith
 
 pub ne_from_test : (m n : ℕ) → nat_eq m n ≡ false → m ≢ n
 ne_from_test m n h = grind (arith, nat_tests)
-
-pub eq_from_ne : (m n : ℕ) → m ≢ n → nat_eq m n ≡ false
-eq_from_ne m n ne = grind (arith, nat_tests, ne)
 
 pub max_one : (a b : ℕ) → a < 2 → b < 2 → nat_eq (max a b) 1 ≡ (nat_eq a 1 || nat_eq b 1)
 max_one zero zero p q = refl
@@ -125,18 +106,6 @@ not_on x false e f = refl
 pub not_off : (x y : Bool) → x ≡ not y → x ≡ false → y ≡ false → ⊥
 not_off x true e f h = cc
 not_off x false e f h = cc
-
-pub none_left : (a b : Bool) → (a || b) ≡ false → a ≡ false
-none_left false b e = refl
-none_left true b e = e
-
-pub none_right : (a b : Bool) → (a || b) ≡ false → b ≡ false
-none_right false b e = e
-none_right true b e = absurd (cc)
-
-pub or_other : (a b : Bool) → (a || b) ≡ true → a ≡ false → b ≡ true
-or_other false b e f = e
-or_other true b e f = absurd (cc)
 
 pub first_step : (s fo found g r : Bool) → (fo && g) ≡ found → ((s || found) || (fo && r)) ≡ (s || (fo && (g || r)))
 first_step s fo found g r is =

@@ -3,6 +3,7 @@ use Rattle.std.proofs.Common.{◌≡◌, ◌∙◌, inl, inr, refl, sym, ap, ℕ
 use Rattle.std.proofs.lemmas.Bool.{true≢false, false_from_ne_true, and_parts, cases_lt}
 use Rattle.std.proofs.lemmas.Bool.Decides.{nat_tests}
 use Rattle.lx_words.proofs.Tests.{eq_self, clash}
+use Rattle.lx_words.proofs.Options.{some_is}
 use Rattle.lx_caps.specs.declared.Principal.{Principal}
 use Rattle.lx_caps.specs.declared.Principal.TheVariants.{Kernel, Shared, Global, Inst}
 use Rattle.lx_caps.specs.declared.Cap.{Cap}
@@ -18,7 +19,6 @@ use Rattle.lx_certificates.specs.Givers.{giver, given, nth_atom, count_of, first
 use Rattle.lx_certificates.specs.Certificates.{is_wanted, is_act, same_number, is_cut, are_cut, is_first_lacking, is_kernel, is_cert, gifts_for, seek, address_of}
 use Rattle.lx_certificates.specs.Laws.{IsCertFor}
 use Rattle.lx_certificates.proofs.Reaching.{owned, kept, by_places, at_place, in_place}
-use Rattle.lx_caps.proofs.Tests.{some_is}
 
 not_both : (b : Bool) → b ≡ true → not b ≡ true → ⊥
 not_both b is out = true≢false (sym out ∙ ap not is)

@@ -2,7 +2,6 @@ pub mod Copied
 pub mod Crossing
 pub mod Filled
 pub mod Firsts
-pub mod JoinedNames
 pub mod Large
 pub mod Placed
 pub mod TablesCrossing

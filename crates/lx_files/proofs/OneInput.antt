@@ -1,5 +1,6 @@
 -- What the files of a command come to is settled.
 use Rattle.std.proofs.Common.{◌≡◌, ◌∙◌, sym, ℕ, List, [], ◌∷◌, Option, Some, None}
+use Rattle.lx_words.proofs.Options.{some_is}
 use Rattle.lx_outside.specs.declared.file_text.FileText.{FileText}
 use Rattle.lx_script.specs.declared.case.Origin.{Origin}
 use Rattle.lx_script.specs.declared.case.Origin.TheVariants as origins
@@ -43,9 +44,6 @@ module _ {A E : Type 0} (Says : List ℕ → A → Type 0) (First : List ℕ →
       (λ text. reads_ends Says (Tells First line) text files)
 
 -- numbers
-
-some_same : (a b : ℕ) → Some a ≡ Some b → a ≡ b
-some_same a b e = cc e
 
 none_some : (a : ℕ) → Some a ≡ None → ⊥
 none_some a e = absurd (cc e)
@@ -110,7 +108,7 @@ module _ (case_sure : IsSure SaysCase FirstCaseFault) (module_sure : IsSure (IsM
   number_one : (case : List ℕ) (c : Case) (word : List ℕ) → IsOne (NumberTurn case c word)
   number_one case c word =
       reads_one (λ w k. module_named c w ≡ Some k) (λ w f. (module_named c w ≡ None) × (f ≡ lacks_line case w)) word
-      (λ a b x y. some_same a b (sym x ∙ y))
+      (λ a b x y. some_is a b (sym x ∙ y))
       (λ e f x y. x.1 ∙ sym y.1)
       (λ a f x y. none_some a (sym x ∙ y.0))
 

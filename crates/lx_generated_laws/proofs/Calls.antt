@@ -10,7 +10,7 @@ use Rattle.std.proofs.lemmas.Slice.Eq.{bytes_eq-Decides}
 use Rattle.lx_words.specs.Lexemes.{is_digit}
 use Rattle.lx_words.specs.Text.{decimal_text, decimal_value}
 use Rattle.lx_words.specs.TextLaws.{NumberTexts}
-use Rattle.lx_words.proofs.Lists.{heads, no_list, tails}
+use Rattle.lx_words.proofs.Lists.{heads, no_list, tails, all_from}
 use Rattle.lx_words.proofs.Tests.{above_fails}
 use Rattle.lx_generate.specs.Generated.{callee, call_line, number_words}
 use Rattle.lx_script.specs.declared.case.CaseArg.TheVariants.{Number}
@@ -38,10 +38,6 @@ digit_printed d h = and_from (nat_le 32 d) (nat_le d 126) (le-leb 32 d (omega (a
 
 digit_letter : (d : ℕ) → is_digit d ≡ true → is_letter d ≡ true
 digit_letter d h = ap not (above_fails d 32 (omega (arith, digit_from d h)))
-
-all_as : (p q : ℕ → Bool) → ((d : ℕ) → p d ≡ true → q d ≡ true) → (ds : List ℕ) → list_all p ds ≡ true → list_all q ds ≡ true
-all_as p q f [] h = refl
-all_as p q f (d ∷ ds) h = let both = and_parts (p d) (list_all p ds) h in and_from (q d) (list_all q ds) (f d both.0) (all_as p q f ds both.1)
 
 -- digits are no hexadecimal number
 no_mark : (ds : List ℕ) → list_all is_digit ds ≡ true → (v : Bool) → has_hex_mark ds ≡ v → v ≡ false
@@ -109,13 +105,13 @@ module _ (texts : NumberTexts) where
   line_said j k =
       let behind : List ℕ = decimal_text k ++ 32 ∷ codes "fuel 100" in
       let target : words_of (target_words j ++ 32 ∷ behind) ≡ target_words j ∷ words_of behind = word_first (target_words j) behind (callee_passes is_letter refl refl j) (lt-ltb 0 (length (target_words j)) (omega arith)) in
-      let number : words_of behind ≡ decimal_text k ∷ words_of (codes "fuel 100") = word_first (decimal_text k) (codes "fuel 100") (all_as is_digit is_letter digit_letter (decimal_text k) (digits k)) (lt-ltb 0 (length (decimal_text k)) (texts.some k)) in
+      let number : words_of behind ≡ decimal_text k ∷ words_of (codes "fuel 100") = word_first (decimal_text k) (codes "fuel 100") (all_from is_digit is_letter digit_letter (decimal_text k) (digits k)) (lt-ltb 0 (length (decimal_text k)) (texts.some k)) in
       word_first (codes "call") (target_words j ++ 32 ∷ behind) refl refl ∙ ap (λ ws. codes "call" ∷ ws) (target ∙ ap (λ ws. target_words j ∷ ws) number)
 
   line_printed : (j k : ℕ) → list_all is_printed (line_of j k) ≡ true
   line_printed j k =
       let behind : List ℕ = decimal_text k ++ 32 ∷ codes "fuel 100" in
-      let number : list_all is_printed behind ≡ true = list_all-append is_printed (decimal_text k) (32 ∷ codes "fuel 100") ∙ and_from _ true (all_as is_digit is_printed digit_printed (decimal_text k) (digits k)) refl in
+      let number : list_all is_printed behind ≡ true = list_all-append is_printed (decimal_text k) (32 ∷ codes "fuel 100") ∙ and_from _ true (all_from is_digit is_printed digit_printed (decimal_text k) (digits k)) refl in
       list_all-append is_printed (callee j) (32 ∷ behind) ∙ and_from _ _ (callee_passes is_printed refl refl j) number
 
   split_line : (c d rest : List ℕ) → (c ++ (32 ∷ d) ++ codes " fuel 100\n") ++ rest ≡ (c ++ 32 ∷ (d ++ codes " fuel 100")) ++ 10 ∷ rest

@@ -6,7 +6,7 @@ use Rattle.std.proofs.lemmas.Option.{slice_get-map}
 use Rattle.std.proofs.lemmas.List.Elements.{filter-append}
 use Rattle.std.proofs.lemmas.List.Folds.{list_any-append}
 use Rattle.std.proofs.lemmas.Bool.{and_from, not-true}
-use Rattle.lx_words.proofs.Tests.{true_false, false_true, first_of, second_of}
+use Rattle.lx_words.proofs.Tests.{true_false, false_true, first_of, second_of, either}
 use Rattle.lx_words.proofs.Lists.{map_length, same_bytes, got_first, all_joined}
 use Rattle.lx_words.proofs.Options.{some_same}
 use Rattle.lx_ir.specs.declared.types.NamedType.{NamedType}
@@ -263,17 +263,11 @@ all_left p x k (i ∷ is) a = all_left_by p x k i is (is_mark i.op) refl (first_
 abbrev flat : List Block → List Instr
 flat bs = flat_map (λ (b : Block). b.instrs) bs
 
-or_both : (a b c d : Bool) → (a || b) ≡ true → (a ≡ true → c ≡ true) → (b ≡ true → d ≡ true) → (c || d) ≡ true
-or_both true b true d e h k = refl
-or_both true b false d e h k = false_true (h refl)
-or_both false b true d e h k = refl
-or_both false b false d e h k = k e
-
 any_blocks : (p : Op → Bool) (x : Module) → Kept p x → ((o : Op) → is_mark o ≡ true → p o ≡ false) → (bs : List Block) → list_any (λ (i : Instr). p i.op) (flat bs) ≡ true → list_any (λ (i : Instr). p i.op) (flat (map (program_block x) bs)) ≡ true
 any_blocks p x k q [] a = a
 any_blocks p x k q (b ∷ bs) a =
     list_any-append (λ (i : Instr). p i.op) (left x b.instrs) (flat (map (program_block x) bs))
-    ∙ or_both (list_any (λ (i : Instr). p i.op) b.instrs) (list_any (λ (i : Instr). p i.op) (flat bs)) (list_any (λ (i : Instr). p i.op) (left x b.instrs)) (list_any (λ (i : Instr). p i.op) (flat (map (program_block x) bs)))
+    ∙ either (list_any (λ (i : Instr). p i.op) b.instrs) (list_any (λ (i : Instr). p i.op) (flat bs)) (list_any (λ (i : Instr). p i.op) (left x b.instrs)) (list_any (λ (i : Instr). p i.op) (flat (map (program_block x) bs)))
     (sym (list_any-append (λ (i : Instr). p i.op) b.instrs (flat bs)) ∙ a) (any_left p x k q b.instrs) (any_blocks p x k q bs)
 
 all_blocks : (p : Op → Bool) (x : Module) → Kept p x → (bs : List Block) → list_all (λ (i : Instr). p i.op) (flat bs) ≡ true → list_all (λ (i : Instr). p i.op) (flat (map (program_block x) bs)) ≡ true

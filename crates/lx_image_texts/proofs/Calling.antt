@@ -14,6 +14,7 @@ use Rattle.lx_ir.specs.declared.module.Module.{Module}
 use Rattle.lx_ir.specs.declared.instr.Callee.TheVariants as callee
 use Rattle.lx_ir.specs.Lookup.{is_defined}
 use Rattle.lx_ir.specs.Lawful.{IsLawful, is_own_name, is_distinct}
+use Rattle.lx_ir.proofs.DistinctNames.{distinct_behind}
 use Rattle.lx_annot.specs.declared.interface.Interface.{Interface}
 use Rattle.lx_image_texts.specs.Marks.{is_alias, is_wrapped, one_if, wrapped_before, wrapper_number, callee_if, callee_for}
 use Rattle.lx_image_texts.specs.Guards.{IsGuarded, AreGuarded, function_text, Guards}
@@ -82,10 +83,6 @@ wrapper_at i m x h k f e t =
     (slice_get-map (λ (g : Function). out_prefix ++ g.name) (filter is_wrapped m.functions) (wrapped_before m.functions k) ∙ ap (option_map (λ (g : Function). out_prefix ++ g.name)) (wrapped_at m.functions k f e t)))))
 
 -- the import of a name stands once
-
-pub distinct_second : (xs ys : List (List ℕ)) → is_distinct (xs ++ ys) ≡ true → is_distinct ys ≡ true
-distinct_second [] ys d = d
-distinct_second (x ∷ xs) ys d = distinct_second xs ys (second_of (not (list_any (bytes_eq x) (xs ++ ys))) (is_distinct (xs ++ ys)) d)
 
 no_first : (a rest b : Bool) → a ≡ b → not (a || rest) ≡ true → b ≡ false
 no_first true rest b e n = false_true n
@@ -199,7 +196,7 @@ erased_is i m x distinct closed g =
 
 -- of a lawful program
 pub erased_lawful : (i : Interface) (m x : Module) → IsLawful m → Guards i m x → erased_functions x ≡ map function_text m.functions
-erased_lawful i m x law g = erased_is i m x (distinct_second (map (λ (v : GlobalVar). v.name) m.globals) (names_of m.functions) law.symbols_once) (lawful_closed m law) g
+erased_lawful i m x law g = erased_is i m x (distinct_behind (map (λ (v : GlobalVar). v.name) m.globals) (names_of m.functions) law.symbols_once) (lawful_closed m law) g
 
 any_by : (a b c : Bool) → (a || c) ≡ false → (c ≡ false → b ≡ false) → (a || b) ≡ false
 any_by true b c e h = e

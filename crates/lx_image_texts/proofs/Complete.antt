@@ -4,8 +4,8 @@ use Rattle.std.specs.Prelude.{bytes_eq, cond, codes, slice_get, slice_index_or, 
 use Rattle.std.specs.List.{list_all, list_any}
 use Rattle.std.proofs.lemmas.Option.{slice_get_within}
 use Rattle.std.proofs.lemmas.Bool.{or_from, and_from, not-true}
-use Rattle.lx_words.proofs.Lists.{bytes_itself, got_take, split_at, all_joined, there_is, heads, tails}
-use Rattle.lx_words.proofs.Tests.{true_false, or_true, and_false, true_less, false_true, first_of, second_of}
+use Rattle.lx_words.proofs.Lists.{bytes_itself, got_take, split_at, all_joined, there_is, heads, tails, any_at}
+use Rattle.lx_words.proofs.Tests.{true_false, and_false, true_less, false_true, first_of, second_of}
 use Rattle.lx_words.proofs.Options.{some_same, none_some, neither_some}
 use Rattle.lx_ir.specs.declared.types.Scalar.{Scalar}
 use Rattle.lx_ir.specs.declared.module.Symbol.TheVariants as symbol
@@ -118,11 +118,6 @@ values_clean i m x v (a ∷ xs) l =
     (values_clean i m x v xs (second_of (value_within m a.value) (list_all (λ (a : Argument). value_within m a.value) xs) l))
 
 -- calls
-
-pub any_at : {A : Type 0} (p : A → Bool) (xs : List A) (k : ℕ) (x : A) → slice_get xs k ≡ Some x → p x ≡ true → list_any p xs ≡ true
-any_at p [] k x e t = none_some e
-any_at p (y ∷ xs) zero x e t = ap (λ (b : Bool). b || list_any p xs) (ap p (some_same e) ∙ t)
-any_at p (y ∷ xs) (suc k) x e t = ap (λ (b : Bool). p y || b) (any_at p xs k x e t) ∙ or_true (p y)
 
 defined_at : (fs : List Function) (k : ℕ) (f : Function) → list_all is_defined fs ≡ true → slice_get fs k ≡ Some f → is_defined f ≡ true
 defined_at [] k f a e = none_some e

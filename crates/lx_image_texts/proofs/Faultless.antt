@@ -2,7 +2,7 @@
 use Rattle.std.proofs.Common.{◌≡◌, ℕ, Bool, true, false, not, ◌&&◌, ◌||◌, List, [], ◌∷◌, map, Option, Some, None, refl, sym, subst, ◌∙◌, ap}
 use Rattle.std.specs.Prelude.{bytes_eq, find, option_map}
 use Rattle.std.specs.List.{list_all, list_any}
-use Rattle.lx_words.proofs.Options.{some_none, map_none, none_some, neither_some}
+use Rattle.lx_words.proofs.Options.{map_none, none_some, neither_some}
 use Rattle.lx_words.proofs.Lists.{no_list, heads, tails}
 use Rattle.lx_words.proofs.Tests.{false_true}
 use Rattle.lx_ir.specs.declared.module.Block.{Block}
@@ -17,6 +17,7 @@ use Rattle.lx_ir.specs.Lookup.{blocks_of, instrs_of}
 use Rattle.lx_ir.specs.Operands.{is_phi, labels_of}
 use Rattle.lx_ir.specs.Faults.{Fault, NoSuchLabel, fault_unless, first_some, init_fits, global_fault, last_of, is_end, end_fault, has_block, label_fault, type_fault, goes_to, same_value, edges_fit, op_edges_fit, phi_fault, phi_faults, block_phi_faults, reads_of, FirstUnassigned, earlier_fault, FirstOrUnassigned, FunctionFault}
 use Rattle.lx_ir.specs.Operands.{register_types}
+use Rattle.lx_ir.proofs.Refused.{unless_none}
 use Rattle.lx_image_texts.specs.Guards.{unlined_global}
 use Rattle.lx_image_texts.proofs.Distinct.{Each}
 use Rattle.lx_image_texts.proofs.Ordering.{none_or}
@@ -26,10 +27,6 @@ use Rattle.lx_image_texts.proofs.Flow.{has_same, exits_alike, predecessor_same}
 use Rattle.lx_image_texts.proofs.Unassigned.{reads_program, reads_image}
 
 -- no fault, and each part has none
-
-pub unless_none : (b : Bool) (x : Fault) → fault_unless b x ≡ None → b ≡ true
-unless_none true x e = refl
-unless_none false x e = some_none e
 
 pub none_unless : (b : Bool) (x : Fault) → b ≡ true → fault_unless b x ≡ None
 none_unless true x e = refl

@@ -3,7 +3,7 @@ use Rattle.std.proofs.Common.{◌≡◌, refl, ap, ◌∙◌, arith, ℕ, zero, 
 use Rattle.std.specs.Prelude.{nat_eq, nat_le}
 use Rattle.std.specs.List.{list_all, list_any}
 use Rattle.std.proofs.lemmas.Bool.{and_from, or_parts, or_from, not-true}
-use Rattle.lx_words.proofs.Lists.{all_at}
+use Rattle.lx_words.proofs.Lists.{all_at, any_at}
 use Rattle.lx_words.proofs.Options.{none_some, some_same}
 use Rattle.lx_words.proofs.Tests.{false_true, clash, first_of, second_of, true_eq, eq_self, true_le, le_true}
 use Rattle.lx_ir.specs.IrType.{IrType}
@@ -21,7 +21,6 @@ use Rattle.lx_ir.specs.Operands.{operands_of}
 use Rattle.lx_image_texts.specs.Named.{AllAre}
 use Rattle.lx_image_texts.specs.Spared.{is_register, reads, uses_as_address, allocates, is_spared}
 use Rattle.lx_image_texts.specs.SparedStores.{KeepsAddress, IsToOwnStack}
-use Rattle.lx_image_texts.proofs.Complete.{any_at}
 use Rattle.lx_image_texts.proofs.FirstBad.{all_none, all_more}
 
 -- a register among operands

@@ -15,6 +15,7 @@ use Rattle.lx_ir.specs.Lookup.{instrs_of}
 use Rattle.lx_ir.specs.Lawful.{is_name, has_form, is_lawful_op}
 use Rattle.lx_ir.specs.Operands.{operands_of, labels_of, is_image_line, register_types}
 use Rattle.lx_ir.specs.Faults.{first_some, value_fits, is_integer, indices_fit, same_result, form_fits, is_typed, type_fault}
+use Rattle.lx_ir.proofs.Refused.{unless_none}
 use Rattle.lx_annot.specs.declared.interface.Interface.{Interface}
 use Rattle.lx_image_texts.specs.Marks.{is_mark, image_op}
 use Rattle.lx_image_texts.specs.Guards.{Guards}
@@ -26,7 +27,7 @@ use Rattle.lx_image_texts.proofs.Along.{each_program, each_image}
 use Rattle.lx_image_texts.proofs.Flow.{types_same}
 use Rattle.lx_image_texts.proofs.MarkOperands.{mark_operands, mark_passes}
 use Rattle.lx_image_texts.proofs.Signatures.{calls_same}
-use Rattle.lx_image_texts.proofs.Faultless.{NoFault, unless_none, none_unless, each_none, none_each}
+use Rattle.lx_image_texts.proofs.Faultless.{NoFault, none_unless, each_none, none_each}
 
 module _ (i : Interface) (m x : Module) (g : Guards i m x) (f h : Function) (b : BesideFunction m f h) where
   form_same : (o : Op) → not (is_image_line o) ≡ true → call_within m o ≡ true → form_fits m f o ≡ form_fits x h (image_op m o)

@@ -19,7 +19,7 @@ use Rattle.lx_ir.specs.declared.instr.Op.TheVariants as op
 use Rattle.lx_ir.specs.Lookup.{blocks_of, instrs_of, all_instrs}
 use Rattle.lx_ir.specs.Operands.{operands_of, register_types}
 use Rattle.lx_ir.specs.Faults.{Fault, first_some, global_fault, end_fault, label_fault, value_fits, calls_well, form_fits, is_typed, type_fault, earlier_fault, block_phi_faults, FirstOrUnassigned, FirstOfFunctions, FirstBehind, FirstFault}
-use Rattle.lx_image_texts.proofs.Faultless.{unless_none}
+use Rattle.lx_ir.proofs.Refused.{unless_none}
 
 abbrev pub is_global : Callee → Bool
 is_global (callee.Symbol (symbol.Global g)) = true

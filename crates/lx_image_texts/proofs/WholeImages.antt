@@ -14,12 +14,13 @@ use Rattle.lx_ir.specs.Lookup.{is_defined}
 use Rattle.lx_ir.specs.Lawful.{IsPlain, is_name, is_distinct, is_lawful_function, imports_first, symbol_names}
 use Rattle.lx_ir.specs.Faults.{first_some, global_fault, FirstFault}
 use Rattle.lx_ir.specs.Verified.{IsVerified}
+use Rattle.lx_ir.proofs.DistinctNames.{distinct_behind}
+use Rattle.lx_ir.proofs.ImportsFirst.{defined_first}
 use Rattle.lx_annot.specs.declared.interface.Interface.{Interface}
 use Rattle.lx_propagate.specs.Slots.{conflict_of}
 use Rattle.lx_image_texts.specs.WrapperText.{wrappers_of}
 use Rattle.lx_image_texts.specs.Guards.{function_text, Guards}
 use Rattle.lx_image_texts.specs.Instrumented.{leaves_none, leaves_spared, GuardsBut}
-use Rattle.lx_image_texts.proofs.Calling.{distinct_second}
 use Rattle.lx_image_texts.proofs.Distinct.{Each, distinct_wrappers}
 use Rattle.lx_image_texts.proofs.Erasing.{names_of, names_append, is_program_name, guarded_names, drop_names, all_own}
 use Rattle.lx_image_texts.proofs.Images.{full_guards, spared_guards}
@@ -93,18 +94,8 @@ all_behind : (fs ws : List Function) → list_all is_defined ws ≡ true → lis
 all_behind [] ws w a = w
 all_behind (f ∷ fs) ws w a = and_from (is_defined f) (list_all is_defined (fs ++ ws)) (first_of (is_defined f) (list_all is_defined fs) a) (all_behind fs ws w (second_of (is_defined f) (list_all is_defined fs) a))
 
-all_first : (ws : List Function) → list_all is_defined ws ≡ true → imports_first ws ≡ true
-all_first [] a = refl
-all_first (w ∷ ws) a =
-    and_from (not (is_defined w) || list_all is_defined ws) (imports_first ws) (either (is_defined w) (is_defined w) true (list_all is_defined ws) refl (λ e. second_of (is_defined w) (list_all is_defined ws) a) (any_true (not (is_defined w))))
-    (all_first ws (second_of (is_defined w) (list_all is_defined ws) a))
-  where
-    any_true : (b : Bool) → (b || true) ≡ true
-    any_true true = refl
-    any_true false = refl
-
 first_joined : (fs ws : List Function) → list_all is_defined ws ≡ true → imports_first fs ≡ true → imports_first (fs ++ ws) ≡ true
-first_joined [] ws w l = all_first ws w
+first_joined [] ws w l = defined_first ws w
 first_joined (f ∷ fs) ws w l =
     and_from (not (is_defined f) || list_all is_defined (fs ++ ws)) (imports_first (fs ++ ws))
     (either (is_defined f) (is_defined f) (list_all is_defined fs) (list_all is_defined (fs ++ ws)) refl (all_behind fs ws w) (first_of (not (is_defined f) || list_all is_defined fs) (imports_first fs) l))
@@ -138,7 +129,7 @@ module _ (i : Interface) (m x : Module) (v : IsVerified m) (room : HasRoom i m) 
       ∙ distinct_joined is_program_name (symbol_names m) (names_of (wrappers_of i m)) v.lawful.symbols_once (wrappers_once v.lawful.symbols_once) g.plain.names (all_own i m)
     where
       wrappers_once : is_distinct (symbol_names m) ≡ true → is_distinct (names_of (wrappers_of i m)) ≡ true
-      wrappers_once d = distinct_wrappers i m (distinct_second (map (λ (w : GlobalVar). w.name) m.globals) (names_of m.functions) d)
+      wrappers_once d = distinct_wrappers i m (distinct_behind (map (λ (w : GlobalVar). w.name) m.globals) (names_of m.functions) d)
 
   all_lawful : list_all (is_lawful_function x) x.functions ≡ true
   all_lawful =

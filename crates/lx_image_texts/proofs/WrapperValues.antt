@@ -1,21 +1,20 @@
 -- The parameters of a wrapper, the values that it hands on, and its names.
-use Rattle.std.proofs.Common.{◌≡◌, ℕ, suc, ◌+◌, ◌^◌, ◌<◌, ◌≤◌, Bool, true, false, not, ◌&&◌, ◌||◌, List, [], ◌∷◌, ◌++◌, map, length, drop, Option, Some, None, refl, sym, ◌∙◌, ap, arith, le-leb, leb-true}
-use Rattle.std.specs.Prelude.{codes, bytes_eq, slice_get, nat_eq, nat_lt, nat_le}
-use Rattle.std.specs.List.{list_all, list_any, AllByRecursion}
-use Rattle.std.specs.Char.{IsAsciiDigit}
-use Rattle.std.proofs.lemmas.List.Elements.{recursion_from_All}
+use Rattle.std.proofs.Common.{◌≡◌, ℕ, suc, ◌+◌, ◌^◌, ◌<◌, ◌≤◌, Bool, true, false, not, ◌&&◌, ◌||◌, List, [], ◌∷◌, ◌++◌, map, length, drop, Option, Some, None, refl, sym, ◌∙◌, ap, arith}
+use Rattle.std.specs.Prelude.{codes, bytes_eq, slice_get}
+use Rattle.std.specs.List.{list_all, list_any}
 use Rattle.std.proofs.lemmas.Bool.{and_from}
 use Rattle.lx_words.specs.Text.{decimal_text}
 use Rattle.lx_words.proofs.Injective.{number_texts}
-use Rattle.lx_words.proofs.Tests.{below_fails, less_true, above_fails, false_true, first_of, second_of}
+use Rattle.lx_words.proofs.Tests.{false_true}
 use Rattle.lx_words.proofs.Lists.{same_bytes, all_joined}
 use Rattle.lx_ir.specs.declared.types.Scalar.{Scalar}
 use Rattle.lx_ir.specs.declared.module.Parameter.{Parameter}
 use Rattle.lx_ir.specs.declared.module.Value.TheVariants as value
 use Rattle.lx_ir.specs.declared.instr.Argument.{Argument}
-use Rattle.lx_ir.specs.Lawful.{stands_in_name, is_name, is_digit, is_distinct, same_scalar, registers_in}
+use Rattle.lx_ir.specs.Lawful.{is_name, is_digit, is_distinct, same_scalar, registers_in}
 use Rattle.lx_ir.specs.Faults.{fits_if_typed, value_fits, are_arguments}
 use Rattle.lx_ir.proofs.Equality.{scalar_itself}
+use Rattle.lx_ir.proofs.DigitNames.{all_stand, decimal_digits}
 use Rattle.lx_image_texts.specs.WrapperText.{wrapper_params, wrapper_args, result_names}
 use Rattle.lx_image_texts.proofs.Distinct.{Each}
 use Rattle.lx_image_texts.proofs.Unassigned.{got_drop, drop_next}
@@ -62,28 +61,6 @@ args_typed types rest k (p ∷ ps) e =
     (args_typed types rest (suc k) ps (drop_next k types p.ty (map (λ (p : Parameter). p.ty) ps ++ rest) e))
 
 -- names
-
-all_digits : (bs : List ℕ) → AllByRecursion IsAsciiDigit bs → list_all is_digit bs ≡ true
-all_digits [] h = refl
-all_digits (b ∷ bs) h =
-    and_from (is_digit b) (list_all is_digit bs) (and_from (nat_le 48 b) (nat_le b 57) (le-leb 48 b (omega (arith, h.0))) (le-leb b 57 (omega (arith, h.0)))) (all_digits bs h.1)
-
-decimal_digits : (n : ℕ) → list_all is_digit (decimal_text n) ≡ true
-decimal_digits n = all_digits (decimal_text n) (recursion_from_All IsAsciiDigit (decimal_text n) (number_texts.digits n))
-
-digit_stands : (b : ℕ) → is_digit b ≡ true → stands_in_name b ≡ true
-digit_stands b h =
-    let low : 48 ≤ b = leb-true 48 b (first_of (nat_le 48 b) (nat_le b 57) h) in
-    let high : b ≤ 57 = leb-true b 57 (second_of (nat_le 48 b) (nat_le b 57) h) in
-    and_from (nat_le 32 b && nat_lt b 127 && not (nat_eq b 34)) (not (nat_eq b 92))
-    (and_from (nat_le 32 b && nat_lt b 127) (not (nat_eq b 34))
-    (and_from (nat_le 32 b) (nat_lt b 127) (le-leb 32 b (omega (arith, low))) (less_true b 127 (omega (arith, high))))
-    (ap not (above_fails b 34 (omega (arith, low)))))
-    (ap not (below_fails b 92 (omega (arith, high))))
-
-all_stand : (bs : List ℕ) → list_all is_digit bs ≡ true → list_all stands_in_name bs ≡ true
-all_stand [] h = refl
-all_stand (b ∷ bs) h = and_from (stands_in_name b) (list_all stands_in_name bs) (digit_stands b (first_of (is_digit b) (list_all is_digit bs) h)) (all_stand bs (second_of (is_digit b) (list_all is_digit bs) h))
 
 name_of_digits : (bs : List ℕ) → 0 < length bs → list_all is_digit bs ≡ true → is_name bs ≡ true
 name_of_digits [] some h = absurd (omega (arith, some))

@@ -2,6 +2,7 @@
 use Rattle.std.proofs.Common.{◌≡◌, ℕ, ◌+◌, ◌<◌, ◌≤◌, List, [], ◌∷◌, ◌++◌, length, get_or, take, codes, refl, ap, sym, ◌∙◌, zero, suc, min, flat_map, Vec, Global, arith}
 use Rattle.std.proofs.lemmas.Grind.{common_steps}
 use Rattle.std.proofs.lemmas.List.{take_more, append_assoc, append-nil, length-take-le, take_all}
+use Rattle.lx_words.proofs.Lists.{joined_three}
 use Rattle.lx_ir.specs.IrType.{IrType}
 use Rattle.lx_ir.specs.Init.{Init, Bytes, init_depth, inits_depth}
 use Rattle.lx_ir.specs.InitNodes.{inits_of_list, init_of_node}
@@ -10,7 +11,6 @@ use Rattle.lx_ir.specs.declared.module.InitNode.{InitNode}
 use Rattle.lx_ir.specs.declared.module.InitNode.TheVariants as node
 use Rattle.lx_ir.specs.declared.module.Module.{Module}
 use Rattle.lx_ir.specs.Text.{Text, type_text, byte_text, init_text, item_texts, comma_list, spaced_list, separator, opening, closing}
-use Rattle.lx_ir.proofs.Joined.{joined_three}
 use Rattle.lx_ir.proofs.TypeLists.{comma_push}
 
 -- an element of a list of initialisers is less deep

@@ -3,6 +3,7 @@ use Rattle.std.proofs.Common.{◌≡◌, ℕ, ◌+◌, ◌<◌, ◌≤◌, List,
 use Rattle.std.proofs.lemmas.Grind.{common_steps}
 use Rattle.std.proofs.lemmas.List.{map_more, append_assoc, length-map, length-take-le, take_all}
 use Rattle.lx_words.specs.Text.{decimal_text}
+use Rattle.lx_words.proofs.Lists.{joined_three}
 use Rattle.lx_ir.specs.IrType.{IrType, Array, Struct, Packed, none, also, depth, depths}
 use Rattle.lx_ir.specs.declared.types.NamedType.{NamedType}
 use Rattle.lx_ir.specs.declared.types.Scalar.{Scalar}
@@ -13,7 +14,6 @@ use Rattle.lx_ir.specs.Text.{Text, type_text, type_texts, comma_list, spaced_lis
 use Rattle.lx_ir.specs.declared.types.TypeNode.{TypeNode}
 use Rattle.lx_ir.specs.declared.types.TypeNode.TheVariants as node
 use Rattle.lx_ir.specs.TypeNodes.{types_of_list, type_of_node}
-use Rattle.lx_ir.proofs.Joined.{joined_three}
 
 -- an element of a list of types is less deep
 pub depth_at : (ts : List IrType) (i : ℕ) (d : IrType) → i < length ts → depth (get_or ts i d) < depths (types_of_list ts)

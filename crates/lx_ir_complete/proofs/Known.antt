@@ -19,9 +19,10 @@ use Rattle.lx_ir_terms.specs.Grammar.{is_inside_limits}
 use Rattle.lx_ir_tables.specs.Numbering.{number_named, symbol_by}
 use Rattle.lx_ir_complete.specs.Knows.{Knows, KnowsRegisters}
 use Rattle.lx_ir_tokens.specs.Names.{number_of}
+use Rattle.lx_ir.proofs.DistinctNames.{distinct_behind}
 use Rattle.lx_ir_complete.specs.KnownTables.{AreOnce, global_names, function_names, HasTables, HasRegisters}
 use Rattle.lx_ir_complete.proofs.LawfulShapes.{inside}
-use Rattle.lx_ir_complete.proofs.TableNumbers.{not_before, distinct_front, distinct_back, absent, found, number_told, symbol_told}
+use Rattle.lx_ir_complete.proofs.TableNumbers.{not_before, distinct_front, absent, found, number_told, symbol_told}
 
 complete_or_not : {A : Type 0} (complete : Bool) (other x : A) (o : Option A) → o ≡ Some x → unless_complete complete other o ≡ Some x
 complete_or_not true other x o e = ap (unless_complete true other) e
@@ -54,7 +55,7 @@ module _ (m : Module) (context : Context) (lawful : IsLawful m) (once : AreOnce 
   symbols_known (symbol.Function k) name h at =
       let lt : k < length m.functions = ltb-true k (length m.functions) h in
       let within : k < length (function_names m) = omega (arith, lt, length-map m.functions (λ f. f.name)) in
-      let number = placed context.names (function_names m) k name once (distinct_back (global_names m) (function_names m) lawful.symbols_once) within at in
+      let number = placed context.names (function_names m) k name once (distinct_behind (global_names m) (function_names m) lawful.symbols_once) within at in
       let none = absent context.names once (global_names m) 0 name (name_at (function_names m) k) at (not_before (global_names m) (function_names m) k lawful.symbols_once within) in
       symbol_known (symbol.Function k) None (Some k) name (name_at (function_names m) k) refl none number at
 

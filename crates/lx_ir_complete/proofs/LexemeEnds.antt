@@ -1,5 +1,5 @@
 -- A lexeme ends where a text begins that does not lengthen it.
-use Rattle.std.proofs.Common.{◌≡◌, ℕ, zero, suc, List, [], ◌∷◌, ◌++◌, Bool, true, false, not, ◌&&◌, refl, sym, ap, ◌∙◌, Option, Some, None}
+use Rattle.std.proofs.Common.{◌≡◌, ℕ, zero, suc, List, [], ◌∷◌, ◌++◌, Bool, true, false, not, ◌&&◌, refl, sym, ap, ◌∙◌, Some, None}
 use Rattle.std.specs.Prelude.{◌==◌, if◌then◌else◌}
 use Rattle.std.specs.List.{list_all}
 use Rattle.std.proofs.lemmas.Bool.{and_parts, eqb-true, and_right, or_parts, not-true}
@@ -7,8 +7,10 @@ use Rattle.lx_words.specs.declared.token.TokenRule.TheVariants.{Ir}
 use Rattle.lx_words.specs.declared.token.Lexeme.{Lexeme}
 use Rattle.lx_words.specs.declared.token.Lexeme.TheVariants.{Space, Comment, Token}
 use Rattle.lx_words.specs.declared.token.TokenKind.TheVariants as kinds
-use Rattle.lx_words.specs.Lexemes.{is_space, is_comment_mark, is_digit, is_word_start, is_word_byte, is_name_byte, is_quoted_name_byte, is_text_byte, is_line_byte, is_hex, is_plain_byte, is_nil, ends_quoted, ends_escaped, some_all, ends_name, is_name, is_escaped, is_ir_mark, when, word_lexeme, other_lexeme, lexeme_behind}
+use Rattle.lx_words.specs.Lexemes.{is_space, is_comment_mark, is_digit, is_word_start, is_word_byte, is_name_byte, is_text_byte, is_line_byte, is_hex, is_plain_byte, is_nil, ends_quoted, ends_escaped, some_all, ends_name, is_name, is_escaped, is_ir_mark, when, word_lexeme, other_lexeme, lexeme_behind}
 use Rattle.lx_words.proofs.Lists.{all_lost}
+use Rattle.lx_words.proofs.Tests.{test_lost}
+use Rattle.lx_words.proofs.LostEnds.{some_lost, nil_lost, quoted_lost, ended_name_lost, if_lost}
 use Rattle.lx_ir_complete.specs.Pieces.{ends_word, ends_before}
 
 -- Tests.
@@ -40,26 +42,6 @@ all_fails : (p : ℕ → Bool) (bs more : List ℕ) → list_all p bs ≡ false 
 all_fails p [] more e = cc e
 all_fails p (b ∷ bs) more e = and_fails (p b) (list_all p bs) (list_all p (bs ++ more)) (all_fails p bs more) e
 
-some_lost : (p : ℕ → Bool) (bs : List ℕ) (r : ℕ) (more : List ℕ) → p r ≡ false → some_all p (bs ++ r ∷ more) ≡ false
-some_lost p [] r more e = ap (λ v. v && list_all p more) e
-some_lost p (b ∷ bs) r more e = and_right (p b) (list_all p (bs ++ r ∷ more)) (all_lost p bs r more e)
-
-nil_lost : (bs : List ℕ) (r : ℕ) (more : List ℕ) → is_nil (bs ++ r ∷ more) ≡ false
-nil_lost [] r more = refl
-nil_lost (b ∷ bs) r more = refl
-
-test_lost : (v x y z u : Bool) → (x ≡ true → z ≡ false) → (y ≡ true → u ≡ false) → (if v then x else y) ≡ true → (if v then z else u) ≡ false
-test_lost true x y z u f g e = f e
-test_lost false x y z u f g e = g e
-
-quoted_lost : (p : ℕ → Bool) (bs : List ℕ) (r : ℕ) (more : List ℕ) → ends_quoted p bs ≡ true → ends_quoted p (bs ++ r ∷ more) ≡ false
-quoted_lost p [] r more e = cc e
-quoted_lost p (b ∷ bs) r more e =
-    test_lost (b == 34) (is_nil bs) (p b && ends_quoted p bs) (is_nil (bs ++ r ∷ more)) (p b && ends_quoted p (bs ++ r ∷ more))
-    (λ h. nil_lost bs r more)
-    (λ h. and_right (p b) (ends_quoted p (bs ++ r ∷ more)) (quoted_lost p bs r more (and_parts (p b) (ends_quoted p bs) h).1))
-    e
-
 escaped_lost : (digits : ℕ) (bs : List ℕ) (r : ℕ) (more : List ℕ) → ends_escaped digits bs ≡ true → ends_escaped digits (bs ++ r ∷ more) ≡ false
 escaped_lost digits [] r more e = cc e
 escaped_lost (suc digits) (b ∷ bs) r more e =
@@ -71,11 +53,6 @@ escaped_lost zero (b ∷ bs) r more e =
     (λ h. escaped_lost 2 bs r more h)
     (λ h. and_right (is_plain_byte b) (ends_escaped 0 (bs ++ r ∷ more)) (escaped_lost 0 bs r more (and_parts (is_plain_byte b) (ends_escaped 0 bs) h).1)))
     e
-
-ended_name_lost : (bs : List ℕ) (r : ℕ) (more : List ℕ) → ends_name bs ≡ true → ends_name (bs ++ r ∷ more) ≡ false
-ended_name_lost [] r more e = cc e
-ended_name_lost (b ∷ bs) r more e =
-    and_right (is_quoted_name_byte b) (ends_quoted is_quoted_name_byte (bs ++ r ∷ more)) (quoted_lost is_quoted_name_byte bs r more (and_parts (is_quoted_name_byte b) (ends_quoted is_quoted_name_byte bs) e).1)
 
 name_lost : (bs : List ℕ) (r : ℕ) (more : List ℕ) → ends_word r ≡ true → is_name bs ≡ true → is_name (bs ++ r ∷ more) ≡ false
 name_lost [] r more h e = cc e
@@ -109,10 +86,6 @@ when_lost true w k l rest h f e = ap (λ b. when b k) (f (ap (λ m. ends_before 
     same : k ≡ l
     same = cc e
 when_lost false w k l rest h f e = cc e
-
-if_lost : (v : Bool) (x y z u : Option Lexeme) (l : Lexeme) → (x ≡ Some l → z ≡ None) → (y ≡ Some l → u ≡ None) → (if v then x else y) ≡ Some l → (if v then z else u) ≡ None
-if_lost true x y z u l f g e = f e
-if_lost false x y z u l f g e = g e
 
 module _ (b : ℕ) (bs : List ℕ) (r : ℕ) (more : List ℕ) (l : Lexeme) (h : ends_before l (r ∷ more) ≡ true) where
   word_lost : word_lexeme Ir b bs ≡ Some l → word_lexeme Ir b (bs ++ r ∷ more) ≡ None

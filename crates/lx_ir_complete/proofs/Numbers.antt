@@ -2,8 +2,8 @@
 use Rattle.std.proofs.Common.{◌≡◌, ℕ, suc, ◌^◌, ◌<◌, ◌≤◌, List, [], ◌∷◌, length, Bool, true, false, not, ◌&&◌, refl, ap, ◌∙◌, arith, Some, ℤ, pos, negsuc, min}
 use Rattle.std.specs.Prelude.{◌==◌, nat_lt, nat_le}
 use Rattle.std.specs.Char.{IsAsciiDigit}
-use Rattle.std.specs.List.{list_all, AllByRecursion}
-use Rattle.std.proofs.lemmas.Bool.{and_parts, and_from, le-leb, leb-true, lt-ltb, not-true}
+use Rattle.std.specs.List.{list_all}
+use Rattle.std.proofs.lemmas.Bool.{and_parts, leb-true, lt-ltb, not-true}
 use Rattle.std.proofs.lemmas.List.Elements.{recursion_from_All}
 use Rattle.lx_words.specs.declared.token.TokenRule.TheVariants.{Ir}
 use Rattle.lx_words.specs.declared.token.Lexeme.TheVariants.{Token}
@@ -11,6 +11,7 @@ use Rattle.lx_words.specs.declared.token.TokenKind.TheVariants as kinds
 use Rattle.lx_words.specs.Lexemes.{is_space, is_digit, is_line_byte, lexeme_of, lexeme_behind, other_lexeme}
 use Rattle.lx_words.specs.Text.{decimal_text, signed_text, decimal_value}
 use Rattle.lx_words.specs.TextLaws.{NumberTexts}
+use Rattle.lx_words.proofs.Digits.{all_digits}
 use Rattle.lx_ir_tokens.specs.declared.token.Kind.TheVariants as kind
 use Rattle.lx_ir_tokens.specs.Said.{has_minus, value_of_number}
 use Rattle.lx_ir_terms.specs.Types.{count_in, greatest_count}
@@ -20,11 +21,6 @@ use Rattle.lx_ir_complete.proofs.Bytes.{byte_passes, all_pass}
 use Rattle.lx_ir_complete.proofs.Joining.{token}
 
 -- Digits.
-
-all_digits : (bs : List ℕ) → AllByRecursion IsAsciiDigit bs → list_all is_digit bs ≡ true
-all_digits [] h = refl
-all_digits (b ∷ bs) h =
-    and_from (is_digit b) (list_all is_digit bs) (and_from (nat_le 48 b) (nat_le b 57) (le-leb 48 b (omega (arith, h.0))) (le-leb b 57 (omega (arith, h.0)))) (all_digits bs h.1)
 
 digit_below : (b : ℕ) → is_digit b ≡ true → b < 128
 digit_below b h = let le : b ≤ 57 = leb-true b 57 ((and_parts (nat_le 48 b) (nat_le b 57) h).1) in omega arith

@@ -51,10 +51,6 @@ distinct_front (x ∷ xs) ys h =
         let two = or_parts (bytes_eq x z) (list_any (bytes_eq x) (zs ++ ws)) q in
         or_from (bytes_eq x z) (list_any (bytes_eq x) zs) two.0 (fewer zs ws two.1)
 
-pub distinct_back : (xs ys : List (List ℕ)) → is_distinct (xs ++ ys) ≡ true → is_distinct ys ≡ true
-distinct_back [] ys h = h
-distinct_back (x ∷ xs) ys h = distinct_back xs ys (and_parts (not (list_any (bytes_eq x) (xs ++ ys))) (is_distinct (xs ++ ys)) h).1
-
 -- Numbers of names.
 
 pub other_number : (names : List (List ℕ)) (n r : ℕ) (name said : List ℕ) (v : Bool) → nat_eq n r ≡ v → slice_get names n ≡ Some name → slice_get names r ≡ Some said → bytes_eq name said ≡ false → v ≡ false

@@ -1,12 +1,9 @@
 -- The names of the parameters of a function.
 use Rattle.std.proofs.Common.{◌≡◌, ◌⊎◌, inl, inr, ℕ, suc, ◌+◌, ◌<◌, ◌≤◌, ◌^◌, Bool, true, false, ◌&&◌, ◌||◌, Option, Some, None, List, [], ◌∷◌, ◌++◌, length, map, slice_get, bytes_eq, refl, sym, ap, ◌∙◌, subst, arith}
-use Rattle.std.specs.Prelude.{unwrap_or, nat_le, not, nat_lt, nat_eq}
-use Rattle.std.specs.List.{list_all, list_any, AllByRecursion}
-use Rattle.std.specs.Char.{IsAsciiDigit}
-use Rattle.std.proofs.lemmas.Bool.{le-leb, leb-true, and_parts, and_from}
-use Rattle.std.proofs.lemmas.Bool.Decides.{nat_tests}
+use Rattle.std.specs.Prelude.{unwrap_or, not}
+use Rattle.std.specs.List.{list_all, list_any}
+use Rattle.std.proofs.lemmas.Bool.{and_from}
 use Rattle.std.proofs.lemmas.List.{length-append, map-append}
-use Rattle.std.proofs.lemmas.List.Elements.{recursion_from_All}
 use Rattle.std.proofs.lemmas.List.Folds.{list_all-append}
 use Rattle.std.proofs.lemmas.Slice.Eq.{bytes_eq-Decides}
 use Rattle.lx_words.specs.Text.{decimal_text}
@@ -15,9 +12,10 @@ use Rattle.lx_ir_tokens.specs.declared.token.Tok.{Tok}
 use Rattle.lx_ir_tokens.specs.Names.{number_of}
 use Rattle.lx_ir.specs.declared.types.Scalar.{Scalar}
 use Rattle.lx_ir.specs.declared.module.Parameter.{Parameter}
-use Rattle.lx_ir.specs.Lawful.{stands_in_name, is_name, is_digit, is_word_byte, is_distinct, is_label}
+use Rattle.lx_ir.specs.Lawful.{is_name, is_digit, is_word_byte, is_distinct, is_label}
 use Rattle.lx_ir_tokens.specs.declared.token.Mark.{Mark}
 use Rattle.lx_ir_tokens.specs.declared.token.Mark.TheVariants.{Comma, OpenParenthesis}
+use Rattle.lx_ir.proofs.DigitNames.{all_stand, decimal_digits}
 use Rattle.lx_ir_terms.specs.Context.{Context}
 use Rattle.lx_ir_terms.specs.Reading.{is_mark}
 use Rattle.lx_ir_terms.proofs.Marks.{mark_is}
@@ -37,31 +35,6 @@ use Rattle.lx_ir_lawful.specs.BodyLaws.{said_by}
 use Rattle.lx_ir_lawful.proofs.RegisterTables.{unknown}
 
 -- Decimal texts.
-
-all_digits : (bs : List ℕ) → AllByRecursion IsAsciiDigit bs → list_all is_digit bs ≡ true
-all_digits [] h = refl
-all_digits (b ∷ bs) h =
-    and_from (is_digit b) (list_all is_digit bs) (and_from (nat_le 48 b) (nat_le b 57) (le-leb 48 b (omega (arith, h.0))) (le-leb b 57 (omega (arith, h.0)))) (all_digits bs h.1)
-
-pub decimal_digits : (n : ℕ) → list_all is_digit (decimal_text n) ≡ true
-decimal_digits n = all_digits (decimal_text n) (recursion_from_All IsAsciiDigit (decimal_text n) (number_texts.digits n))
-
-digit_stands : (b : ℕ) → is_digit b ≡ true → stands_in_name b ≡ true
-digit_stands b h =
-    let both = and_parts (nat_le 48 b) (nat_le b 57) h in
-    let low : 48 ≤ b = leb-true 48 b both.0 in
-    let high : b ≤ 57 = leb-true b 57 both.1 in
-    let a : nat_le 32 b ≡ true = le-leb 32 b (omega (arith, low)) in
-    let c : nat_lt b 127 ≡ true = grind (arith, nat_tests, high) in
-    let d : nat_eq b 34 ≡ false = grind (arith, nat_tests, low) in
-    let e : nat_eq b 92 ≡ false = grind (arith, nat_tests, high) in
-    rw (a, c, d, e) refl
-
-all_stand : (bs : List ℕ) → list_all is_digit bs ≡ true → list_all stands_in_name bs ≡ true
-all_stand [] h = refl
-all_stand (b ∷ bs) h =
-    let both = and_parts (is_digit b) (list_all is_digit bs) h in
-    and_from (stands_in_name b) (list_all stands_in_name bs) (digit_stands b both.0) (all_stand bs both.1)
 
 name_of_digits : (bs : List ℕ) → 0 < length bs → list_all is_digit bs ≡ true → is_name bs ≡ true
 name_of_digits [] some h = absurd (omega (arith, some))

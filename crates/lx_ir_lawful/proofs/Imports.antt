@@ -12,6 +12,7 @@ use Rattle.lx_ir.specs.declared.module.Module.{Module}
 use Rattle.lx_ir.specs.Lookup.{is_defined}
 use Rattle.lx_ir.specs.Lawful.{is_block_write as is_written, is_lawful_import, imports_first}
 use Rattle.lx_ir_tokens.specs.declared.token.Tok.{Tok}
+use Rattle.lx_ir.proofs.ImportsFirst.{defined_first}
 use Rattle.lx_ir_terms.specs.Context.{Context, bytes_of}
 use Rattle.lx_ir_calls.specs.declared.writes.BlockWrite.{BlockWrite}
 use Rattle.lx_ir_calls.specs.declared.writes.BlockWrite.TheVariants as writes
@@ -118,16 +119,6 @@ all_apart form places full toks (f ∷ fs) d e (m, (s, front, back, is, w, k), r
     all_apart form places full toks fs m e rest (subst Apart k (kept_apart full form places d s (registers_in full.names f.statement) (line_shown places f.left) front back is g))
 
 -- The functions of the module.
-
-defined_first : (fs : List Function) → list_all is_defined fs ≡ true → imports_first fs ≡ true
-defined_first [] h = refl
-defined_first (f ∷ fs) h =
-    let both = and_parts (is_defined f) (list_all is_defined fs) h in
-    and_from (not (is_defined f) || list_all is_defined fs) (imports_first fs) (or_right (not (is_defined f)) (list_all is_defined fs) both.1) (defined_first fs both.1)
-  where
-    or_right : (a b : Bool) → b ≡ true → (a || b) ≡ true
-    or_right true b e = refl
-    or_right false b e = e
 
 first_imports : (is fs : List Function) → list_all is_import is ≡ true → list_all is_defined fs ≡ true → imports_first (is ++ fs) ≡ true
 first_imports [] fs h g = defined_first fs g

@@ -1,7 +1,7 @@
 -- A function that is read has a lawful body.
 use Rattle.std.proofs.Common.{◌≡◌, ℕ, suc, ◌+◌, ◌<◌, ◌≤◌, Bool, true, false, ◌&&◌, Option, Some, List, [], ◌∷◌, ◌++◌, length, map, nat_eq, nat_lt, nat_le, refl, sym, ap, ◌∙◌, arith, append_assoc}
-use Rattle.std.specs.Prelude.{if◌then◌else◌, unwrap_or, flat_map, not, bytes_eq}
-use Rattle.std.specs.List.{list_all, list_any, cons_option, AllByRecursion}
+use Rattle.std.specs.Prelude.{if◌then◌else◌, unwrap_or, flat_map}
+use Rattle.std.specs.List.{list_all, cons_option, AllByRecursion}
 use Rattle.std.proofs.lemmas.Bool.{and_parts, eqb-true, leb-true, and_from}
 use Rattle.std.proofs.lemmas.Bool.Decides.{nat_tests}
 use Rattle.std.proofs.lemmas.Grind.{flat_map-append}
@@ -24,6 +24,7 @@ use Rattle.lx_ir.specs.declared.instr.Instr.{Instr}
 use Rattle.lx_ir.specs.declared.instr.Op.{Op}
 use Rattle.lx_ir.specs.Operands.{operands_of, operands_where, labels_of, register_count, is_image_line}
 use Rattle.lx_ir.specs.Lawful.{is_name, is_label, is_distinct, is_lawful_value, is_lawful_op, is_lawful_block, has_form, ends_once, counts_from, register_in, registers_in, numbers_read, first_come, numbers_registers}
+use Rattle.lx_ir.proofs.DistinctNames.{distinct_behind}
 use Rattle.lx_ir_lawful.proofs.LawfulLimits.{lawful}
 use Rattle.lx_ir_terms.specs.Context.{Context, nothing}
 use Rattle.lx_ir_calls.specs.declared.intrinsics.TextForm.{TextForm}
@@ -144,11 +145,6 @@ module _ (m : Module) (f : Function) (c : Context) where
       and_from (is_lawful_block m f b) (list_all (is_lawful_block m f) bs)
       (three_true (is_label b.name) (ends_once b.instrs) (list_all (λ i. is_lawful_op m f i.op) b.instrs) one.0 one.1 (instrs_lawful b.instrs h.0 p.0 l.0))
       (blocks_lawful bs h.1 p.1 l.1 two.1)
-
--- the names behind others are distinct
-distinct_behind : (xs ys : List (List ℕ)) → is_distinct (xs ++ ys) ≡ true → is_distinct ys ≡ true
-distinct_behind [] ys h = h
-distinct_behind (x ∷ xs) ys h = distinct_behind xs ys (and_parts (not (list_any (bytes_eq x) (xs ++ ys))) (is_distinct (xs ++ ys)) h).1
 
 -- Parameters.
 

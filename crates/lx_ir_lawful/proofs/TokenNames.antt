@@ -16,6 +16,8 @@ use Rattle.lx_words.specs.Lexemes.{is_digit as digit_byte, is_within, is_word_st
 use Rattle.lx_words.specs.Cuts.{bytes_of, Reaches, Scans, IsTokenOf}
 use Rattle.lx_words.proofs.Standing.{tokens_stand}
 use Rattle.lx_words.proofs.Tests.{and_false}
+use Rattle.lx_words.proofs.WholeLexemes.{nil_is, when_is}
+use Rattle.lx_words.proofs.Lists.{all_from}
 use Rattle.lx_ir.specs.Lawful.{stands_in_name, is_name, is_digit, is_word_byte, is_label}
 use Rattle.lx_ir_tokens.specs.declared.token.Tok.{Tok}
 use Rattle.lx_ir_tokens.specs.declared.token.Kind.TheVariants as kinds
@@ -92,10 +94,6 @@ name_byte_stands b h = by (or_cases (word_byte b) (b == 45) h)
     by (inl e) = inner (or_cases (is_word_start b) (digit_byte b) e)
     by (inr e) = one_stands 45 b e refl
 
-all_from : (p q : ℕ → Bool) → ((b : ℕ) → p b ≡ true → q b ≡ true) → (bs : List ℕ) → list_all p bs ≡ true → list_all q bs ≡ true
-all_from p q f [] h = refl
-all_from p q f (b ∷ bs) h = let s = and_parts (p b) (list_all p bs) h in and_from (q b) (list_all q bs) (f b s.0) (all_from p q f bs s.1)
-
 -- Names with quotes round them, and without.
 
 record Quoted (p : ℕ → Bool) (bs : List ℕ) : Type 0 where
@@ -110,10 +108,6 @@ quoted_by p b bs false none h rest =
     let some : 0 < length bs = r.some in
     let e : length (b ∷ bs) - 1 ≡ suc (length bs - 1) = omega (arith, some) in
     record { some = omega arith; each = ap (λ n. list_all p (take n (b ∷ bs))) e ∙ and_from (p b) (list_all p (take (length bs - 1) bs)) both.0 r.each }
-
-nil_is : (bs : List ℕ) → is_nil bs ≡ true → bs ≡ []
-nil_is [] h = refl
-nil_is (b ∷ bs) h = absurd (cc h)
 
 quoted : (p : ℕ → Bool) (bs : List ℕ) → ends_quoted p bs ≡ true → Quoted p bs
 quoted p [] h = absurd (cc h)
@@ -142,10 +136,6 @@ name_is [] h = absurd (cc h)
 name_is (b ∷ bs) h = name_by (b == 34) b bs h
 
 -- Kinds of tokens.
-
-when_is : (b : Bool) (l m : Lexeme) → when b l ≡ Some m → (b ≡ true) × (l ≡ m)
-when_is true l m e = let s : l ≡ m = cc in (refl, s)
-when_is false l m e = absurd (cc e)
 
 -- what the first byte and those behind it tell of a token of this kind
 abbrev Tells : TokenKind → ℕ → List ℕ → Type 0

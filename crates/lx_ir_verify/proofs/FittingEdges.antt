@@ -7,6 +7,7 @@ use Rattle.std.proofs.lemmas.Slice.Eq.{bytes_eq-Decides}
 use Rattle.std.proofs.lemmas.Bool.{and_from, or_right}
 use Rattle.lx_words.proofs.Tests.{eq_self, true_eq as numbers, false_true, first_of, second_of, same_tests, implied as unless}
 use Rattle.lx_words.proofs.Lists.{bytes_itself}
+use Rattle.lx_words.proofs.Options.{some_is as some_same}
 use Rattle.lx_ir.specs.declared.instr.Edge.{Edge}
 use Rattle.lx_ir.specs.declared.module.Block.{Block}
 use Rattle.lx_ir.specs.declared.module.Function.{Function}
@@ -18,7 +19,6 @@ use Rattle.lx_ir_walks.specs.Numbers.{is_number}
 use Rattle.lx_ir_walks.specs.Sources.{ArePredecessors}
 use Rattle.lx_ir_walks.proofs.Members.{In, any_in, in_any, all_in, in_all}
 use Rattle.lx_ir_walks.proofs.FirstBlocks.{present, number_is, one_name}
-use Rattle.lx_ir_walks.proofs.Passing.{some_same}
 use Rattle.lx_ir_verify.specs.Edges.{at_number, is_from, HasFirsts, is_first, edge_at, edge_by, AreBlocksOf}
 
 -- Blocks of a function.

@@ -4,7 +4,6 @@ use Rattle.std.specs.Prelude.{slice_get, nat_lt, cond, bytes_eq, flat_map}
 use Rattle.std.specs.List.{list_any, position_or_len}
 use Rattle.std.proofs.lemmas.Bool.Decides.{nat_tests}
 use Rattle.std.proofs.lemmas.Option.{slice_get_within}
-use Rattle.std.proofs.lemmas.Bool.{or_parts}
 use Rattle.lx_words.proofs.Tests.{true_false, first_of, second_of, no_other}
 use Rattle.lx_words.proofs.Options.{none_some, some_same}
 use Rattle.lx_words.proofs.Lists.{bytes_itself, position_is}
@@ -28,7 +27,7 @@ use Rattle.lx_simulation.proofs.Elements.{in_flat, in_map, in_got, any_in, any_o
 use Rattle.lx_simulation.proofs.Verifying.{name_of_block, Sound, gives_known}
 use Rattle.lx_simulation.proofs.Walking.{is_assigned, gives_it}
 use Rattle.lx_linked.specs.Alike.{operands_read}
-use Rattle.lx_simulation.proofs.Held.{read_block, the_read}
+use Rattle.lx_simulation.proofs.Held.{read_block, the_read, assigned_cases}
 use Rattle.lx_simulation.proofs.Jumping.{in_taken}
 
 -- the register is a parameter, or an instruction before the place on the walk gave it
@@ -73,12 +72,6 @@ edge_read g to j line register k r ty edges e i en ev =
 parameter_cases : (n r : ℕ) (b : Bool) → nat_lt r n ≡ b → (r < n) ⊎ (n ≤ r)
 parameter_cases n r true e = inl (grind (arith, nat_tests, e))
 parameter_cases n r false e = inr (grind (arith, nat_tests, e))
-
-assigned_cases : (m : Module) (g : Function) → Sound m g → (walk : List ℕ) (k j r line : ℕ) (b : Bool) → is_assigned g walk k j r ≡ b → length g.params ≤ r → Walk g walk k → IsIn (the_read k j r line) (reads_of g) → b ≡ true
-assigned_cases m g s walk k j r line true e above comes at = refl
-assigned_cases m g s walk k j r line false e above comes at =
-    let none = or_parts (walk_assigns g walk r) (assigns (take j (instrs_at g k)) r) e in
-    absurd (s.reads (the_read k j r line) at (record { no_parameter = above; walk = walk; comes = comes; not_before = none.0; not_here = none.1 }))
 
 pub known_read : (m : Module) (g : Function) → Sound m g → (walk : List ℕ) (k j r line : ℕ) → Walk g walk k → IsIn (the_read k j r line) (reads_of g) → Known g walk k j r
 known_read m g s walk k j r line comes at =

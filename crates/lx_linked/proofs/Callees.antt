@@ -1,13 +1,13 @@
 -- What a called name names takes the arguments of the call, and gives its result.
 use Rattle.std.proofs.Common.{◌≡◌, ℕ, zero, suc, ◌+◌, ◌<◌, Bool, true, false, not, ◌&&◌, ◌||◌, List, [], ◌∷◌, ◌++◌, length, take, get_or, Option, Some, None, refl, sym, subst, ◌∙◌, ap, arith}
-use Rattle.std.specs.Prelude.{slice_get, bytes_eq, position, codes, nat_lt, cond, option_and_then, unwrap_or}
+use Rattle.std.specs.Prelude.{slice_get, bytes_eq, position, codes, cond, option_and_then, unwrap_or}
 use Rattle.std.specs.List.{position_or_len}
 use Rattle.std.proofs.lemmas.List.Quantifiers.{position-Some}
 use Rattle.std.proofs.lemmas.Option.{slice_get-get_or}
 use Rattle.lx_words.specs.declared.word.Width.{Width}
 use Rattle.lx_words.proofs.Tests.{true_false, first_of, second_of, either_second}
 use Rattle.lx_words.proofs.Options.{none_some, some_same}
-use Rattle.lx_words.proofs.Lists.{same_bytes, all_got, place_is_here, find_placed, found_is, position_is, front_place}
+use Rattle.lx_words.proofs.Lists.{same_bytes, all_got, find_placed, found_is, position_is, front_place, placed}
 use Rattle.lx_caps.specs.declared.Principal.{Principal}
 use Rattle.lx_caps.specs.declared.Principal.TheVariants.{Kernel, Shared, Global, Inst}
 use Rattle.lx_ir.specs.declared.module.Function.{Function}
@@ -68,9 +68,6 @@ numbered : (p : Program) (h : Home) (f n : ℕ) → number_of p h f ≡ Some n �
 numbered p h f n e =
     let found = position-Some (is_entry h f) p.functions n (Native 0) e in
     slice_get-get_or p.functions n (Native 0) found.0 ∙ ap (λ (x : ProgramFunction). Some x) (entry_is h f (get_or p.functions n (Native 0)) found.1)
-
-placed : {A : Type 0} (p : A → Bool) (xs : List A) (k : ℕ) → position p xs ≡ Some k → (position_or_len p xs ≡ k) × (position_or_len p xs < length xs)
-placed p xs k e = place_is_here p xs k (nat_lt (position_or_len p xs) (length xs)) refl e
 
 less_suc : (a b : ℕ) → 1 + a < suc b → a < b
 less_suc a b h = omega (arith, h)

@@ -53,7 +53,7 @@ flat_in f y (x ∷ xs) i =
       | inr b ↦ (let r = flat_in f y xs b in (r.0, inr r.1, r.2))
     ]
 
-block_formed : (m : Module) (f : Function) (b : Block) (i : Instr) → is_lawful_block m f b ≡ true → IsIn i b.instrs → has_form m i.op ≡ true
+pub block_formed : (m : Module) (f : Function) (b : Block) (i : Instr) → is_lawful_block m f b ≡ true → IsIn i b.instrs → has_form m i.op ≡ true
 block_formed m f b i e a =
     let ops = second_of (is_label b.name && ends_once b.instrs) (list_all (λ (x : Instr). is_lawful_op m f x.op) b.instrs) e in
     let one = all_in (λ (x : Instr). is_lawful_op m f x.op) b.instrs i ops a in

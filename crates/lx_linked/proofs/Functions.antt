@@ -3,7 +3,7 @@ use Rattle.std.proofs.Common.{◌≡◌, ℕ, zero, suc, ◌+◌, ◌<◌, ◌�
 use Rattle.std.specs.Prelude.{flat_map, filter_map, slice_get, nat_eq, is_some, is_none}
 use Rattle.std.specs.List.{list_all, cons_option}
 use Rattle.lx_words.proofs.Tests.{true_false, first_of, second_of}
-use Rattle.lx_words.proofs.Options.{some_none, none_some, some_same, neither_some}
+use Rattle.lx_words.proofs.Options.{none_some, some_same, neither_some}
 use Rattle.lx_words.proofs.Lists.{map_length, got_past}
 use Rattle.lx_ir.specs.declared.types.Scalar.{Scalar}
 use Rattle.lx_ir.specs.declared.module.Block.{Block}
@@ -15,13 +15,14 @@ use Rattle.lx_ir.specs.declared.instr.Op.{Op}
 use Rattle.lx_ir.specs.declared.instr.Op.TheVariants as op
 use Rattle.lx_ir.specs.Lookup.{blocks_of, blocks_of_option, instrs_of, is_defined}
 use Rattle.lx_ir.specs.Operands.{given_by, result_of, kept_result, is_phi, labels_of, register_types}
-use Rattle.lx_ir.specs.Lawful.{counts_from, ends_once, is_label, is_name, has_form, is_lawful_op, is_lawful_block, is_lawful_body, is_lawful_function, numbers_registers, is_lawful_callee}
-use Rattle.lx_ir.specs.Faults.{Fault, fault_unless, first_some, earlier_fault, FirstOrUnassigned, global_fault, end_fault, label_fault, type_fault, phi_fault, phi_faults, op_edges_fit, block_phi_faults}
+use Rattle.lx_ir.specs.Lawful.{counts_from, is_name, has_form, is_lawful_op, is_lawful_block, is_lawful_body, is_lawful_function, numbers_registers, is_lawful_callee}
+use Rattle.lx_ir.specs.Faults.{Fault, first_some, earlier_fault, FirstOrUnassigned, global_fault, end_fault, label_fault, type_fault, phi_fault, phi_faults, op_edges_fit, block_phi_faults}
 use Rattle.lx_ir.specs.Verified.{IsVerified}
+use Rattle.lx_ir.proofs.Refused.{unless_none}
 use Rattle.lx_images.specs.Places.{IsIn}
 use Rattle.lx_simulation.proofs.Elements.{all_in}
 use Rattle.lx_simulation.proofs.Verifying.{Sound, sound, given_from, no_parameter, of_functions, behind_globals}
-use Rattle.lx_linked.proofs.Calling.{formed_by}
+use Rattle.lx_linked.proofs.Calling.{formed_by, block_formed}
 
 -- elements
 
@@ -38,10 +39,6 @@ from_blocks (b ∷ bs) i j =
     (λ there. (let f = from_blocks bs i there in (f.0, inr f.1, f.2)))
 
 -- faults
-
-unless_none : (b : Bool) (x : Fault) → fault_unless b x ≡ None → b ≡ true
-unless_none true x e = refl
-unless_none false x e = some_none e
 
 earlier_none : (f : Function) (o : Option Fault) → FirstOrUnassigned o f None → o ≡ None
 earlier_none f None h = refl
@@ -80,13 +77,10 @@ block_edges f (c ∷ bs) b i e (inr at) j = later_edges f bs b i (neither_some (
 op_form : (m : Module) (f : Function) (o : Op) → is_lawful_op m f o ≡ true → has_form m o ≡ true
 op_form m f o e = first_of (has_form m o) _ (first_of (has_form m o && _) (list_all is_name (labels_of o)) e)
 
-block_form : (m : Module) (f : Function) (b : Block) (i : Instr) → is_lawful_block m f b ≡ true → IsIn i b.instrs → has_form m i.op ≡ true
-block_form m f b i e j = op_form m f i.op (all_in (λ (x : Instr). is_lawful_op m f x.op) b.instrs i (second_of (is_label b.name && ends_once b.instrs) _ e) j)
-
 body_form : (m : Module) (f : Function) (i : Instr) → is_lawful_body m f ≡ true → IsIn i (instrs_of f) → has_form m i.op ≡ true
 body_form m f i e j =
     let at = from_blocks (blocks_of f) i j in
-    block_form m f at.0 i (all_in (is_lawful_block m f) (blocks_of f) at.0 (second_of _ (list_all (is_lawful_block m f) (blocks_of f)) (first_of _ (numbers_registers f) e)) at.1) at.2
+    block_formed m f at.0 i (all_in (is_lawful_block m f) (blocks_of f) at.0 (second_of _ (list_all (is_lawful_block m f) (blocks_of f)) (first_of _ (numbers_registers f) e)) at.1) at.2
 
 import_none : (f : Function) (i : Instr) → is_defined f ≡ false → IsIn i (instrs_of f) → ⊥
 import_none f i e j = subst (λ (bs : List Block). IsIn i (flat_map (λ (b : Block). b.instrs) bs)) (no_blocks f.blocks e) j where

@@ -1,5 +1,5 @@
 -- The fields at an offset of a global are those that paths lead to.
-use Rattle.std.proofs.Common.{◌≡◌, refl, sym, subst, ℕ, true, ◌&&◌, nat_le, IsTrue, Option, Some, None, List, [], ◌∷◌, length, arith, slice_get}
+use Rattle.std.proofs.Common.{◌≡◌, refl, sym, subst, ℕ, true, ◌&&◌, IsTrue, Option, Some, None, List, [], ◌∷◌, length, arith, slice_get}
 use Rattle.std.specs.List.{list_all}
 use Rattle.std.proofs.lemmas.Bool.{and_parts, and_from}
 use Rattle.lx_words.proofs.Lists.{all_at}
@@ -8,7 +8,8 @@ use Rattle.lx_ir.specs.declared.module.GlobalVar.{GlobalVar}
 use Rattle.lx_ir.specs.declared.module.Module.{Module}
 use Rattle.lx_ir.specs.IrType.{IrType}
 use Rattle.lx_ir.specs.Layout.{is_lawful_type}
-use Rattle.lx_ir.specs.Lawful.{IsLawful, is_lawful_global, is_lawful_init, is_name, nesting_of_init}
+use Rattle.lx_ir.specs.Lawful.{IsLawful, is_lawful_global}
+use Rattle.lx_ir.proofs.LawfulGlobals.{global_type_lawful}
 use Rattle.lx_slot_types.specs.Sites.{FieldName, fields_at, fields_of_global, global_fields_at, named_fields_at}
 use Rattle.lx_linked.specs.Members.{In, Exactly}
 use Rattle.lx_linked.specs.Paths.{BeginsAt, HasLawfulGlobals, LeadsTo}
@@ -18,17 +19,11 @@ use Rattle.lx_linked.proofs.Listed.{listed}
 
 -- of a lawful module the types of the globals are within the limits
 
-global_lawful : (m : Module) (g : GlobalVar) → is_lawful_global m g ≡ true → is_lawful_type m.types g.ty ≡ true
-global_lawful m g a =
-    let b = and_parts (is_name g.name && is_lawful_type m.types g.ty && is_lawful_init m g.ty g.init) (nat_le (nesting_of_init g.init) 64) a in
-    let c = and_parts (is_name g.name && is_lawful_type m.types g.ty) (is_lawful_init m g.ty g.init) b.0 in
-    (and_parts (is_name g.name) (is_lawful_type m.types g.ty) c.0).1
-
 all_lawful : (m : Module) (gs : List GlobalVar) → list_all (is_lawful_global m) gs ≡ true → list_all (λ (g : GlobalVar). is_lawful_type m.types g.ty) gs ≡ true
 all_lawful m [] h = refl
 all_lawful m (g ∷ gs) h =
     let a = and_parts (is_lawful_global m g) (list_all (is_lawful_global m) gs) h in
-    and_from (is_lawful_type m.types g.ty) (list_all (λ (x : GlobalVar). is_lawful_type m.types x.ty) gs) (global_lawful m g a.0) (all_lawful m gs a.1)
+    and_from (is_lawful_type m.types g.ty) (list_all (λ (x : GlobalVar). is_lawful_type m.types x.ty) gs) (global_type_lawful m g a.0) (all_lawful m gs a.1)
 
 pub lawful_globals : (m : Module) → IsLawful m → HasLawfulGlobals m
 lawful_globals m h = all_lawful m m.globals h.globals

@@ -28,7 +28,7 @@ use Rattle.lx_model.specs.Thread.{CodeBlock, Activation, zero_word}
 use Rattle.lx_model.specs.Effect.{operand, edge_value, with_phi, with_phis, without_phis, code_block_named}
 use Rattle.lx_images.specs.Places.{IsIn}
 use Rattle.lx_simulation.proofs.Elements.{all_in, any_of, in_got, in_map}
-use Rattle.lx_simulation.proofs.Verifying.{op_of, Sound, gives_known}
+use Rattle.lx_simulation.proofs.Verifying.{op_of, gives_known}
 use Rattle.lx_simulation.proofs.Verifying.{name_of_block as block_name}
 use Rattle.lx_simulation.proofs.Walking.{is_assigned, register_set, register_here, Arrives, arrives, assigned_more}
 use Rattle.lx_simulation.proofs.Jumping.{at_block, in_filter, ends_at, got_body, one_length, phis_length, in_taken}
@@ -36,7 +36,7 @@ use Rattle.lx_linked.specs.Threads.{has_value, name_of_block, RunsAt}
 use Rattle.lx_linked.proofs.Functions.{Known, given_type}
 use Rattle.lx_linked.proofs.FittingReads.{edge_valued, given_in}
 use Rattle.lx_linked.proofs.FittingFrames.{Wide, Stands, operand_wide}
-use Rattle.lx_linked.proofs.AssignedReads.{block_instr}
+use Rattle.lx_linked.proofs.AssignedReads.{block_instr, named_number}
 
 -- blocks by their names
 
@@ -58,9 +58,6 @@ placed (c ∷ bs) (suc k) b d e =
 
 placed_number : {A : Type 0} (p : A → Bool) (xs : List A) (k : ℕ) (x : A) → position_or_len p xs ≡ k → slice_get xs k ≡ Some x → position p xs ≡ Some k
 placed_number p xs k x e g = let l : k < length xs = slice_get_within xs k x g in grind (arith, l, e)
-
-pub numbered_block : (m : Module) (g : Function) → Sound m g → (k : ℕ) (b : Block) → slice_get (blocks_of g) k ≡ Some b → block_number g b.name ≡ Some k
-numbered_block m g s k b e = placed_number (λ (x : Block). bytes_eq x.name b.name) (blocks_of g) k b (placed (blocks_of g) k b s.names e) e
 
 -- the block that control comes to has the label
 target_name : (g : Function) (label : List ℕ) (k : ℕ) (b : Block) → block_number g label ≡ Some k → slice_get (blocks_of g) k ≡ Some b → b.name ≡ label
@@ -161,7 +158,7 @@ edge_wide p m g kn a walk block o label l comes target b x j i to ty edges got p
     let mine : value_fits (register_types g) ty found.0.value ≡ true
     = all_in (λ (y : Argument). value_fits (register_types g) y.ty y.value) (operands_of (op.Phi to ty edges)) (argument ty found.0.value) (sym (ap (λ (y : Op). list_all (λ (z : Argument). value_fits (register_types g) z.ty z.value) (operands_of y)) phi) ∙ typed)
     (in_map (λ (e : Edge). argument ty e.value) found.0 edges found.1) in
-    let number : block_number g found.0.label ≡ Some block = ap (block_number g) (found.2 ∙ l.label) ∙ numbered_block m g kn.is_sound block l.from l.got in
+    let number : block_number g found.0.label ≡ Some block = ap (block_number g) (found.2 ∙ l.label) ∙ named_number m g kn.is_sound block l.from l.got in
     ap (λ (f : Option Edge). (unwrap_or (option_map (λ (e : Edge). operand p a e.value) f) zero_word).width) found.3
     ∙ operand_wide p m g kn a walk block (length (instrs_at g block)) l.wide found.0.value ty mine
     (λ r v. edge_valued m g kn.is_sound walk block x.block j i to ty edges found.0 r comes at phi found.1 number v)

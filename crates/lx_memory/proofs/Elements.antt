@@ -3,11 +3,11 @@ use Rattle.std.proofs.Common.{◌≡◌, inl, inr, refl, sym, subst, ◌∙◌, 
 use Rattle.std.specs.List.{remove, insert}
 use Rattle.std.proofs.lemmas.Bool.{true≢false, false≢true, or_cases, cases_Bool, eqb-true, false_from_ne_true, or_left, or_right}
 use Rattle.std.proofs.lemmas.Bool.Decides.{nat_tests}
+use Rattle.lx_words.proofs.Tests.{or_swap}
 use Rattle.lx_caps.specs.declared.Block.{Block}
 use Rattle.lx_caps.specs.Heap.{Blocks, is_live, without_block}
 use Rattle.lx_caps.specs.HeapLaws.{IsApart}
 use Rattle.lx_memory.specs.Heaps.{IsAscending, same_block, has_block, KeepsBlocks}
-use Rattle.lx_caps.proofs.Tests.{or_swap}
 
 -- the block shares no byte with the range
 abbrev pub IsApartFrom : Block → ℕ → ℕ → Type 0

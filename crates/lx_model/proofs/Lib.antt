@@ -14,3 +14,6 @@ pub mod Threads
 pub mod Activations
 pub mod Turns
 pub mod ActKeeps
+pub mod Lending
+pub mod NumberedHomes
+pub mod ServedJournal

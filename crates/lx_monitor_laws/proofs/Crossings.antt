@@ -1,9 +1,8 @@
 -- A crossing does its function's annotation.
-use Rattle.std.proofs.Common.{◌≡◌, ℕ, zero, suc, ◌+◌, ◌-◌, ◌*◌, ◌<◌, ◌≤◌, Bool, true, false, nat_lt, Option, Some, None, List, [], ◌∷◌, length, refl, sym, ap, subst, arith, ◌∙◌}
+use Rattle.std.proofs.Common.{◌≡◌, ℕ, zero, suc, ◌+◌, ◌-◌, ◌*◌, ◌<◌, ◌≤◌, Bool, true, false, Option, Some, None, List, [], ◌∷◌, length, refl, sym, ap, subst, arith, ◌∙◌}
 use Rattle.std.specs.Prelude.{if◌then◌else◌}
-use Rattle.std.proofs.lemmas.Bool.Decides.{nat_tests}
 use Rattle.lx_words.specs.Word.{Word}
-use Rattle.lx_words.proofs.Tests.{less_true}
+use Rattle.lx_words.proofs.Tests.{less_true, not_below}
 use Rattle.lx_caps.specs.declared.Principal.{Principal}
 use Rattle.lx_model.specs.declared.program.Program.{Program}
 use Rattle.lx_model.specs.declared.request.Outcome.{Outcome}
@@ -27,9 +26,6 @@ abbrev at_stage : Thread → Frame → List Frame → Crossing → Stage → ℕ
 at_stage x f fs c stage fuel =
     record { calls = x.calls; ended = x.ended; fuel = fuel; due = None; frames = record f { crossing = Some (record c { stage = stage }) } ∷ fs }
 
-not_less_test : (m n : ℕ) → n ≤ m → nat_lt m n ≡ false
-not_less_test m n h = grind (arith, nat_tests, h)
-
 -- natural numbers are native: a sum shows no successor
 moved : (fuel m : ℕ) → fuel + suc m ≡ suc (fuel + m)
 moved fuel m = omega arith
@@ -48,7 +44,7 @@ module _ (p : Program) (t : ℕ) (x : Thread) (f : Frame) (fs : List Frame) (c :
   further k h = ap (λ (b : Bool). if b then Pre (suc k) else Body) (less_true (suc k) (count_before p c.function) h)
 
   last : (k : ℕ) → count_before p c.function ≤ suc k → next_stage p c.function (Pre k) ≡ Body
-  last k h = ap (λ (b : Bool). if b then Pre (suc k) else Body) (not_less_test (suc k) (count_before p c.function) h)
+  last k h = ap (λ (b : Bool). if b then Pre (suc k) else Body) (not_below (suc k) (count_before p c.function) h)
 
   goes_before : (k fuel : ℕ) → suc k < count_before p c.function
       → absorb p t (next p t (at_stage x f fs c (Pre k) (suc fuel))).thread (next p t (at_stage x f fs c (Pre k) (suc fuel))).request Done
@@ -116,7 +112,7 @@ module _ (p : Program) (t : ℕ) (x : Thread) (f : Frame) (fs : List Frame) (c :
       → step p t (at_stage x f fs c (Post k v) fuel) ≡ Goes (after_leaving v fs (at_stage x f fs c (Post k v) fuel))
   leaves_at v k fuel h =
       ap (λ (b : Bool). post_step b (record f { crossing = Some (record c { stage = Post k v }) }) fs (record c { stage = Post k v }) k v (at_stage x f fs c (Post k v) fuel))
-      (not_less_test k (count_behind p c.function) h)
+      (not_below k (count_behind p c.function) h)
 
 -- the call is entered
 
@@ -135,7 +131,7 @@ first_is : (p : Program) (n m : ℕ) → count_before p n ≡ suc m → first_st
 first_is p n m e = ap first_stage (less_true 0 (count_before p n) (omega (arith, e)))
 
 none_first : (p : Program) (n : ℕ) → count_before p n ≡ 0 → first_stage (has_action p n false 0) ≡ Body
-none_first p n e = ap first_stage (not_less_test 0 (count_before p n) (omega (arith, e)))
+none_first p n e = ap first_stage (not_below 0 (count_before p n) (omega (arith, e)))
 
 does_before : (m : ℕ) (p : Program) (t : ℕ) (x : Thread) (caller : Principal) (way : Way) (args : List Word) (n : ℕ) (callee : Principal) (fuel : ℕ)
     → count_before p n ≡ m → x.due ≡ None → fits_site p way x.frames n ≡ true → x.fuel ≡ fuel + m → DoesBefore p t x caller way args n callee fuel

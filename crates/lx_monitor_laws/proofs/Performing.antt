@@ -12,6 +12,7 @@ use Rattle.lx_caps.specs.History.{History, has, owns, same_principal, with_grant
 use Rattle.lx_caps.specs.Loans.{lends}
 use Rattle.lx_caps.specs.Memory.{Memory, load64}
 use Rattle.lx_caps.proofs.Principals.{same_principal_is, same_principal_itself}
+use Rattle.lx_caps.proofs.Lending.{still_lends, lend_owns}
 use Rattle.lx_annot.specs.declared.expr.Env.{Env}
 use Rattle.lx_annot.specs.declared.interface.Interface.{Interface}
 use Rattle.lx_annot.specs.Action.{Action, Copy, Transfer, Check, Lend, End, If}
@@ -71,22 +72,9 @@ strips_give_nothing (c ∷ cs) h q x is = (and_parts _ (owns h q x) (strips_give
 
 -- lends
 
-lend_keeps : (t : ℕ) (d : Principal) (c : Cap) (h : History) (q : Principal) (x : Atom) → owns h q x ≡ true → owns (with_lend t d c h) q x ≡ true
-lend_keeps t Kernel c h q x is = is
-lend_keeps t (Shared m) c h q x is = or_right (lends h t && (same_principal q (Shared m) && has c x)) _ is
-lend_keeps t (Global m) c h q x is = or_right (lends h t && (same_principal q (Global m) && has c x)) _ is
-lend_keeps t (Inst m k) c h q x is = or_right (lends h t && (same_principal q (Inst m k) && has c x)) _ is
-
 lends_keep : (t : ℕ) (d : Principal) (cs : List Cap) (h : History) (q : Principal) (x : Atom) → owns h q x ≡ true → owns (with_lends t d cs h) q x ≡ true
 lends_keep t d [] h q x is = is
-lends_keep t d (c ∷ cs) h q x is = lends_keep t d cs (with_lend t d c h) q x (lend_keeps t d c h q x is)
-
--- the thread's loan goes on behind a lend
-still_lends : (t : ℕ) (d : Principal) (c : Cap) (h : History) → lends h t ≡ true → lends (with_lend t d c h) t ≡ true
-still_lends t Kernel c h is = is
-still_lends t (Shared m) c h is = is
-still_lends t (Global m) c h is = is
-still_lends t (Inst m k) c h is = is
+lends_keep t d (c ∷ cs) h q x is = lends_keep t d cs (with_lend t d c h) q x (lend_owns t d c h q x is)
 
 lent_atom : (d : Principal) (c : Cap) (h : History) (t : ℕ) (x : Atom) → lends h t ≡ true → has c x ≡ true → (lends h t && (same_principal d d && has c x)) ≡ true
 lent_atom d c h t x loaned at = and_from (lends h t) _ loaned (own_atom d c x at)

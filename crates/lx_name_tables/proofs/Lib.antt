@@ -1,4 +1,3 @@
 pub mod Firsts
-pub mod Join
 pub mod Same
 pub mod FirstTexts

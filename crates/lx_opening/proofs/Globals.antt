@@ -1,5 +1,5 @@
 -- Each global of a well-formed program lies in memory.
-use Rattle.std.proofs.Common.{◌≡◌, ℕ, zero, suc, ◌+◌, ◌<◌, ◌≤◌, Bool, true, false, ◌&&◌, Option, Some, None, List, [], ◌∷◌, length, get_or, nat_le, refl, ap, sym, subst, ◌∙◌, arith}
+use Rattle.std.proofs.Common.{◌≡◌, ℕ, zero, suc, ◌+◌, ◌<◌, ◌≤◌, true, ◌&&◌, Option, Some, None, List, [], ◌∷◌, length, get_or, nat_le, refl, ap, sym, subst, ◌∙◌, arith}
 use Rattle.std.specs.Prelude.{slice_get, IsTrue}
 use Rattle.std.proofs.lemmas.Bool.{and_parts}
 use Rattle.std.proofs.lemmas.Option.{slice_get-get_or, same_Some}
@@ -9,10 +9,11 @@ use Rattle.lx_caps.specs.Regions.{globals_start, mapped}
 use Rattle.lx_ir.specs.declared.types.NamedType.{NamedType}
 use Rattle.lx_ir.specs.declared.module.GlobalVar.{GlobalVar}
 use Rattle.lx_ir.specs.declared.module.Module.{Module}
-use Rattle.lx_ir.specs.Faults.{Fault, FirstBehind, first_some, fault_unless, global_fault, init_fits}
+use Rattle.lx_ir.specs.Faults.{Fault, FirstBehind, first_some, global_fault, init_fits}
 use Rattle.lx_ir.specs.Lawful.{is_lawful_global, is_lawful_init, is_name, nesting_of_init}
 use Rattle.lx_ir.specs.Layout.{size_of, is_lawful_type}
 use Rattle.lx_ir.specs.Verified.{IsVerified}
+use Rattle.lx_ir.proofs.Refused.{unless_none}
 use Rattle.lx_model.specs.declared.program.Program.{Program}
 use Rattle.lx_model.specs.declared.program.ProgramModule.{ProgramModule}
 use Rattle.lx_model.specs.declared.program.ProgramGlobal.{ProgramGlobal}
@@ -87,10 +88,6 @@ each_none f [] k x h e = absurd (cc)
 each_none f (y ∷ ys) zero x h e = subst (λ z. f z ≡ None) (same_Some y x e) (first_none (f y) (first_some f ys) h)
 each_none f (y ∷ ys) (suc k) x h e = each_none f ys k x (rest_none (f y) (first_some f ys) h) e
 
-passes : (b : Bool) (x : Fault) → fault_unless b x ≡ None → b ≡ true
-passes true x h = refl
-passes false x h = absurd (cc)
-
 typed : (m : Module) (k : ℕ) (g : GlobalVar) → IsVerified m → slice_get m.globals k ≡ Some g → IsTyped m g
 typed m k g verified there =
     let lawful : is_lawful_global m g ≡ true = all_at (is_lawful_global m) m.globals k g verified.lawful.globals there in
@@ -100,7 +97,7 @@ typed m k g verified there =
     record {
       lawful = c.1;
       init = b.1;
-      fits = passes (init_fits m.types g.ty g.init) _ (each_none (global_fault m) m.globals k g (no_fault (first_some (global_fault m) m.globals) m verified.no_fault) there);
+      fits = unless_none (init_fits m.types g.ty g.init) _ (each_none (global_fault m) m.globals k g (no_fault (first_some (global_fault m) m.globals) m verified.no_fault) there);
     }
 
 typed_module : (kernel : Module) (p : Program) (m : Option ProgramModule) (k : ℕ) (g : GlobalVar) → ((x : ProgramModule) → m ≡ Some x → IsModuleOf kernel p.interface x.«module») → slice_get (module_or_empty m).globals k ≡ Some g → IsTyped (module_or_empty m) g

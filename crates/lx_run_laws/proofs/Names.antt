@@ -1,10 +1,11 @@
 -- Instances are numbered below their module's count, which only grows.
 use Rattle.std.proofs.Common.{◌≡◌, ℕ, suc, ◌<◌, ◌≤◌, Bool, true, false, ◌&&◌, nat_eq, Option, Some, [], ◌∷◌, ◌++◌, refl, sym, subst, if◌then◌else◌, arith}
 use Rattle.std.proofs.lemmas.Bool.{eqb-true, eqb-false, eq-eqb, cond_both}
+use Rattle.lx_words.proofs.Options.{some_is}
 use Rattle.lx_caps.specs.declared.Naming.{Naming}
 use Rattle.lx_caps.specs.NameLaws.{IsNumbered}
 use Rattle.lx_caps.specs.Names.{Namings, named, new_instance, instance_count}
-use Rattle.lx_caps.proofs.Tests.{some_is, counts_up}
+use Rattle.lx_caps.proofs.Tests.{counts_up}
 
 -- acts have come in front of the old ones
 pub record HasGrown (old new : Namings) : Type 0 where

@@ -1,6 +1,7 @@
 -- Functions run and ask as principals of their texts.
 use Rattle.std.proofs.Common.{◌≡◌, ◌↔◌, ℕ, true, Some, None, List, [], ◌∷◌, nat_eq, refl, sym, ap, subst, ◌∙◌}
 use Rattle.std.proofs.lemmas.Bool.{eqb-true, eq-eqb}
+use Rattle.lx_words.proofs.Options.{some_is}
 use Rattle.lx_caps.specs.declared.Principal.{Principal}
 use Rattle.lx_caps.specs.declared.Principal.TheVariants.{Kernel, Shared, Global, Inst}
 use Rattle.lx_caps.specs.History.{is_of}
@@ -17,7 +18,6 @@ use Rattle.lx_run_laws.specs.Texts.{AllRunAsTexts, AsksByText, IsAskedByText, Is
 use Rattle.lx_run_laws.proofs.ReachedEntering.{IsKnown}
 use Rattle.lx_run_laws.proofs.Frames.{IsAskedFrom, all_run, next_fits}
 use Rattle.lx_run_laws.proofs.ReachedFrames.{Reached}
-use Rattle.lx_caps.proofs.Tests.{some_is}
 
 -- whose text a principal runs, and which principal it is
 

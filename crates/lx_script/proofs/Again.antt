@@ -1,9 +1,9 @@
 -- What is in the grammar is read.
 use Rattle.std.proofs.Common.{◌≡◌, ℕ, ◌+◌, ◌<◌, ◌≤◌, List, [], ◌∷◌, ◌++◌, length, Bool, true, false, None, Result, Ok, Err, ◌⊎◌, inl, inr, refl, sym, ap, ◌∙◌, arith}
 use Rattle.std.specs.Prelude.{codes, bytes_eq, position, is_some, not, nat_lt, nat_le, ◌==◌}
-use Rattle.std.proofs.lemmas.Bool.{cond-false, ltb-true, eqb-true, false_from_ne_true}
+use Rattle.std.proofs.lemmas.Bool.{cond-false, eqb-true, false_from_ne_true}
 use Rattle.std.proofs.lemmas.Slice.Eq.{bytes_eq-Decides}
-use Rattle.lx_words.proofs.Tests.{not_at_most}
+use Rattle.lx_words.proofs.Tests.{not_at_most, not_below}
 use Rattle.lx_script.specs.declared.case.Origin.{Origin}
 use Rattle.lx_script.specs.declared.case.Origin.TheVariants as origins
 use Rattle.lx_script.specs.declared.case.CaseArg.{CaseArg}
@@ -40,10 +40,6 @@ unfolding origin_at place_at fixed_at last_at file_at word_at end_at
 interface_in row origins.None = refl
 interface_in row origins.Builtin = refl
 interface_in row (origins.File name) = refl
-
--- tests that are passed
-not_below : (m n : ℕ) → n ≤ m → nat_lt m n ≡ false
-not_below m n h = false_from_ne_true (nat_lt m n) (λ t. omega (arith, ltb-true m n t))
 
 not_zero : (n : ℕ) → 0 < n → (n == 0) ≡ false
 not_zero n h = false_from_ne_true (n == 0) (λ t. omega (arith, eqb-true n 0 t))

@@ -1,5 +1,5 @@
 -- What is tried is what is served.
-use Rattle.std.proofs.Common.{◌≡◌, ◌∙◌, refl, sym, ap, subst, ℕ, Option, Some, None, Err, [], ◌∷◌, ◌++◌, map}
+use Rattle.std.proofs.Common.{◌≡◌, ◌∙◌, sym, ap, subst, ℕ, Option, Err, [], ◌∷◌, ◌++◌, map}
 use Rattle.lx_caps.specs.History.{History}
 use Rattle.lx_model.specs.declared.program.Program.{Program}
 use Rattle.lx_model.specs.declared.request.Outcome.{Outcome}
@@ -14,8 +14,8 @@ use Rattle.lx_serve.specs.declared.halt.Halt.{Halt}
 use Rattle.lx_serve.specs.declared.halt.Halt.TheVariants as halt
 use Rattle.lx_serve.specs.declared.monitor.Monitor.{Monitor}
 use Rattle.lx_serve.specs.declared.shared.SharedPart.{SharedPart}
-use Rattle.lx_model.proofs.Journals.{granted_journal}
 use Rattle.lx_model.proofs.Threads.{threads_push}
+use Rattle.lx_model.proofs.ServedJournal.{served_journal}
 
 -- a request that comes to an outcome ends its call
 pub stopped : {C : Type 0} (stands : C → History → Type 0) (p : Program) (before after : Monitor C) (s : State) (t : ℕ) (r : Request) (o : Outcome) (answer : Reply) (e : Halt) → e ≡ halt.Ended o
@@ -24,10 +24,6 @@ pub stopped : {C : Type 0} (stands : C → History → Type 0) (p : Program) (be
 stopped stands p before after s t r o answer e is tries ends told =
     let tried = subst (λ (h : Halt). Tries stands p before s t r.who r.what (Err h)) is tries in
     subst (λ (d : Option Outcome). Gives stands p after answer (serve_by d p s t r)) (sym tried.0) (record { reply = told; state = ends tried.1 })
-
-pub served_journal : (p : Program) (s : State) (t : ℕ) (r : Request) (d : Option Outcome) → (serve_by d p s t r).state.journal ≡ s.journal
-served_journal p s t r (Some o) = refl
-served_journal p s t r None = granted_journal p s t r.who r.what
 
 -- the journal has its entry
 pub entered : {C : Type 0} (stands : C → History → Type 0) (p : Program) (s : State) (t : ℕ) (r : Request) (old new : SharedPart C) (answer : Reply)

@@ -18,7 +18,7 @@ use Rattle.lx_propagate.specs.Slots.{annotated_of}
 use Rattle.lx_image_texts.specs.Marks.{is_wrapped}
 use Rattle.lx_image_texts.specs.Guards.{BlockText, block_text, FunctionText, function_text, Guards}
 use Rattle.lx_image_texts.specs.WrapperText.{Side, In, Out, wrapper_prefix, wrapper_code, wrapper_of, import_annotation, slot_annotation, out_if, out_wrappers, in_wrapper, in_wrappers, wrappers_of}
-use Rattle.lx_image_texts.proofs.Calling.{same_at}
+use Rattle.lx_image_texts.proofs.Calling.{same_at, all_at}
 use Rattle.lx_image_texts.proofs.Sound.{unlined_ops}
 use Rattle.lx_image_texts.proofs.WrapperValues.{many_params}
 use Rattle.lx_model.specs.declared.program.Program.{Program}
@@ -27,7 +27,7 @@ use Rattle.lx_images.specs.Wrappers.{lines_of}
 use Rattle.lx_images.specs.WrapperForm.{is_one_block, is_wrapper, wraps_named, has_name, first_named, is_formed_by, is_formed_as, is_formed, has_formed_wrappers, have_formed_wrappers, unformed_in, first_unformed}
 use Rattle.lx_simulation.specs.Images.{AreImages}
 use Rattle.lx_simulation.proofs.Formed.{wrapper_formed}
-use Rattle.lx_simulation.proofs.Wrapping.{is_not, all_at, each_joined, positioned, front_or_behind, text_lines, lines_of_text, Each, each_at, front_names, front, From, next_from, first_from, from_start, name_got}
+use Rattle.lx_simulation.proofs.Wrapping.{is_not, each_joined, positioned, front_or_behind, text_lines, lines_of_text, Each, each_at, front_names, front, From, next_from, first_from, from_start, name_got}
 
 -- it is one block, by its text
 abbrev one_text : Option (List BlockText) → Bool

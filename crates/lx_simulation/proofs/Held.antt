@@ -216,7 +216,7 @@ store_reads g k j line ty stored r = in_second (the_read k j r line) (read_here 
 
 -- so it is assigned
 
-assigned_cases : (m : Module) (g : Function) → Sound m g → (walk : List ℕ) (k j r line : ℕ) (b : Bool) → is_assigned g walk k j r ≡ b → length g.params ≤ r → Walk g walk k → IsIn (the_read k j r line) (reads_of g) → b ≡ true
+pub assigned_cases : (m : Module) (g : Function) → Sound m g → (walk : List ℕ) (k j r line : ℕ) (b : Bool) → is_assigned g walk k j r ≡ b → length g.params ≤ r → Walk g walk k → IsIn (the_read k j r line) (reads_of g) → b ≡ true
 assigned_cases m g s walk k j r line true e above comes at = refl
 assigned_cases m g s walk k j r line false e above comes at =
     let none = or_parts (walk_assigns g walk r) (assigns (take j (instrs_at g k)) r) e in

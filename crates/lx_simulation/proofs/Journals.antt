@@ -36,7 +36,7 @@ use Rattle.lx_model.specs.Enter.{text_of_principal, Running, runs_by, runs_in, r
 use Rattle.lx_model.specs.Decide.{decide, decide_write, decide_what, decide_native, decide_alias, outcome_of, result_or_none, action_result, arg, unless_mapped}
 use Rattle.lx_model.specs.Serve.{Served, serving, serve, serve_by, with_entry, grant_what, entering, entering_as, after_native, after_try_lock, after_alloc, with_block, after_alias, with_history, history_or}
 use Rattle.lx_simulation.proofs.CountedStands.{seen, SameState}
-use Rattle.lx_model.proofs.Journals.{granted_journal}
+use Rattle.lx_model.proofs.ServedJournal.{served_journal}
 
 -- with another journal
 abbrev pub rejournaled : List Entry → State → State
@@ -187,10 +187,6 @@ serve_by-again p s j t r =
 
 -- nothing but the last entry changes the journal
 
-pub by-kept : (p : Program) (s : State) (t : ℕ) (r : Request) (o : Option Outcome) → (serve_by o p s t r).state.journal ≡ s.journal
-by-kept p s t r None = granted_journal p s t r.who r.what
-by-kept p s t r (Some o) = refl
-
 -- what is served from states that differ in their journals alone
 
 abbrev SameServed : Served → Served → Type 0
@@ -223,7 +219,7 @@ serving_of p s t r = serve_by (decide p s t r) p s t r
 -- with the journal of the other state, what is served is the same
 again-same : (p : Program) (s : State) (j : List Entry) (t : ℕ) (r : Request) → map seen j ≡ map seen s.journal → SameServed (serving_of p s t r) (served_again j (serving_of p s t r))
 again-same p s j t r e = (
-  record { memory = refl; blocks = refl; names = refl; history = refl; notes = refl; journal = e ∙ ap (map seen) (sym (by-kept p s t r (decide p s t r))) },
+  record { memory = refl; blocks = refl; names = refl; history = refl; notes = refl; journal = e ∙ ap (map seen) (sym (served_journal p s t r (decide p s t r))) },
   refl,
 )
 

@@ -33,12 +33,12 @@ use Rattle.lx_model.specs.Next.{request, has_action}
 use Rattle.lx_model.specs.State.{State}
 use Rattle.lx_model.specs.Decide.{decide}
 use Rattle.lx_model.specs.Serve.{serve_by, serve}
+use Rattle.lx_model.proofs.ServedJournal.{served_journal}
 use Rattle.lx_images.specs.Image.{Code, Marks, no_marks, top, tail, below_top, ImageFrame, Runs, Wraps, ImageThread, ImageStep, ImageAsking, Goes, Asks, wrapped_import, wrapper_args, comes_to, if_paid, if_room, has_room, effect_step, first_line, costly_step, one_step, instruction_step, after_leaving, with_shadow, action_line, leaving_line, wrapper_line, start_step, frame_step, due_or, image_step, image_next_within, image_next, on_running, at_lines, entered_frames, fits_site, after_entry, behind_line, after_ret, after_reply, image_absorb}
 use Rattle.lx_images.specs.ImageWorld.{ImageWorld, image_after_request, image_event_if, image_event_of, image_event, image_run, image_opening, fresh_image_thread}
 use Rattle.lx_images.specs.Wrappers.{called_lines, in_lines}
 use Rattle.lx_images.specs.Places.{IsIn}
 use Rattle.lx_simulation.specs.Crossing.{is_action, lacks, LacksLine, NotFor}
-use Rattle.lx_simulation.proofs.Journals.{by-kept}
 use Rattle.lx_simulation.proofs.Table.{in_either}
 use Rattle.lx_simulation.proofs.Wrapping.{is_not}
 
@@ -333,7 +333,7 @@ entry_not : (n : ℕ) (post : Bool) (k : ℕ) (p : Program) (s : State) (t : ℕ
     (e : Entry) → IsIn e (serve p s t r).state.journal → NotFor n post k e.request.what
 entry_not n post k p s t r old new e i =
     elim (in_either e (serve_by (decide p s t r) p s t r).state.journal (record { thread = t; request = r; reply = (serve_by (decide p s t r) p s t r).reply } ∷ []) i) [
-      | inl a ↦ old e (subst (λ (es : List Entry). IsIn e es) (by-kept p s t r (decide p s t r)) a)
+      | inl a ↦ old e (subst (λ (es : List Entry). IsIn e es) (served_journal p s t r (decide p s t r)) a)
       | inr b ↦ elim b [ inl same ↦ subst (λ (x : Entry). NotFor n post k x.request.what) same new | inr none ↦ absurd none ]
     ]
 

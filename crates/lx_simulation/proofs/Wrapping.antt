@@ -7,7 +7,7 @@ use Rattle.std.proofs.lemmas.Option.{slice_get-map}
 use Rattle.std.proofs.lemmas.Bool.{not-true, or_parts, and_from}
 use Rattle.lx_words.proofs.Tests.{true_false, first_of, second_of}
 use Rattle.lx_words.proofs.Options.{none_some, some_same}
-use Rattle.lx_words.proofs.Lists.{bytes_itself, same_bytes, there_is, found_is, split_at}
+use Rattle.lx_words.proofs.Lists.{bytes_itself, same_bytes, there_is, found_is, split_at, eq_turned}
 use Rattle.lx_ir.specs.declared.module.Block.{Block}
 use Rattle.lx_ir.specs.declared.module.Function.{Function}
 use Rattle.lx_ir.specs.declared.module.GlobalVar.{GlobalVar}
@@ -18,6 +18,7 @@ use Rattle.lx_ir.specs.declared.instr.Op.{Op}
 use Rattle.lx_ir.specs.declared.instr.Op.TheVariants as op
 use Rattle.lx_ir.specs.Lookup.{is_defined, blocks_of_option}
 use Rattle.lx_ir.specs.Lawful.{IsPlain, is_own_name, is_distinct}
+use Rattle.lx_ir.proofs.DistinctNames.{distinct_behind}
 use Rattle.lx_annot.specs.declared.action.Annotation.{Annotation}
 use Rattle.lx_annot.specs.declared.interface.Interface.{Interface}
 use Rattle.lx_slot_types.specs.declared.Marked.{Marked}
@@ -27,6 +28,7 @@ use Rattle.lx_image_texts.specs.Marks.{is_wrapped}
 use Rattle.lx_image_texts.specs.Guards.{BlockText, block_text, FunctionText, function_text, AreGuarded, Guards}
 use Rattle.lx_image_texts.specs.WrapperText.{In, wrapper_args, result_register, returned, wrapper_code, wrapper_of, import_annotation, slot_annotation, out_if, out_wrappers, in_wrapper, in_wrappers, wrappers_of}
 use Rattle.lx_image_texts.proofs.Sound.{unlined_ops}
+use Rattle.lx_image_texts.proofs.Calling.{all_at}
 use Rattle.lx_model.specs.declared.program.Program.{Program}
 use Rattle.lx_model.specs.declared.program.ProgramFunction.{ProgramFunction}
 use Rattle.lx_model.specs.declared.program.ProgramFunction.TheVariants.{Of, Native}
@@ -176,11 +178,6 @@ wrappers_named i y = each_joined (Named i) (out_wrappers i 0 y.functions) (in_wr
 all_second : (xs ys : List (List ℕ)) (p : List ℕ → Bool) → list_all p (xs ++ ys) ≡ true → list_all p ys ≡ true
 all_second [] ys p a = a
 all_second (x ∷ xs) ys p a = all_second xs ys p (second_of (p x) (list_all p (xs ++ ys)) a)
-
-pub all_at : (p : List ℕ → Bool) (ns : List (List ℕ)) (k : ℕ) (n : List ℕ) → list_all p ns ≡ true → slice_get ns k ≡ Some n → p n ≡ true
-all_at p [] k n a e = none_some e
-all_at p (x ∷ ns) zero n a e = ap p (sym (some_same e)) ∙ first_of (p x) (list_all p ns) a
-all_at p (x ∷ ns) (suc k) n a e = all_at p ns k n (second_of (p x) (list_all p ns) a) e
 
 own_names : (m : Module) → IsPlain m → list_all (λ n. not (is_own_name n)) (names_of m.functions) ≡ true
 own_names m p = all_second (map (λ (g : GlobalVar). g.name) m.globals) (names_of m.functions) (λ n. not (is_own_name n)) p.names
@@ -370,16 +367,12 @@ next_from m n f fs h j = let e : n + suc j ≡ suc n + j = omega arith in h (suc
 pub first_from : (m : Module) (n : ℕ) (f : Function) (fs : List Function) → From m n (f ∷ fs) → slice_get m.functions n ≡ Some f
 first_from m n f fs h = let e : n ≡ n + 0 = omega arith in ap (slice_get m.functions) e ∙ sym (h 0)
 
-turned : (a b : List ℕ) (d : Bool) → bytes_eq b a ≡ d → bytes_eq a b ≡ false → d ≡ false
-turned a b true e h = true_false (sym (ap (bytes_eq a) (same_bytes b a e) ∙ bytes_itself a) ∙ h)
-turned a b false e h = refl
-
 none_later : (i : Interface) (m : Module) (name : List ℕ) (n : ℕ) (fs : List Function) → From m n fs → list_any (bytes_eq name) (names_of fs) ≡ false → find (is_in name) (filter_map (in_wrapper i m) (annotated_from i m n fs)) ≡ None
 none_later i m name n [] h a = refl
 none_later i m name n (f ∷ fs) h a =
     let apart = or_parts (bytes_eq name f.name) (list_any (bytes_eq name) (names_of fs)) a in
     ap (find (is_in name)) (marks_wrap i m n f (is_defined f) (slot_of i m n) (annotated_from i m (suc n) fs) (first_from m n f fs h))
-    ∙ (other_over i n f name (slot_if (is_defined f) (slot_of i m n)) (filter_map (in_wrapper i m) (annotated_from i m (suc n) fs)) (turned name f.name (bytes_eq f.name name) refl apart.0)
+    ∙ (other_over i n f name (slot_if (is_defined f) (slot_of i m n)) (filter_map (in_wrapper i m) (annotated_from i m (suc n) fs)) (eq_turned name f.name (bytes_eq f.name name) refl apart.0)
     ∙ none_later i m name (suc n) fs (next_from m n f fs h) apart.1)
 
 here_found : (i : Interface) (n : ℕ) (f : Function) (s : Option ℕ) (ws : List Function) → find (is_in f.name) ws ≡ None → find (is_in f.name) (cons_option (wrapper_if i n f s) ws) ≡ wrapper_if i n f s
@@ -415,10 +408,6 @@ in_found i m n (f ∷ fs) (suc k) num g en h d e =
 pub from_start : (m : Module) → From m 0 m.functions
 from_start m j = let e : j ≡ 0 + j = omega arith in ap (slice_get m.functions) e
 
-distinct_second : (xs ys : List (List ℕ)) → is_distinct (xs ++ ys) ≡ true → is_distinct ys ≡ true
-distinct_second [] ys d = d
-distinct_second (x ∷ xs) ys d = distinct_second xs ys (second_of (not (list_any (bytes_eq x) (xs ++ ys))) (is_distinct (xs ++ ys)) d)
-
 -- among the functions of an image
 image_found : (i : Interface) (m x : Module) → Guards i m x → is_distinct (names_of m.functions) ≡ true → (k : ℕ) (g : Function) → slice_get m.functions k ≡ Some g → is_defined g ≡ true →
     lines_or_plain (in_named g.name x.functions) ≡ text_or_plain (option_map function_text (wrapper_if i k g (slot_of i m k)))
@@ -451,7 +440,7 @@ module_lines : (c : Code) → HasImages c → (n m k : ℕ) (g : Function) → s
 module_lines c h n m k g en eg =
     let im = h.images m (h.linked.table n m k en).0 in
     let text = module_of c.program (Some m) in
-    let d : is_distinct (names_of text.functions) ≡ true = distinct_second (map (λ (x : GlobalVar). x.name) text.globals) (names_of text.functions) (h.linked.verified (Some m)).lawful.symbols_once in
+    let d : is_distinct (names_of text.functions) ≡ true = distinct_behind (map (λ (x : GlobalVar). x.name) text.globals) (names_of text.functions) (h.linked.verified (Some m)).lawful.symbols_once in
     let right = slot_lines c c.program.interface k g (slot_of c.program.interface text k) in
     (right.0, ap (λ (x : Option Module). lines_or_plain (option_and_then (λ (y : Module). in_named g.name y.functions) x)) im.1 ∙ (image_found c.program.interface text im.0 im.2 d k g eg (h.linked.defined n m k g en eg) ∙ right.1))
 

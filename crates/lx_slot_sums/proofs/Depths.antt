@@ -1,45 +1,17 @@
 -- A type has the same fields through any number of names that is enough, and what the limits say of its parts.
-use Rattle.std.proofs.Common.{◌≡◌, ◌∙◌, refl, sym, ap, subst, ℕ, zero, suc, ◌+◌, ◌-◌, ◌<◌, ◌≤◌, Bool, true, false, ◌&&◌, Option, Some, None, List, [], ◌∷◌, ◌++◌, IsTrue, nat_le, arith, option_map, slice_get}
+use Rattle.std.proofs.Common.{◌≡◌, ◌∙◌, refl, sym, ap, subst, ℕ, zero, suc, ◌+◌, ◌-◌, ◌<◌, ◌≤◌, Bool, true, false, ◌&&◌, Option, Some, None, List, [], ◌∷◌, ◌++◌, IsTrue, arith, option_map, slice_get}
 use Rattle.std.specs.List.{list_all}
-use Rattle.std.proofs.lemmas.Bool.{and_parts, and_from}
-use Rattle.lx_words.specs.declared.word.Width.TheVariants.{W1, W8, W16, W32, W64}
-use Rattle.lx_ir.specs.declared.types.Scalar.{Scalar}
-use Rattle.lx_ir.specs.declared.types.Scalar.TheVariants.{Int, Ptr}
+use Rattle.std.proofs.lemmas.Bool.{and_parts}
 use Rattle.lx_ir.specs.declared.types.NamedType.{NamedType}
 use Rattle.lx_ir.specs.IrType.{IrType, One, Array, Struct, Packed, Named, IrTypes, none, also}
-use Rattle.lx_ir.specs.Layout.{Layout, layout, beside, layout_of, size_of, unnamed, entry_or, list_of_types, fields_of, parts_of, names_struct, is_type_within, is_lawful_type}
+use Rattle.lx_ir.specs.Layout.{Layout, layout, beside, layout_of, size_of, unnamed, entry_or, list_of_types, fields_of, parts_of, is_type_within, is_lawful_type}
 use Rattle.lx_ir.specs.TypeNodes.{types_of_list}
 use Rattle.lx_ir.proofs.Layouts.{within, array_within, fields_within, group, name_layout}
+use Rattle.lx_ir.proofs.TypesWithin.{within_more}
 use Rattle.lx_slot_types.specs.Sites.{FieldName, names_of, start_of, field_here, fields_at, array_fields_at, struct_fields_at, entry_fields, fields_of_entry, named_fields_at}
 use Rattle.lx_slot_sums.specs.Within.{AreFields, IsEntry}
 
 -- more room
-
-pub all_more : (f g : IrType → Bool) → ((t : IrType) → f t ≡ true → g t ≡ true) → (ts : List IrType) → list_all f ts ≡ true → list_all g ts ≡ true
-all_more f g h [] k = refl
-all_more f g h (t ∷ ts) k =
-    let a = and_parts (f t) (list_all f ts) k in
-    and_from (g t) (list_all g ts) (h t a.0) (all_more f g h ts a.1)
-
-scalar_within : (types : List NamedType) (s : Scalar) → is_type_within types 1 (One s) ≡ true
-scalar_within types (Int W1) = refl
-scalar_within types (Int W8) = refl
-scalar_within types (Int W16) = refl
-scalar_within types (Int W32) = refl
-scalar_within types (Int W64) = refl
-scalar_within types Ptr = refl
-
--- a type that nests less deep is within more room
-within_more : (types : List NamedType) (n : ℕ) (t : IrType) → is_type_within types n t ≡ true → is_type_within types (suc n) t ≡ true
-within_more types zero (One s) h = scalar_within types s
-within_more types zero (Array n t) h = absurd (cc)
-within_more types zero (Struct ts) h = absurd (cc)
-within_more types zero (Packed ts) h = absurd (cc)
-within_more types zero (Named k) h = absurd (cc)
-within_more types (suc n) t h =
-    let a = and_parts (names_struct types t && nat_le (size_of types t) 4294967296) (list_all (is_type_within types n) (parts_of types t)) h in
-    and_from (names_struct types t && nat_le (size_of types t) 4294967296) (list_all (is_type_within types (suc n)) (parts_of types t)) a.0
-    (all_more (is_type_within types n) (is_type_within types (suc n)) (λ u k. within_more types n u k) (parts_of types t) a.1)
 
 within_far : (types : List NamedType) (d n : ℕ) (t : IrType) → is_type_within types n t ≡ true → is_type_within types (d + n) t ≡ true
 within_far types zero n t h = let e : n ≡ 0 + n = omega arith in subst (λ k. is_type_within types k t ≡ true) e h

@@ -7,7 +7,7 @@ use Rattle.std.proofs.lemmas.List.Folds.{find-append}
 use Rattle.std.proofs.lemmas.Bool.Decides.{nat_tests}
 use Rattle.std.proofs.lemmas.Slice.Eq.{bytes_eq-Decides}
 use Rattle.lx_words.proofs.Lists.{bytes_itself}
-use Rattle.lx_words.proofs.Tests.{true_eq}
+use Rattle.lx_words.proofs.Tests.{true_eq, or_and}
 use Rattle.lx_annot.specs.declared.interface.Interface.{Interface}
 use Rattle.lx_ir.specs.declared.module.Module.{Module}
 use Rattle.lx_slot_types.specs.Sites.{FieldName}
@@ -86,19 +86,6 @@ lesser_none : (x : Option ℕ) → lesser x None ≡ x
 lesser_none None = refl
 lesser_none (Some a) = refl
 
-distribute : (a b c : Bool) → ((a || b) && c) ≡ ((a && c) || (b && c))
-distribute true true c = by c
-  where
-    by : (d : Bool) → d ≡ (d || d)
-    by true = refl
-    by false = refl
-distribute true false c = by c
-  where
-    by : (d : Bool) → d ≡ (d || false)
-    by true = refl
-    by false = refl
-distribute false b c = refl
-
 module _ (i : Interface) where
   -- slot types of the same text differ from the same ones
 
@@ -113,7 +100,7 @@ module _ (i : Interface) where
 
   other_either : (p q : ℕ → Bool) (s : ℕ) → other_by i (λ t. p t || q t) s ≡ lesser (other_by i p s) (other_by i q s)
   other_either p q s =
-      ap (λ r. find r (below (length i.slots))) (λ j t. distribute (p t) (q t) (differ i s t) j)
+      ap (λ r. find r (below (length i.slots))) (λ j t. or_and (p t) (q t) (differ i s t) j)
       ∙ find_either (λ t. p t && differ i s t) (λ t. q t && differ i s t) (length i.slots)
 
   -- the first that differs from f is what the list adds

@@ -1,7 +1,7 @@
 -- A field is put behind the others of a struct: where fields begin then.
 use Rattle.std.proofs.Common.{◌≡◌, ◌∙◌, refl, sym, ap, subst, ℕ, ◌+◌, ◌-◌, ◌/◌, ◌%◌, ◌<◌, ◌≤◌, Bool, true, false, ◌&&◌, Option, Some, None, List, [], ◌∷◌, ◌++◌, nat_eq, nat_le, nat_lt, arith, if◌then◌else◌, append-nil}
 use Rattle.std.proofs.lemmas.Bool.Decides.{nat_tests}
-use Rattle.lx_words.proofs.Tests.{and_false}
+use Rattle.lx_words.proofs.Tests.{and_false, and_true}
 use Rattle.lx_slot_types.specs.Sites.{FieldName, array_fields_at}
 use Rattle.lx_slot_types.specs.Texts.{differ}
 use Rattle.lx_slot_sums.specs.declared.rows.Edge.{Edge}
@@ -234,10 +234,6 @@ row_says t xs r es fields e h = subst (λ l. SaysRow t xs l fields) (sym e) (rec
 
 -- arrays
 
-and_more : (b : Bool) → b ≡ (b && true)
-and_more true = refl
-and_more false = refl
-
 module _ (t : Typing) (xs : List Spread) (es : List Edge) (within : ℕ → List FieldName) (count size : ℕ) (begin : SlotSum) where
   is_start : (o : ℕ) → 0 ≡ o → true ≡ nat_eq o 0
   is_start o e = grind (arith, nat_tests, e)
@@ -253,7 +249,7 @@ module _ (t : Typing) (xs : List Spread) (es : List Edge) (within : ℕ → List
         rising = rising_one (edge 0 begin None);
         right = λ o.
             row_last xs [] (edge 0 begin None) o (sum_in t (array_fields_at within count size o)) (λ l. absurd (omega (arith, l)))
-            (λ q. b ∙ ap (λ c. sum_in t (if c then within 0 else [])) (and_more (nat_lt 0 count) ∙ ap (λ d. nat_lt 0 count && d) (is_start o q)) ∙ ap (sum_in t) (sym (is o)))
+            (λ q. b ∙ ap (λ c. sum_in t (if c then within 0 else [])) (and_true (nat_lt 0 count) ∙ ap (λ d. nat_lt 0 count && d) (is_start o q)) ∙ ap (sum_in t) (sym (is o)))
             (λ l. none_has xs (o - 0) (sum_in t (array_fields_at within count size o)) (no_list t.interface t.text ∙ ap (sum_in t) (sym (is o ∙ ap (λ d. if nat_lt 0 count && d then within 0 else []) (not_start o l) ∙ ap (λ d. if d then within 0 else []) (and_false (nat_lt 0 count))))));
       })
 

@@ -1,9 +1,8 @@
 -- What a request leaves that is served: a history within the bound, and an entry by somebody who can call the function.
 use Rattle.std.proofs.Common.{◌≡◌, ℕ, zero, suc, Bool, true, false, Option, Some, None, Ok, Err, List, [], ◌∷◌, slice_get, refl, sym, ap, subst, ◌∙◌}
 use Rattle.std.specs.Prelude.{⊤, unwrap_or, if◌then◌else◌}
-use Rattle.std.specs.List.{list_any}
-use Rattle.std.proofs.lemmas.Bool.{or_left, or_right}
 use Rattle.lx_words.specs.Word.{Word}
+use Rattle.lx_words.proofs.Lists.{any_at}
 use Rattle.lx_caps.specs.declared.Principal.{Principal}
 use Rattle.lx_caps.specs.declared.Cap.TheVariants as cap
 use Rattle.lx_caps.specs.Heap.{alloc_address}
@@ -92,16 +91,9 @@ can_enter p s caller (Slot at ty) args n allowed is none all = no_module p calle
 
 -- what an action may give
 
-at_some : {X : Type 0} (test : X → Bool) (xs : List X) (k : ℕ) (x : X) → slice_get xs k ≡ Some x → test x ≡ true → list_any test xs ≡ true
-at_some test [] k x at is = absurd (cc)
-at_some test (y ∷ ys) zero x at is = or_left (test y) (list_any test ys) (ap test (same y x at) ∙ is) where
-  same : {X : Type 0} (y x : X) → Some y ≡ Some x → y ≡ x
-  same y x e = cc
-at_some test (y ∷ ys) (suc k) x at is = or_right (test y) (list_any test ys) (at_some test ys k x at is)
-
 before_may : (p : Program) (n k : ℕ) (source dest : Principal) (a : Action) → text_of_principal dest ≡ home_or_kernel p n → slice_get (actions_of p n false) k ≡ Some a → MayGive p source dest (gives p a)
 before_may p n k source dest a allowed at m x text names from =
-    into_own m n x (home_of_module p n m (sym allowed ∙ text)) (at_some (λ (b : Action). gives p b x) (actions_of p n false) k a at names)
+    into_own m n x (home_of_module p n m (sym allowed ∙ text)) (any_at (λ (b : Action). gives p b x) (actions_of p n false) k a at names)
 
 -- a function of no text has no annotation
 unannotated : (p : Program) (e : Option ProgramFunction) (g : Option TextFunction) → home_of_entry e ≡ None → annotation_of_entry p e g ≡ None
@@ -123,7 +115,7 @@ behind_by p n m x source (Some (Some k)) is some text can names from = from_othe
 
 behind_may : (p : Program) (n k : ℕ) (source dest : Principal) (a : Action) → IsAllowedAction p n true source dest → slice_get (actions_of p n true) k ≡ Some a → MayGive p source dest (gives p a)
 behind_may p n k source dest a allowed at m x text names from =
-    behind_by p n m x source (home_of p n) refl (λ none. nothing_behind p n k a none at) allowed.0 (allowed.1 m text) (at_some (λ (b : Action). gives p b x) (actions_of p n true) k a at names) from
+    behind_by p n m x source (home_of p n) refl (λ none. nothing_behind p n k a none at) allowed.0 (allowed.1 m text) (any_at (λ (b : Action). gives p b x) (actions_of p n true) k a at names) from
 
 action_may : (p : Program) (n k : ℕ) (post : Bool) (source dest : Principal) (a : Action) → IsAllowedAction p n post source dest → slice_get (actions_of p n post) k ≡ Some a → MayGive p source dest (gives p a)
 action_may p n k false source dest a allowed at = before_may p n k source dest a allowed at

@@ -1,20 +1,11 @@
 -- What a called name names in a text: a function of the same text, or a slot in the kernel's text alone.
-use Rattle.std.proofs.Common.{◌≡◌, ℕ, Bool, true, false, Option, Some, None, List, get_or, refl, ap, ◌∙◌}
+use Rattle.std.proofs.Common.{◌≡◌, ℕ, Bool, true, false, Option, Some, None, List, refl, ap, ◌∙◌}
 use Rattle.std.specs.Prelude.{⊤, cond, bytes_eq, codes, unwrap_or}
-use Rattle.std.proofs.lemmas.List.Quantifiers.{position-Some}
-use Rattle.std.proofs.lemmas.Option.{slice_get-get_or}
 use Rattle.lx_ir.specs.declared.module.Function.{Function}
 use Rattle.lx_ir.specs.Lookup.{is_defined}
 use Rattle.lx_model.specs.declared.program.Program.{Program}
-use Rattle.lx_model.specs.declared.program.ProgramFunction.TheVariants.{Native}
-use Rattle.lx_model.specs.Program.{Home, home_of, home_of_entry, home_or_kernel, is_home, is_entry, number_of, native_named, slot_named, kernel_function, Target, ToNative, ToSlot, ToImport, ToOwn, Nowhere, own, slot, native_or_slot, kernel_import, import, target_of, target}
-use Rattle.lx_model.proofs.Homes.{entry_in, home_is}
-
-numbered_in : (p : Program) (home : Home) (f n : ℕ) → number_of p home f ≡ Some n → home_or_kernel p n ≡ home
-numbered_in p home f n is =
-    let there = position-Some (is_entry home f) p.functions n (Native 0) is in
-    home_is p home n (ap (λ e. is_home home (home_of_entry e)) (slice_get-get_or p.functions n (Native 0) there.0)
-    ∙ entry_in home f (get_or p.functions n (Native 0)) there.1)
+use Rattle.lx_model.specs.Program.{Home, home_of, home_or_kernel, number_of, native_named, slot_named, kernel_function, Target, ToNative, ToSlot, ToImport, ToOwn, Nowhere, own, slot, native_or_slot, kernel_import, import, target_of, target}
+use Rattle.lx_model.proofs.NumberedHomes.{numbered_in}
 
 of_module : (o : Option Home) (m : ℕ) → unwrap_or o None ≡ Some m → o ≡ Some (Some m)
 of_module None m is = absurd (cc)

@@ -13,3 +13,7 @@ pub mod Tests
 pub mod Options
 pub mod Lists
 pub mod Widths
+pub mod CutCounts
+pub mod Digits
+pub mod LostEnds
+pub mod WholeLexemes

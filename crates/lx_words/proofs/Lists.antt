@@ -15,6 +15,7 @@ use Rattle.std.proofs.lemmas.Option.{same_Some, slice_get_past}
 use Rattle.std.proofs.lemmas.Slice.Eq.{bytes_eq-Decides}
 use Rattle.lx_words.proofs.Options.{none_or_some, none_some, none_within, some_same}
 use Rattle.lx_words.proofs.Tests.{and_false, any_step, same_tests}
+use Rattle.lx_words.proofs.Tests.{or_true}
 
 pub no_list : {A B : Type 0} {x : A} {xs : List A} → ◌≡◌ {A = List A} [] (x ∷ xs) → B
 no_list e = cc
@@ -107,7 +108,7 @@ place_is_here p xs k true e h = (some_same h, less (position_or_len p xs) (lengt
   less a b h = grind (arith, h)
 place_is_here p xs k false e h = none_some h
 
-placed : {A : Type 0} (p : A → Bool) (xs : List A) (k : ℕ) → position p xs ≡ Some k → (position_or_len p xs ≡ k) × (position_or_len p xs < length xs)
+pub placed : {A : Type 0} (p : A → Bool) (xs : List A) (k : ℕ) → position p xs ≡ Some k → (position_or_len p xs ≡ k) × (position_or_len p xs < length xs)
 placed p xs k e = place_is_here p xs k (nat_lt (position_or_len p xs) (length xs)) refl e
 
 pub find_placed : {A : Type 0} (p : A → Bool) (xs : List A) (k : ℕ) → position p xs ≡ Some k → find p xs ≡ slice_get xs k
@@ -314,3 +315,18 @@ some_left (y ∷ ys) (suc k) h = some_left ys k (omega arith)
 pub nothing_behind : {X : Type 0} (xs : List X) → xs ≡ xs ++ []
 nothing_behind [] = refl
 nothing_behind (x ∷ xs) = ap (λ l. x ∷ l) (nothing_behind xs)
+
+pub any_at : {A : Type 0} (p : A → Bool) (xs : List A) (k : ℕ) (x : A) → slice_get xs k ≡ Some x → p x ≡ true → list_any p xs ≡ true
+any_at p [] k x e t = none_some e
+any_at p (y ∷ xs) zero x e t = ap (λ (b : Bool). b || list_any p xs) (ap p (some_same e) ∙ t)
+any_at p (y ∷ xs) (suc k) x e t = ap (λ (b : Bool). p y || b) (any_at p xs k x e t) ∙ or_true (p y)
+
+pub joined_three : (o a b c x y : List ℕ) → x ≡ o ++ a → y ≡ x ++ b → y ++ c ≡ o ++ ((a ++ b) ++ c)
+joined_three o a b c x y p q = simp (q, p, append_assoc)
+
+pub joined_two : (o a b x y : List ℕ) → x ≡ o ++ a → y ≡ x ++ b → y ≡ o ++ (a ++ b)
+joined_two o a b x y p q = q ∙ (ap (λ t. t ++ b) p ∙ append_assoc o a b)
+
+pub all_from : (p q : ℕ → Bool) → ((b : ℕ) → p b ≡ true → q b ≡ true) → (bs : List ℕ) → list_all p bs ≡ true → list_all q bs ≡ true
+all_from p q f [] h = refl
+all_from p q f (b ∷ bs) h = let s = and_parts (p b) (list_all p bs) h in and_from (q b) (list_all q bs) (f b s.0) (all_from p q f bs s.1)

@@ -69,3 +69,6 @@ by_test false n k e = absurd (cc)
 pub failed : (b : Bool) (n : ℕ) → cond b (Some n) None ≡ None → b ≡ false
 failed true n e = absurd (cc)
 failed false n e = refl
+
+pub some_is : (m n : ℕ) → Some m ≡ Some n → m ≡ n
+some_is m n is = cc

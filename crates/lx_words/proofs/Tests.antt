@@ -4,6 +4,8 @@ use Rattle.std.specs.Int.{next_multiple_of}
 use Rattle.std.specs.Prelude.{if◌then◌else◌}
 use Rattle.std.proofs.lemmas.Bool.{cases_lt, true≢false}
 use Rattle.std.proofs.lemmas.Bool.Decides.{nat_tests}
+use Rattle.std.proofs.Common.{◌≢◌}
+use Rattle.std.proofs.lemmas.Bool.{or_right, or_left, ltb-true, false_from_ne_true}
 
 pub and_false : (b : Bool) → (b && false) ≡ false
 and_false true = refl
@@ -219,3 +221,54 @@ below_next j n less = elim (cases_lt j n) [
   | inl lower ↦ inl lower
   | inr most ↦ inr (omega (arith, less, most))
 ]
+
+pub or_and : (a b c : Bool) → ((a || b) && c) ≡ ((a && c) || (b && c))
+or_and true true true = refl
+or_and true true false = refl
+or_and true false true = refl
+or_and true false false = refl
+or_and false b c = refl
+
+pub either : (a b c d : Bool) → (a || b) ≡ true → (a ≡ true → c ≡ true) → (b ≡ true → d ≡ true) → (c || d) ≡ true
+either true b c d e f g = or_left c d (f refl)
+either false b c d e f g = or_right c d (g e)
+
+pub and_or : (a b c : Bool) → (a && (b || c)) ≡ ((a && b) || (a && c))
+and_or true b c = refl
+and_or false b c = refl
+
+pub and_true : (r : Bool) → r ≡ (r && true)
+and_true true = refl
+and_true false = refl
+
+pub or_swap : (a b c : Bool) → (a || (b || c)) ≡ (b || (a || c))
+or_swap true true c = refl
+or_swap true false c = refl
+or_swap false b c = refl
+
+pub eq_from_ne : (m n : ℕ) → m ≢ n → nat_eq m n ≡ false
+eq_from_ne m n ne = grind (arith, nat_tests, ne)
+
+pub none_left : (a b : Bool) → (a || b) ≡ false → a ≡ false
+none_left false b e = refl
+none_left true b e = e
+
+pub none_right : (a b : Bool) → (a || b) ≡ false → b ≡ false
+none_right false b e = e
+none_right true b e = absurd (cc)
+
+pub or_other : (a b : Bool) → (a || b) ≡ true → a ≡ false → b ≡ true
+or_other false b e f = e
+or_other true b e f = absurd (cc)
+
+pub test_lost : (v x y z u : Bool) → (x ≡ true → z ≡ false) → (y ≡ true → u ≡ false) → (if v then x else y) ≡ true → (if v then z else u) ≡ false
+test_lost true x y z u f g e = f e
+test_lost false x y z u f g e = g e
+
+pub not_below : (m n : ℕ) → n ≤ m → nat_lt m n ≡ false
+not_below m n h = false_from_ne_true (nat_lt m n) (λ t. omega (arith, ltb-true m n t))
+
+pub nobody_more : (p f w : Bool) → w ≡ false → p ≡ (p || (f && w))
+nobody_more true f w is = refl
+nobody_more false true w is = sym is
+nobody_more false false w is = refl

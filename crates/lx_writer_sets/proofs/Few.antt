@@ -1,11 +1,11 @@
 -- Things that differ, each of which passes and is among others, are no more than those that pass.
 use Rattle.std.proofs.Common.{◌≡◌, suc, ◌≤◌, Bool, true, false, ◌||◌, cond, List, [], ◌∷◌, length, refl, sym, ap, ◌∙◌, subst, arith}
 use Rattle.std.proofs.lemmas.Bool.{or_right, or_left, or_parts}
+use Rattle.lx_words.proofs.Tests.{or_other}
 use Rattle.lx_caps.specs.declared.Principal.{Principal}
 use Rattle.lx_caps.specs.History.{same_principal}
 use Rattle.lx_writer_sets.specs.Work.{is_among, and_one, count_of}
 use Rattle.lx_caps.proofs.Principals.{same_principal_itself, same_principal_is}
-use Rattle.lx_caps.proofs.Tests.{or_other}
 
 -- one more
 pub added : (q p : Principal) (others : List Principal) → is_among q others ≡ true → is_among q (and_one p others) ≡ true

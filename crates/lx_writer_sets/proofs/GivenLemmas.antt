@@ -3,14 +3,13 @@ use Rattle.std.proofs.Common.{◌≡◌, ◌∙◌, refl, sym, ap, ℕ, Bool, tr
 use Rattle.std.proofs.lemmas.Bool.Decides.{nat_tests}
 use Rattle.std.proofs.lemmas.List.Folds.{list_any-append}
 use Rattle.std.proofs.lemmas.Nat.Bits.{bit_at-zero}
-use Rattle.lx_words.proofs.Tests.{and_false, or_false}
+use Rattle.lx_words.proofs.Tests.{and_false, or_false, or_swap}
 use Rattle.lx_caps.specs.declared.Principal.{Principal}
 use Rattle.lx_caps.specs.History.{same_principal}
 use Rattle.lx_writer_sets.specs.declared.entry.Entry.{Entry}
 use Rattle.lx_writer_sets.specs.Bits.{is_set}
 use Rattle.lx_writer_sets.specs.Nodes.{with_mask, put_node}
 use Rattle.lx_writer_sets.specs.Sets.{is_given}
-use Rattle.lx_caps.proofs.Tests.{or_swap}
 use Rattle.lx_caps.proofs.Principals.{same_principal_is}
 
 pub none_set : (k : ℕ) → is_set 0 k ≡ false

@@ -2,7 +2,7 @@
 use Rattle.std.proofs.Common.{◌≡◌, ◌≢◌, ℕ, ◌<◌, Bool, true, false, ◌&&◌, ◌||◌, nat_eq, cond, List, [], ◌∷◌, ◌++◌, Option, Some, None, length, set, refl, sym, ap, ◌∙◌, subst, arith, eqb-true}
 use Rattle.std.proofs.lemmas.Bool.Decides.{nat_tests}
 use Rattle.std.proofs.lemmas.List.{get_or-set_same, get_or-set_other}
-use Rattle.lx_words.proofs.Tests.{nat_turned}
+use Rattle.lx_words.proofs.Tests.{nat_turned, none_left, none_right}
 use Rattle.lx_caps.specs.declared.Principal.{Principal}
 use Rattle.lx_caps.specs.declared.Principal.TheVariants.{Kernel, Shared, Global, Inst}
 use Rattle.lx_caps.specs.History.{same_principal}
@@ -14,7 +14,6 @@ use Rattle.lx_writer_sets.specs.Nodes.{has_writer, with_mask, AreNodes, AllNodes
 use Rattle.lx_writer_sets.specs.Sets.{touches, writes_in}
 use Rattle.lx_writer_sets.specs.Walks.{StandsAt}
 use Rattle.lx_caps.proofs.Principals.{same_principal_is}
-use Rattle.lx_caps.proofs.Tests.{none_left, none_right}
 
 same_ranks : (w q : Principal) → (nat_eq (module_rank w) (module_rank q) && nat_eq (rank_in_module w) (rank_in_module q)) ≡ same_principal q w
 same_ranks Kernel Kernel = refl

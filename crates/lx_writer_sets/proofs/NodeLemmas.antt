@@ -6,6 +6,7 @@ use Rattle.std.proofs.lemmas.Bool.{cases_lt, or_from, or_left as or_first}
 use Rattle.std.proofs.lemmas.Bool.Decides.{nat_tests}
 use Rattle.std.proofs.lemmas.List.{get_or-set_same, get_or-set_other}
 use Rattle.std.proofs.lemmas.Nat.Bits.{same_from_bits, bit_at_above, bit_at-lt, bit_at-zero}
+use Rattle.lx_words.proofs.Tests.{none_left, none_right}
 use Rattle.lx_caps.specs.declared.Principal.{Principal}
 use Rattle.lx_caps.specs.History.{same_principal}
 use Rattle.lx_cap_nodes.specs.Words.{nodes_at}
@@ -14,7 +15,7 @@ use Rattle.lx_writer_sets.specs.Bits.{is_set, is_marked}
 use Rattle.lx_writer_sets.specs.Nodes.{has_writer, with_mask, HasBit, AreNodes, AllNodes, has_nodes, AreMarked}
 use Rattle.lx_writer_sets.specs.Sets.{is_given}
 use Rattle.lx_writer_sets.proofs.GivenLemmas.{none_set}
-use Rattle.lx_caps.proofs.Tests.{and_yes, none_left, none_right}
+use Rattle.lx_caps.proofs.Tests.{and_yes}
 use Rattle.lx_writer_sets.proofs.SlotMasks.{bit_is_none}
 
 -- a bit among the lowest, or none there

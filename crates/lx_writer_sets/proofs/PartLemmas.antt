@@ -1,7 +1,7 @@
 -- The parts of memory and their lists.
 use Rattle.std.proofs.Common.{◌≡◌, ◌≢◌, ℕ, ◌+◌, ◌-◌, ◌*◌, ◌/◌, ◌%◌, ◌<◌, ◌≤◌, Bool, true, false, not, ◌&&◌, ◌||◌, nat_eq, nat_lt, nat_le, cond, List, [], Option, Some, None, refl, sym, ap, ◌∙◌, arith, eqb-true}
 use Rattle.std.proofs.lemmas.Bool.Decides.{nat_tests}
-use Rattle.lx_words.proofs.Tests.{either_second}
+use Rattle.lx_words.proofs.Tests.{either_second, and_true}
 use Rattle.lx_caps.specs.declared.Principal.{Principal}
 use Rattle.lx_caps.specs.History.{same_principal}
 use Rattle.lx_caps.specs.Regions.{covers, mapped}
@@ -10,7 +10,7 @@ use Rattle.lx_writer_sets.specs.declared.piece.Piece.{Piece}
 use Rattle.lx_writer_sets.specs.declared.entry.Entry.{Entry}
 use Rattle.lx_writer_sets.specs.Bits.{is_set}
 use Rattle.lx_writer_sets.specs.Sets.{lies_in, part_list, is_given, is_given_at, is_recorded}
-use Rattle.lx_caps.proofs.Tests.{and_true, not_given}
+use Rattle.lx_caps.proofs.Tests.{not_given}
 
 -- the part of a list
 abbrev part_of : ℕ → ℕ

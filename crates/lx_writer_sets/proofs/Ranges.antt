@@ -1,8 +1,9 @@
 -- The bytes of a range, part by part.
 use Rattle.std.proofs.Common.{◌≡◌, ◌∙◌, refl, sym, ap, ℕ, ◌+◌, ◌/◌, ◌<◌, Bool, true, false, not, ◌&&◌, ◌||◌, nat_eq, nat_lt, arith}
 use Rattle.std.proofs.lemmas.Bool.Decides.{nat_tests}
+use Rattle.lx_words.proofs.Tests.{and_or, and_true}
 use Rattle.lx_caps.specs.Regions.{covers}
-use Rattle.lx_caps.proofs.Tests.{and_or, and_true, or_note, both_zeroed, part_more}
+use Rattle.lx_caps.proofs.Tests.{or_note, both_zeroed, part_more}
 
 -- the byte lies in the range, in a part before this one
 abbrev pub covered : ℕ → ℕ → ℕ → ℕ → Bool

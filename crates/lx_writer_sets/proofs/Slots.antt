@@ -163,11 +163,6 @@ writer_in_first lists h slot stands q is = or_one (writes_part lists (slot / 64)
 pub writer_in_last : (lists : List (List (ℕ × Entry))) (h : History) (slot : ℕ) → Records lists h → (q : Principal) → writes_part lists ((slot + 7) / 64) slot q ≡ true → is_slot_writer h slot q ≡ true
 writer_in_last lists h slot stands q is = or_two (writes_part lists (slot / 64) slot q) (writes_part lists ((slot + 7) / 64) slot q) (is_slot_writer h slot q) (both_parts lists h slot stands q) is
 
-pub nobody_more : (p f w : Bool) → w ≡ false → p ≡ (p || (f && w))
-nobody_more true f w is = refl
-nobody_more false true w is = sym is
-nobody_more false false w is = refl
-
 pub same_nobody : (answer : Bool) (p s : Principal → Bool) → ((q : Principal) → p q ≡ s q) → IsNobody answer p → IsNobody answer s
 same_nobody true p s same is = λ q. sym (same q) ∙ is q
 same_nobody false p s same is = (is.0, sym (same is.0) ∙ is.1)

@@ -2,11 +2,10 @@
 use Rattle.std.proofs.Common.{◌≡◌, ℕ, true, false, ◌||◌, List, [], ◌∷◌, ◌++◌, Option, Some, None, refl, sym, ap, ◌∙◌, subst, append_assoc}
 use Rattle.std.specs.Prelude.{nat_eq}
 use Rattle.std.proofs.lemmas.Bool.{or_right}
-use Rattle.lx_words.proofs.Tests.{eq_self}
+use Rattle.lx_words.proofs.Tests.{eq_self, eq_from_ne}
 use Rattle.lx_cap_nodes.specs.Names.{has, first_of, Apart}
 use Rattle.lx_cap_nodes.specs.Words.{names}
 use Rattle.lx_writer_sets.specs.Walks.{from, HasCome}
-use Rattle.lx_caps.proofs.Tests.{eq_from_ne}
 
 module _ {T : Type 0} where
   has_split : (xs ys : List (ℕ × T)) (e : ℕ × T) → has e.0 (names (xs ++ e ∷ ys)) ≡ true

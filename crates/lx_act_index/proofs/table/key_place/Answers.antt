@@ -1,5 +1,5 @@
 use Rattle.std.proofs.Common.{sym, ◌∙◌, arith}
-use Rattle.lx_act_index.proofs.TableLemmas.{list_within}
+use Rattle.lx_cap_lists.proofs.PlacesWithin.{list_within}
 use Rattle.lx_act_index.proofs.table.key_place.Goals as goal
 
 pub overflow_add-result : goal.overflow_add-result

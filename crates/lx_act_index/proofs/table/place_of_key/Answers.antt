@@ -1,5 +1,5 @@
 use Rattle.std.proofs.Common.{◌∙◌, sym, ap, length, arith}
-use Rattle.lx_act_index.proofs.TableLemmas.{list_within}
+use Rattle.lx_cap_lists.proofs.PlacesWithin.{list_within}
 use Rattle.lx_act_index.proofs.table.place_of_key.Goals as goal
 
 pub overflow_add-result : goal.overflow_add-result

@@ -1,6 +1,7 @@
 use Rattle.std.proofs.Common.{◌∙◌, ◌++◌, ◌∷◌, [], ap, length, arith}
 use Rattle.std.proofs.lemmas.List.{length_push}
-use Rattle.lx_act_index.proofs.TableLemmas.{list_within, key_grown, with_fresh}
+use Rattle.lx_cap_lists.proofs.PlacesWithin.{list_within}
+use Rattle.lx_act_index.proofs.TableLemmas.{key_grown, with_fresh}
 use Rattle.lx_act_index.proofs.table.push_place.Goals as goal
 
 pub overflow_add-result : goal.overflow_add-result

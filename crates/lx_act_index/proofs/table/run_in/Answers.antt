@@ -1,5 +1,5 @@
 use Rattle.std.proofs.Common.{◌∙◌, sym, arith}
-use Rattle.lx_act_index.proofs.TableLemmas.{place_within}
+use Rattle.lx_cap_lists.proofs.PlacesWithin.{place_within}
 use Rattle.lx_act_index.proofs.table.run_in.Goals as goal
 
 pub line_in-requires : goal.line_in-requires

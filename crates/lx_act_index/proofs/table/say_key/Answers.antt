@@ -1,5 +1,6 @@
 use Rattle.std.proofs.Common.{arith}
-use Rattle.lx_act_index.proofs.TableLemmas.{behind_within, key_noted}
+use Rattle.lx_cap_lists.proofs.PlacesWithin.{behind_within}
+use Rattle.lx_act_index.proofs.TableLemmas.{key_noted}
 use Rattle.lx_act_index.proofs.table.say_key.Goals as goal
 
 pub say_at-requires : goal.say_at-requires

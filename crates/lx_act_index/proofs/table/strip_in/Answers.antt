@@ -1,8 +1,8 @@
 use Rattle.std.proofs.Common.{◌∙◌, sym, ap, arith}
 use Rattle.lx_cap_lists.specs.Tables.{bit_of}
+use Rattle.lx_cap_lists.proofs.PlacesWithin.{place_within}
 use Rattle.lx_act_index.specs.Lines.{line_strip}
 use Rattle.lx_act_index.specs.Table.{shown}
-use Rattle.lx_act_index.proofs.TableLemmas.{place_within}
 use Rattle.lx_act_index.proofs.table.strip_in.Goals as goal
 
 pub line_in-requires : goal.line_in-requires

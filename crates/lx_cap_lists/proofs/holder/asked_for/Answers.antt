@@ -1,5 +1,5 @@
 use Rattle.lx_caps.proofs.Principals.{same_principal_itself}
-use Rattle.lx_cap_lists.proofs.HasLemmas.{reaches_itself}
+use Rattle.lx_caps.proofs.OwnerLemmas.{reaches_itself}
 use Rattle.lx_cap_lists.proofs.holder.asked_for.Goals as goal
 
 pub returns-in-Owned : goal.returns-in-Owned

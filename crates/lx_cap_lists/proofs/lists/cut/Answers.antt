@@ -1,4 +1,5 @@
 use Rattle.std.proofs.Common.{◌≡◌, nat_eq, cond, true, false, ◌∷◌, ◌++◌, sym, ap, ◌∙◌}
+use Rattle.lx_words.proofs.Tests.{eq_from_ne}
 use Rattle.lx_cap_nodes.specs.declared.pool.Family.TheVariants as family
 use Rattle.lx_cap_nodes.specs.Pool.{Pool}
 use Rattle.lx_cap_nodes.specs.Words.{nodes_at}
@@ -6,7 +7,6 @@ use Rattle.lx_cap_lists.specs.declared.entry.Entry.{Entry}
 use Rattle.lx_cap_lists.specs.Entries.{with_mask, left_of}
 use Rattle.lx_cap_lists.proofs.KeptLemmas.{kept_without}
 use Rattle.lx_cap_lists.proofs.lists.cut.Goals as goal
-use Rattle.lx_caps.proofs.Tests.{eq_from_ne}
 
 pub value-requires : goal.value-requires
 value-requires c = (c.laws.ensures.at_node family.Place c.args.place c.requires.front c.args.n c.requires.v c.requires.behind c.requires.is).live

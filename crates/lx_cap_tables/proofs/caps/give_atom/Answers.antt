@@ -1,7 +1,8 @@
 use Rattle.std.proofs.Common.{◌≤◌, ◌+◌, length, sym, subst, arith}
-use Rattle.lx_cap_tables.proofs.AtomLemmas.{list_within, one_longer}
+use Rattle.lx_cap_tables.proofs.AtomLemmas.{one_longer}
 use Rattle.lx_cap_lists.specs.Kept.{IsMask}
 use Rattle.lx_cap_lists.proofs.NodeLemmas.{width_behind, one_mask}
+use Rattle.lx_cap_lists.proofs.PlacesWithin.{list_within}
 use Rattle.lx_cap_tables.proofs.caps.give_atom.Goals as goal
 
 pub overflow_add-i : goal.overflow_add-i

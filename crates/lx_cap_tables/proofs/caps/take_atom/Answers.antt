@@ -2,7 +2,7 @@ use Rattle.std.proofs.Common.{sym, ◌∙◌, subst, arith}
 use Rattle.lx_cap_nodes.specs.Words.{nodes_at}
 use Rattle.lx_cap_lists.specs.Kept.{AreNodes, width_of}
 use Rattle.lx_cap_lists.proofs.NodeLemmas.{nodes_at_one, nodes_cut}
-use Rattle.lx_cap_tables.proofs.AtomLemmas.{behind_within}
+use Rattle.lx_cap_lists.proofs.PlacesWithin.{behind_within}
 use Rattle.lx_cap_tables.proofs.caps.take_atom.Goals as goal
 
 pub take-requires : goal.take-requires

@@ -1,7 +1,7 @@
 use Rattle.std.proofs.Common.{◌≡◌, Some, sym, ◌∙◌, arith}
 use Rattle.lx_cap_lists.specs.Owned.{AllFit}
 use Rattle.lx_cap_lists.specs.Tables.{place_in}
-use Rattle.lx_cap_tables.proofs.AtomLemmas.{list_within}
+use Rattle.lx_cap_lists.proofs.PlacesWithin.{list_within}
 use Rattle.lx_cap_tables.proofs.gather.add_listed.Goals as goal
 
 pub add_list-requires : goal.add_list-requires

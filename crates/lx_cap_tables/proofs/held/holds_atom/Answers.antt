@@ -2,7 +2,8 @@ use Rattle.std.proofs.Common.{sym, ap, ◌∙◌, arith}
 use Rattle.lx_cap_lists.specs.Holders.{counts}
 use Rattle.lx_cap_lists.specs.Tables.{shown_at}
 use Rattle.lx_cap_nodes.specs.Words.{nodes_at}
-use Rattle.lx_cap_tables.proofs.AtomLemmas.{behind_within, first_bit}
+use Rattle.lx_cap_lists.proofs.PlacesWithin.{behind_within}
+use Rattle.lx_cap_tables.proofs.AtomLemmas.{first_bit}
 use Rattle.lx_cap_tables.proofs.held.holds_atom.Goals as goal
 
 pub has_bits-requires : goal.has_bits-requires

@@ -3,7 +3,7 @@ use Rattle.std.proofs.lemmas.Bool.{and_right}
 use Rattle.lx_caps.specs.Order.{is_behind, IsFirst}
 use Rattle.lx_cap_lists.specs.Owned.{AllFit, given_in}
 use Rattle.lx_cap_lists.specs.Tables.{place_in}
-use Rattle.lx_cap_tables.proofs.AtomLemmas.{list_within}
+use Rattle.lx_cap_lists.proofs.PlacesWithin.{list_within}
 use Rattle.lx_cap_tables.proofs.held.owned_by_list.Goals as goal
 
 pub first_owned-requires : goal.first_owned-requires

@@ -1,5 +1,5 @@
 use Rattle.std.proofs.Common.{sym, ◌∙◌, arith}
-use Rattle.lx_cap_tables.proofs.AtomLemmas.{place_within}
+use Rattle.lx_cap_lists.proofs.PlacesWithin.{place_within}
 use Rattle.lx_cap_tables.proofs.held.owner_behind.Goals as goal
 
 pub first_owner-requires-clause-place : goal.first_owner-requires-clause-place

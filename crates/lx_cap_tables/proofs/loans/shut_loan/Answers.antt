@@ -1,7 +1,7 @@
 use Rattle.std.proofs.Common.{◌≡◌, ◌<◌, ℕ, Some, None, IfSome, Option, length, sym, ap, ◌∙◌, arith}
 use Rattle.lx_cap_lists.specs.Kept.{StayBut}
 use Rattle.lx_cap_lists.specs.Tables.{count_in, loan_key, place_in, is_in_order}
-use Rattle.lx_cap_tables.proofs.AtomLemmas.{list_within}
+use Rattle.lx_cap_lists.proofs.PlacesWithin.{list_within}
 use Rattle.lx_cap_tables.proofs.EndLemmas.{ended, list_of_loan}
 use Rattle.lx_cap_tables.proofs.loans.shut_loan.Goals as goal
 

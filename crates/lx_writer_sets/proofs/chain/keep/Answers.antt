@@ -1,5 +1,6 @@
 use Rattle.std.proofs.Common.{◌≡◌, nat_eq, cond, true, false, ◌∷◌, ◌++◌, length, sym, ap, ◌∙◌, subst, arith}
 use Rattle.std.proofs.lemmas.List.{length-map}
+use Rattle.lx_words.proofs.Tests.{eq_from_ne}
 use Rattle.lx_cap_nodes.specs.declared.pool.Family.TheVariants.{Place}
 use Rattle.lx_cap_nodes.specs.Pool.{Pool}
 use Rattle.lx_cap_nodes.specs.Words.{nodes_at, with_value}
@@ -7,7 +8,6 @@ use Rattle.lx_writer_sets.specs.declared.entry.Entry.{Entry}
 use Rattle.lx_writer_sets.specs.Nodes.{with_mask, AreNodes}
 use Rattle.lx_writer_sets.proofs.NodeLemmas.{nodes_one, nodes_put, nodes_gone, some_bit}
 use Rattle.lx_writer_sets.proofs.chain.keep.Goals as goal
-use Rattle.lx_caps.proofs.Tests.{eq_from_ne}
 
 pub unlink-requires : goal.unlink-requires
 unlink-requires c = (c.laws.ensures.at_node Place c.args.list c.requires.front c.args.n c.requires.v c.requires.behind c.requires.is).live

@@ -1,4 +1,5 @@
 use Rattle.std.proofs.Common.{◌≡◌, nat_eq, cond, true, false, ◌∷◌, ◌++◌, sym, ap, ◌∙◌}
+use Rattle.lx_words.proofs.Tests.{eq_from_ne}
 use Rattle.lx_cap_nodes.specs.declared.pool.Family.TheVariants.{Place}
 use Rattle.lx_cap_nodes.specs.Words.{nodes_at}
 use Rattle.lx_writer_sets.specs.declared.entry.Entry.{Entry}
@@ -6,7 +7,6 @@ use Rattle.lx_writer_sets.specs.Index.{key_of}
 use Rattle.lx_writer_sets.specs.Nodes.{with_mask}
 use Rattle.lx_writer_sets.proofs.IndexLemmas.{indexed_gone, indexed_put}
 use Rattle.lx_writer_sets.proofs.chain.keep_indexed.Goals as goal
-use Rattle.lx_caps.proofs.Tests.{eq_from_ne}
 
 pub value-requires : goal.value-requires
 value-requires c = (c.laws.ensures.at_node Place c.args.list c.requires.front c.args.n c.requires.v c.requires.behind c.requires.is).live

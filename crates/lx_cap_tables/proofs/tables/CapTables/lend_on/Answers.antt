@@ -5,8 +5,9 @@ use Rattle.lx_cap_lists.specs.declared.holder.Holder.TheVariants.{Borrower}
 use Rattle.lx_cap_lists.specs.Holders.{had, open_count}
 use Rattle.lx_cap_lists.specs.Loans.{is_open, loans_of}
 use Rattle.lx_cap_lists.specs.Tables.{place_in, holder_key, is_in_order}
+use Rattle.lx_cap_lists.proofs.PlacesWithin.{list_within}
 use Rattle.lx_cap_tables.specs.Sound.{Tables, StandsFor}
-use Rattle.lx_cap_tables.proofs.AtomLemmas.{list_within, one_longer, still_found}
+use Rattle.lx_cap_tables.proofs.AtomLemmas.{one_longer, still_found}
 use Rattle.lx_cap_tables.proofs.SoundLemmas.{some_cells, order_respects, order_more, given_in_order}
 use Rattle.lx_cap_tables.proofs.tables.CapTables.lend_on.Goals as goal
 

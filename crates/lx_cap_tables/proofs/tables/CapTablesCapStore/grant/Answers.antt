@@ -2,8 +2,9 @@ use Rattle.std.proofs.Common.{◌≡◌, ◌≤◌, ◌+◌, ◌&&◌, ◌||◌,
 use Rattle.lx_caps.specs.History.{has}
 use Rattle.lx_cap_lists.specs.declared.holder.Holder.TheVariants.{Keeper}
 use Rattle.lx_cap_lists.specs.Tables.{place_in, holder_key, is_in_order}
+use Rattle.lx_cap_lists.proofs.PlacesWithin.{list_within}
 use Rattle.lx_cap_tables.specs.Sound.{StandsFor}
-use Rattle.lx_cap_tables.proofs.AtomLemmas.{list_within, one_longer, still_found}
+use Rattle.lx_cap_tables.proofs.AtomLemmas.{one_longer, still_found}
 use Rattle.lx_cap_tables.proofs.SoundLemmas.{some_cells, order_respects, order_more, given_in_order}
 use Rattle.lx_cap_tables.proofs.tables.CapTablesCapStore.grant.Goals as goal
 

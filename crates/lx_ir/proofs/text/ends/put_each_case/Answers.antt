@@ -1,7 +1,6 @@
 use Rattle.std.proofs.Common.{◌++◌, codes}
-use Rattle.lx_words.proofs.Lists.{next_text, all_texts}
+use Rattle.lx_words.proofs.Lists.{next_text, all_texts, joined_two}
 use Rattle.lx_ir.specs.Text.{case_text}
-use Rattle.lx_ir.proofs.Joined.{joined_two}
 use Rattle.lx_ir.proofs.text.ends.put_each_case.Goals as goal
 
 pub loop-case-preserved : goal.loop-case-preserved

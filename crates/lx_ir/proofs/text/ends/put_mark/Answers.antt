@@ -1,5 +1,5 @@
 use Rattle.std.proofs.lemmas.Result.{IfOk-equal}
-use Rattle.lx_ir.proofs.Joined.{joined_three}
+use Rattle.lx_words.proofs.Lists.{joined_three}
 use Rattle.lx_ir.proofs.text.ends.put_mark.Goals as goal
 
 pub returns : goal.returns

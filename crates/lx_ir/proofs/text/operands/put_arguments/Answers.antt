@@ -1,6 +1,6 @@
 use Rattle.std.proofs.lemmas.Result.{IfOk-equal}
+use Rattle.lx_words.proofs.Lists.{joined_three}
 use Rattle.lx_ir.specs.Text.{argument_text}
-use Rattle.lx_ir.proofs.Joined.{joined_three}
 use Rattle.lx_ir.proofs.TypeLists.{next_item, all_items}
 use Rattle.lx_ir.proofs.text.operands.put_arguments.Goals as goal
 

@@ -1,9 +1,10 @@
 use Rattle.std.proofs.Common.{Bool, ◌&&◌, ◌||◌, ap, subst}
+use Rattle.lx_words.proofs.Tests.{nobody_more}
 use Rattle.lx_caps.specs.Precedence.{IsFirstPrincipal}
 use Rattle.lx_cap_nodes.specs.Words.{nodes_at}
 use Rattle.lx_writer_sets.specs.Nodes.{Parts}
 use Rattle.lx_writer_sets.specs.Sets.{writes_in, writes_part}
-use Rattle.lx_writer_sets.proofs.Slots.{in_part, out_of_part, nobody_more}
+use Rattle.lx_writer_sets.proofs.Slots.{in_part, out_of_part}
 use Rattle.lx_writer_sets.proofs.parts.PartLists.first_writer.Goals as goal
 use Rattle.lx_caps.proofs.PrincipalOrder.{same_first}
 
