@@ -5,7 +5,7 @@ use Rattle.std.specs.List.{enumerate_from, list_any}
 use Rattle.std.proofs.lemmas.List.{take_more, take_all}
 use Rattle.std.proofs.lemmas.List.FromFn.{length-enumerate_from, get_or-enumerate_from}
 use Rattle.std.proofs.lemmas.List.Sums.{sum_by-append}
-use Rattle.lx_words.proofs.Lists.{map_length}
+use Rattle.lx_words.proofs.Lists.{map_length, map_append}
 use Rattle.lx_ir.specs.declared.module.Function.{Function}
 use Rattle.lx_ir.specs.declared.module.Module.{Module}
 use Rattle.lx_ir.specs.declared.instr.Instr.{Instr}
@@ -25,7 +25,6 @@ use Rattle.lx_annotation_tables.specs.Images.{image_of, inserted_in, is_behind, 
 use Rattle.lx_annotation_tables.specs.declared.images.Inserted.TheVariants.{Guard, Check}
 use Rattle.lx_annotation_tables.proofs.Texts.{first_there, goes_on}
 use Rattle.lx_annotation_tables.proofs.Told.{is_of, found_marked}
-use Rattle.lx_model.proofs.Items.{mapped_more}
 
 -- one function more
 
@@ -132,4 +131,4 @@ pub images_more : (p : Program) (k : ℕ) (m : ProgramModule) (c : ImageCount) (
     → old ≡ map (image_count p) (below k) → new ≡ old ++ c ∷ [] → new ≡ map (image_count p) (below (k + 1))
 images_more p k m c old new h e is was n =
     n ∙ ((λ j. was j ++ (is ∙ sym (image_is p k m (there_at p.modules k m h e))) j ∷ [])
-    ∙ sym (ap (λ i. map (image_count p) (below i)) (add-one k) ∙ mapped_more (image_count p) (below k) k))
+    ∙ sym (ap (λ i. map (image_count p) (below i)) (add-one k) ∙ map_append (image_count p) (below k) (k ∷ [])))

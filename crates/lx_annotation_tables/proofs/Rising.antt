@@ -20,7 +20,7 @@ use Rattle.lx_propagate.specs.Slots.{annotated_of, annotated_from, marked}
 use Rattle.lx_annotation_tables.specs.Entries.{IsRising, RisesFrom, all_annotated}
 use Rattle.lx_annotation_tables.proofs.Told.{is_of}
 use Rattle.lx_annotation_tables.proofs.ImageTables.{any_found}
-use Rattle.lx_model.proofs.Tests.{less_differs}
+use Rattle.lx_words.proofs.Tests.{below_fails}
 
 -- the annotated functions of a module are in order
 
@@ -80,7 +80,7 @@ found d f n (x ∷ xs) zero r h e = sym (ap (λ b. cond b (Some x) (find (is_of 
 found d f n (x ∷ xs) (suc k) r h e =
     let more = least d (suc x.function) xs k r.1 (omega (arith, h)) in
     found d f (suc x.function) xs k r.1 (omega (arith, h)) e
-    ∙ sym (ap (λ b. cond b (Some x) (find (is_of f) xs)) (less_differs x.function f (omega (arith, more, e))))
+    ∙ sym (ap (λ b. cond b (Some x) (find (is_of f) xs)) (below_fails x.function f (omega (arith, more, e))))
 
 none_found : (d : Marked) (f : ℕ) (xs : List Marked) → ((k : ℕ) → k < length xs → nat_eq (number d xs k) f ≡ false) → None ≡ find (is_of f) xs
 none_found d f [] h = refl

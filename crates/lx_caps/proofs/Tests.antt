@@ -3,9 +3,6 @@ use Rattle.std.proofs.Common.{arith, true, ℕ, ◌≡◌, Bool, false, refl, �
 use Rattle.std.proofs.lemmas.Bool.Decides.{nat_tests}
 use Rattle.lx_words.proofs.Tests.{or_joined, and_or}
 
-pub less_differs : (n f : ℕ) → n < f → nat_eq n f ≡ false
-less_differs n f h = grind (arith, nat_tests, h)
-
 pub one_more : (n : ℕ) → n + 1 ≡ suc n
 one_more n = omega arith
 

@@ -28,7 +28,7 @@ fn magnitude(word: Word) -> u64
 }
 
 // The fields of a struct.
-#[tactic(auto, using(crate::proofs::TypeParts::listed))]
+#[tactic(auto, using(lx_ir::proofs::Layouts::list_back))]
 fn fields_of(ty: &IrType) -> &[IrType]
     ensures { result.now ≡ fields_of ty.now }
 {

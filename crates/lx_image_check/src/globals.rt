@@ -53,7 +53,7 @@ fn check_global(alloc: Global, m: &Module, global: &GlobalVar) -> Result<(), Ref
 }
 
 /// Finds the first global with a name that images alone have, or whose initialiser mentions one.
-#[tactic(auto, using(crate::proofs::Passes::first_step, crate::proofs::Passes::first_end, crate::proofs::Passes::first_answer))]
+#[tactic(auto, using(lx_ir_verify::proofs::Passes::first_step, lx_ir_verify::proofs::Passes::first_end, lx_image_marks::proofs::Passes::first_answer))]
 pub(crate) fn check_globals(alloc: Global, m: &Module) -> Result<(), Refusal>
     ensures { Gives (first_some (global_fault m.now) m.now.globals) result }
 {
@@ -80,7 +80,7 @@ fn check_import(alloc: Global, f: &Function) -> Result<(), Refusal>
 }
 
 /// Finds the first import with a name that images alone have.
-#[tactic(auto, using(crate::proofs::Passes::first_step, crate::proofs::Passes::first_end, crate::proofs::Passes::first_answer))]
+#[tactic(auto, using(lx_ir_verify::proofs::Passes::first_step, lx_ir_verify::proofs::Passes::first_end, lx_image_marks::proofs::Passes::first_answer))]
 pub(crate) fn check_imports(alloc: Global, m: &Module) -> Result<(), Refusal>
     ensures { Gives (first_some import_fault m.now.functions) result }
 {

@@ -128,7 +128,7 @@ fn without_first(names: &[Name]) -> &[Name]
     }
 }
 
-#[tactic(auto, using(crate::proofs::Ordering::place_step, crate::proofs::Ordering::place_end, crate::proofs::Passes::first_answer))]
+#[tactic(auto, using(crate::proofs::Ordering::place_step, crate::proofs::Ordering::place_end, lx_image_marks::proofs::Passes::first_answer))]
 fn check_order(alloc: Global, expected: &[Name], functions: &[Function]) -> Result<(), Refusal>
     ensures { Gives (misplaced expected.now (filter is_defined functions.now)) result }
 {

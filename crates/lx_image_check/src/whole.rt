@@ -50,7 +50,7 @@ fn check_conflict(alloc: Global, i: &Interface, stripped: &Module) -> Result<(),
 }
 
 /// Finds the first fault of the wrappers that a text ought to have, of its order, and of its functions' annotations.
-#[tactic(auto, using(crate::proofs::Passes::first_answer))]
+#[tactic(auto, using(lx_image_marks::proofs::Passes::first_answer))]
 fn check_beside(
     alloc: Global,
     i: &Interface,
@@ -96,7 +96,7 @@ fn check_annotated(alloc: Global, i: &Interface, m: &Module) -> Result<(), Refus
     found
 }
 
-#[tactic(auto, using(crate::proofs::Passes::first_answer))]
+#[tactic(auto, using(lx_image_marks::proofs::Passes::first_answer))]
 fn check_whole(alloc: Global, i: &Interface, m: &Module) -> Result<(), Refusal>
     requires { IsLawful m.now }
     ensures { Gives (whole_fault i.now m.now) result }
@@ -118,7 +118,7 @@ fn check_instrs(alloc: Global, m: &Module) -> Result<(), Refusal>
 }
 
 /// Finds the first fault of a text as an image.
-#[tactic(auto, using(crate::proofs::Passes::first_answer))]
+#[tactic(auto, using(lx_image_marks::proofs::Passes::first_answer))]
 pub(crate) fn check_image(alloc: Global, i: &Interface, m: &Module) -> Result<(), Refusal>
     requires { IsLawful m.now }
     ensures { Gives (first_image_fault i.now m.now) result }

@@ -113,7 +113,7 @@ fn check_head(alloc: Global, wrapper: &Function, lines: usize, f: &Function) -> 
 }
 
 /// Compares a function with the wrapper that it ought to be.
-#[tactic(auto, using(crate::proofs::OneBlock::difference_is, crate::proofs::Passes::first_answer))]
+#[tactic(auto, using(crate::proofs::OneBlock::difference_is, lx_image_marks::proofs::Passes::first_answer))]
 fn check_found(alloc: Global, wrapper: &Function, f: &Function) -> Result<(), Refusal>
     requires { IsTrue (has_one_block wrapper.now) }
     ensures { Gives (difference wrapper.now f.now (different_from 0 (instrs_of wrapper.now) (instrs_of f.now))) result }
@@ -155,7 +155,7 @@ fn check_missing(
     check_wrapper(alloc, wrapper, found)
 }
 
-#[tactic(auto, using(crate::proofs::Passes::first_step, crate::proofs::Passes::first_end, crate::proofs::Passes::first_answer))]
+#[tactic(auto, using(lx_ir_verify::proofs::Passes::first_step, lx_ir_verify::proofs::Passes::first_end, lx_image_marks::proofs::Passes::first_answer))]
 fn check_each(
     alloc: Global,
     m: &Module,

@@ -1,5 +1,5 @@
 -- Numbers in decimal are names.
-use Rattle.std.proofs.Common.{◌≡◌, ℕ, ◌≤◌, true, not, ◌&&◌, ap, arith, le-leb, leb-true, List, [], ◌∷◌, refl}
+use Rattle.std.proofs.Common.{◌≡◌, ℕ, ◌≤◌, true, not, ◌&&◌, ap, arith, leb-true, List, [], ◌∷◌, refl}
 use Rattle.std.specs.Prelude.{nat_eq, nat_lt, nat_le}
 use Rattle.std.proofs.lemmas.Bool.{and_from, le-leb}
 use Rattle.lx_words.proofs.Tests.{below_fails, less_true, above_fails, first_of, second_of}
@@ -9,7 +9,6 @@ use Rattle.std.specs.Char.{IsAsciiDigit}
 use Rattle.std.proofs.lemmas.List.Elements.{recursion_from_All}
 use Rattle.lx_words.specs.Text.{decimal_text}
 use Rattle.lx_words.proofs.Injective.{number_texts}
-use Rattle.lx_words.proofs.Digits.{all_digits}
 
 pub digit_stands : (b : ℕ) → is_digit b ≡ true → stands_in_name b ≡ true
 digit_stands b h =

@@ -1,4 +1,3 @@
-mod Digits
 mod Distinct
 mod Growing
 mod KeptLines

@@ -137,7 +137,7 @@ fn field_type(fields: &[IrType], index: Argument) -> Option<&IrType>
 }
 
 /// The type that an index goes into: of an element of an array, or of the field of a struct.
-#[tactic(auto, using(crate::proofs::Numbers::list_back))]
+#[tactic(auto, using(lx_ir::proofs::Layouts::list_back))]
 fn inner_type(t: &IrType, index: Argument) -> Option<&IrType>
     ensures { option_copied result ≡ inner_type t.now index }
 {

@@ -8,7 +8,7 @@ fn is_same(a: &[u8], b: &[u8]) -> bool
 }
 
 /// What stands in a name behind a text, if the name begins with that text.
-#[tactic(auto, using(crate::proofs::Join::longer_name))]
+#[tactic(auto, using(lx_words::proofs::Lists::longer_name))]
 pub(crate) fn behind<'a>(front: &[u8], name: &'a [u8]) -> Option<&'a [u8]>
     ensures { MatchOption result ((back : List ℕ) → bytes_eq (front.now ++ back) name.now ≡ false) (λ rest. (back : List ℕ) → bytes_eq (front.now ++ back) name.now ≡ bytes_eq back rest.now) }
 {

@@ -79,7 +79,7 @@ impl<'a> InterfaceNames<'a> {
     }
 
     /// The slot type of that name.
-    #[tactic(auto, using(crate::proofs::Firsts::not_found))]
+    #[tactic(auto, using(lx_words::proofs::Lists::none_found))]
     fn slot_named(&self, name: &[u8]) -> Option<&'a Slot>
         ensures { option_copied result ≡ find (is_slot name.now) self.now.slots }
     {

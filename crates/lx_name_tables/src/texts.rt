@@ -68,7 +68,7 @@ impl<'a> TextNames<'a> {
     }
 
     /// The function of that name that the text defines.
-    #[tactic(auto, using(crate::proofs::Firsts::not_found))]
+    #[tactic(auto, using(lx_words::proofs::Lists::none_found))]
     pub fn defined(&self, name: &[u8]) -> Option<&'a Function>
         ensures { option_copied result ≡ find (defines name.now) self.now.functions }
     {

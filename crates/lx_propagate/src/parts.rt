@@ -26,7 +26,7 @@ pub fn field_if_named(t: &IrType, index: u64) -> Option<FieldName>
 }
 
 /// The fields of a struct.
-#[tactic(auto, using(crate::proofs::PartTypes::fields_listed))]
+#[tactic(auto, using(lx_ir::proofs::Layouts::list_back))]
 fn fields_of(t: &IrType) -> &[IrType]
     ensures { result.now ≡ fields_of t.now }
 {

@@ -250,7 +250,7 @@ impl Runner {
 
     // The function on top goes past its next instruction, where that gives a value of its operands alone. `false`, where it does not, and
     // without fuel, where an outcome is due and where marks have been taken; nothing changes then.
-    #[tactic(auto, using(crate::proofs::Marking::given_taken, crate::proofs::Marking::no_value))]
+    #[tactic(auto, using(crate::proofs::Marking::given_taken, lx_words::proofs::Options::no_value))]
     fn give_next(&mut self, code: &Code) -> bool
         requires { self.old.request ≡ None }
         ensures steps { IsTrue result → HasTaken code.now self.old self.new (marked_step code.now self.old.marks (thread_of code.now self.old)) }

@@ -3,7 +3,7 @@ use Rattle.std.specs.Option.{option_or}
 use Rattle.std.proofs.lemmas.Result.{err_from_is_err_and}
 use Rattle.lx_ir.specs.declared.instr.Instr.{Instr}
 use Rattle.lx_image_check.specs.Compared.{line_fault, lines_fault}
-use Rattle.lx_image_check.proofs.Passes.{first_answer}
+use Rattle.lx_image_marks.proofs.Passes.{first_answer}
 use Rattle.lx_image_check.proofs.Comparing.{lines_step, passed}
 use Rattle.lx_image_check.proofs.lines.check_block.Goals as goal
 

@@ -5,7 +5,7 @@ use Rattle.std.proofs.lemmas.Result.{err_from_is_err_and}
 use Rattle.lx_ir.specs.declared.module.Block.{Block}
 use Rattle.lx_ir.specs.declared.instr.Instr.{Instr}
 use Rattle.lx_image_check.specs.Compared.{lines_fault}
-use Rattle.lx_image_check.proofs.Passes.{first_answer}
+use Rattle.lx_image_marks.proofs.Passes.{first_answer}
 use Rattle.lx_image_check.proofs.Comparing.{blocks_step, passed}
 use Rattle.lx_image_check.proofs.lines.check_lines.Goals as goal
 

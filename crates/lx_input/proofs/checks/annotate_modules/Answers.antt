@@ -9,7 +9,7 @@ use Rattle.lx_input.specs.Checks.{PropagateTurn}
 use Rattle.lx_input.proofs.Each.{goes_on, ends_early, ends, marked_so_far}
 use Rattle.lx_input.proofs.Agreeing.{all_agree}
 use Rattle.lx_input.proofs.checks.annotate_modules.Goals as goal
-use Rattle.lx_model.proofs.Items.{mapped_more}
+use Rattle.lx_words.proofs.Lists.{map_append}
 
 pub loop-verified-preserved : goal.loop-verified-preserved
 loop-verified-preserved c =
@@ -22,7 +22,7 @@ loop-verified-preserved c =
     take_more c.args.modules.now c.loop-verified.verified-index c.verified-item.result c.loop-verified-test.true
     ∙ ap (λ (x : Module). take c.loop-verified.verified-index c.args.modules.now ++ x ∷ []) (sym c.verified-item.is) in (
       c.in_ok-annotate_next.ensures.items ∙ ap (λ (xs : List (List Marked)). xs ++ annotated_of i c.verified-item.result ∷ []) c.loop-verified.invariant.0
-          ∙ sym (mapped_more (annotated_of i) (take c.loop-verified.verified-index c.args.modules.now) c.verified-item.result) ∙ ap (map (annotated_of i)) (sym more),
+          ∙ sym (map_append (annotated_of i) (take c.loop-verified.verified-index c.args.modules.now) (c.verified-item.result ∷ [])) ∙ ap (map (annotated_of i)) (sym more),
       goes_on (PropagateTurn i) c.args.names.now c.args.modules.now c.loop-verified.verified-index c.file_at-file.result.now c.verified-item.result called below c.loop-verified-test.true c.verified-item.is c.loop-verified.invariant.1
           c.in_ok-annotate_next.ensures.turn,
     )
