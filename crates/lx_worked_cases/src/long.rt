@@ -7,9 +7,9 @@ use std::test::Fail;
 /// `#` stands for the number, and `$` for the same in hexadecimal.
 pub type Part = (&'static str, u32, u32);
 
-/// Calls through a slot, each of eight events; references that are copied, each in three events; and a module that may call more
-/// functions than 12 bits count.
-static LONG: [Part; 17] = [
+/// Calls through a slot, each of eight events; references that are copied, each in three events; a module that may call more
+/// functions than 12 bits count; and a function of more blocks than 16 bits count.
+static LONG: [Part; 20] = [
     (
         "---- 2,000 slot calls
 ---- case
@@ -122,6 +122,34 @@ image m guards 0 checks 0 wrappers 4097
         1,
     ),
     ("owns m.shared call 0x$0\n", 4102, 8200),
+    (
+        "---- 65,537 blocks
+---- file blocks.ll
+define void @main() {
+",
+        0,
+        1,
+    ),
+    ("#:\nret void\n", 0, 65537),
+    (
+        "}
+---- case
+lxfi case 1
+kernel none
+interface none
+module m blocks.ll
+thread
+call m:main fuel 10
+---- whole
+status 0
+schedule 0*3
+call 0.0 m:main returned
+image m guards 0 checks 0 wrappers 0
+owns m.shared call 0x10060
+",
+        0,
+        1,
+    ),
 ];
 
 /// As many calls as a case may have, in which four threads take turns: 14 events with kmalloc and kfree, 8 with dev_wipe, 8
