@@ -12,7 +12,7 @@ use Rattle.lx_caps.specs.Loans.{Endings, none_end, before_loan, before_shut, bef
 use Rattle.lx_caps.specs.History.{History, has}
 use Rattle.lx_certificates.specs.declared.givers.Gifts.{Gifts}
 use Rattle.lx_certificates.specs.Givers.{by_grant, by_lend, found, giver_among, newest_strip}
-use Rattle.lx_cap_lists.specs.Bits.{is_set}
+use Rattle.lx_cap_nodes.specs.Bits.{is_set}
 use Rattle.lx_cap_lists.specs.Tables.{bit_of}
 use Rattle.lx_act_index.specs.declared.lines.Said.{Said}
 use Rattle.lx_act_index.specs.declared.lines.Said.TheVariants as what

@@ -7,9 +7,10 @@ use Rattle.lx_caps.specs.declared.Principal.{Principal}
 use Rattle.lx_caps.specs.History.{same_principal}
 use Rattle.lx_certificates.specs.declared.givers.Gifts.{Gifts}
 use Rattle.lx_certificates.specs.Givers.{by_lend, found}
-use Rattle.lx_cap_lists.specs.Bits.{is_set}
+use Rattle.lx_cap_nodes.specs.Bits.{is_set}
 use Rattle.lx_cap_lists.specs.Entries.{left_of}
-use Rattle.lx_cap_lists.proofs.BitLemmas.{none_set, set_left}
+use Rattle.lx_cap_lists.proofs.BitLemmas.{set_left}
+use Rattle.lx_cap_nodes.proofs.Masks.{none_set}
 use Rattle.lx_act_index.specs.declared.threads.Loan.{Loan}
 use Rattle.lx_act_index.specs.declared.lines.Said.{Said}
 use Rattle.lx_act_index.specs.declared.lines.Said.TheVariants.{Grant, Lend, Strip}

@@ -8,7 +8,7 @@ use Rattle.lx_caps.specs.Loans.{none_end}
 use Rattle.lx_caps.specs.History.{History, reaches}
 use Rattle.lx_certificates.specs.declared.givers.Gifts.{Gifts}
 use Rattle.lx_certificates.specs.Givers.{giver}
-use Rattle.lx_cap_lists.specs.Tables.{part_list}
+use Rattle.lx_cap_nodes.specs.Pieces.{part_list}
 use Rattle.lx_act_index.specs.declared.table.Table.{Table}
 use Rattle.lx_act_index.specs.declared.threads.Thread.{Thread}
 use Rattle.lx_act_index.specs.Lines.{line_giver}

@@ -13,8 +13,9 @@ use Rattle.lx_caps.specs.Order.{IsFirst}
 use Rattle.lx_certificates.specs.declared.givers.Gifts.{Gifts}
 use Rattle.lx_certificates.specs.Givers.{giver, count_of, nth_atom}
 use Rattle.lx_cap_lists.specs.Atoms.{part_atom}
-use Rattle.lx_cap_lists.specs.Bits.{is_set}
-use Rattle.lx_cap_lists.specs.Tables.{bit_of, part_list}
+use Rattle.lx_cap_nodes.specs.Bits.{is_set}
+use Rattle.lx_cap_lists.specs.Tables.{bit_of}
+use Rattle.lx_cap_nodes.specs.Pieces.{part_list}
 use Rattle.lx_act_index.specs.declared.table.Table.{Table}
 use Rattle.lx_act_index.specs.declared.threads.Thread.{Thread}
 use Rattle.lx_act_index.specs.Lines.{line_giver}

@@ -10,10 +10,11 @@ use Rattle.lx_caps.specs.declared.Cap.TheVariants as cap
 use Rattle.lx_caps.specs.History.{has}
 use Rattle.lx_caps.specs.Loans.{none_end}
 use Rattle.lx_caps.specs.Regions.{covers, mapped}
-use Rattle.lx_cap_lists.specs.Bits.{is_set}
-use Rattle.lx_cap_lists.specs.Tables.{Key, same_key, call_key, ref_key, behind_parts, bit_of, part_list, place_in, place_of, with_key, or_with}
+use Rattle.lx_cap_nodes.specs.Bits.{is_set}
+use Rattle.lx_cap_lists.specs.Tables.{Key, same_key, call_key, ref_key, behind_parts, bit_of, place_in, place_of, with_key, or_with}
+use Rattle.lx_cap_nodes.specs.Pieces.{part_list}
 use Rattle.lx_cap_lists.proofs.KeyLemmas.{same_self, found_last, found_before, not_last, one_key}
-use Rattle.lx_cap_lists.proofs.PartLemmas.{one_part, list_below}
+use Rattle.lx_cap_nodes.proofs.PartLists.{one_part, list_below}
 use Rattle.lx_act_index.specs.declared.lines.Entry.{Entry}
 use Rattle.lx_act_index.specs.declared.table.Saying.{Saying}
 use Rattle.lx_act_index.specs.declared.table.Range.{Range}

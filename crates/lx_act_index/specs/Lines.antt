@@ -5,7 +5,7 @@ use Rattle.lx_caps.specs.declared.Principal.{Principal}
 use Rattle.lx_caps.specs.History.{same_principal}
 use Rattle.lx_certificates.specs.declared.givers.Gifts.{Gifts}
 use Rattle.lx_certificates.specs.Givers.{by_grant, by_lend, found}
-use Rattle.lx_cap_lists.specs.Bits.{is_set}
+use Rattle.lx_cap_nodes.specs.Bits.{is_set}
 use Rattle.lx_cap_lists.specs.Entries.{left_of}
 use Rattle.lx_act_index.specs.declared.threads.Loan.{Loan}
 use Rattle.lx_act_index.specs.declared.lines.Said.{Said}

@@ -3,8 +3,9 @@ use Rattle.std.specs.Prelude.{◌≡◌, ◌≢◌, ℕ, ◌+◌, ◌/◌, ◌%�
 use Rattle.lx_caps.specs.declared.Atom.{Atom}
 use Rattle.lx_caps.specs.Loans.{none_end}
 use Rattle.lx_caps.specs.Regions.{covers}
-use Rattle.lx_cap_lists.specs.Bits.{is_set}
-use Rattle.lx_cap_lists.specs.Tables.{Key, same_key, behind_parts, part_list, place_in, place_of}
+use Rattle.lx_cap_nodes.specs.Bits.{is_set}
+use Rattle.lx_cap_lists.specs.Tables.{Key, same_key, behind_parts, place_in, place_of}
+use Rattle.lx_cap_nodes.specs.Pieces.{part_list}
 use Rattle.lx_act_index.specs.declared.lines.Entry.{Entry}
 use Rattle.lx_act_index.specs.declared.table.Saying.{Saying}
 use Rattle.lx_act_index.specs.declared.table.Range.{Range}

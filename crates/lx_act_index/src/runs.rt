@@ -1,6 +1,6 @@
 //! Runs of bits that are alike.
 ghost use Rattle.std.specs.Prelude.{◌≡◌, ◌<◌, ◌≤◌, ℕ, not, false, if◌then◌else◌, None};
-ghost use Rattle.lx_cap_lists.specs.Bits.{is_set};
+ghost use Rattle.lx_cap_nodes.specs.Bits.{is_set};
 ghost use Rattle.lx_act_index.specs.Runs.{byte_or_end, said_at};
 
 use lx_cap_lists::{PART, Piece, bits_from, first_byte, is_set, piece_bits};

@@ -2,7 +2,7 @@
 use Rattle.std.proofs.Common.{◌≡◌, ℕ, zero, suc, ◌-◌, ◌<◌, ◌^◌, Bool, true, false, not, ◌||◌, ◌&&◌, nat_eq, cond, List, [], ◌∷◌, ◌++◌, refl, sym, ap, ◌∙◌, w64, arith, append_assoc, eqb-true}
 use Rattle.std.specs.Int.{bit_at}
 use Rattle.std.proofs.lemmas.Bool.Decides.{nat_tests}
-use Rattle.std.proofs.lemmas.Nat.Bits.{bit_at-zero, bit_at-lt, bit_at_not}
+use Rattle.std.proofs.lemmas.Nat.Bits.{bit_at-lt, bit_at_not}
 use Rattle.std.proofs.lemmas.Bool.{and_parts}
 use Rattle.lx_words.proofs.Tests.{and_false, or_joined, or_and, or_swap}
 use Rattle.lx_caps.specs.History.{same_principal}
@@ -10,13 +10,10 @@ use Rattle.lx_cap_lists.specs.declared.entry.Entry.{Entry}
 use Rattle.lx_cap_lists.specs.declared.holder.Holder.{Holder}
 use Rattle.lx_cap_lists.specs.declared.holder.Holder.TheVariants.{Keeper, Borrower}
 use Rattle.lx_cap_lists.specs.Holders.{same_holder}
-use Rattle.lx_cap_lists.specs.Bits.{is_set}
+use Rattle.lx_cap_nodes.specs.Bits.{is_set}
 use Rattle.lx_cap_lists.specs.Entries.{gives_bit, bit_among, with_mask, left_of, cut_node, cut_all}
-use Rattle.lx_cap_lists.proofs.Masks.{set_in_both}
+use Rattle.lx_cap_nodes.proofs.Masks.{set_in_both, none_set}
 use Rattle.lx_caps.proofs.Principals.{same_principal_is}
-
-pub none_set : (k : ℕ) → is_set 0 k ≡ false
-none_set k = ap (λ n. nat_eq n 1) (bit_at-zero k)
 
 flipped : (a : ℕ) → a < 2 → nat_eq (1 - a) 1 ≡ not (nat_eq a 1)
 flipped zero h = refl

@@ -7,9 +7,9 @@ use Rattle.lx_words.proofs.Tests.{eq_self}
 use Rattle.lx_caps.specs.declared.Atom.{Atom}
 use Rattle.lx_caps.specs.declared.Atom.TheVariants as atom
 use Rattle.lx_caps.specs.Order.{is_before, IsFirst}
-use Rattle.lx_cap_lists.specs.Bits.{is_set}
+use Rattle.lx_cap_nodes.specs.Bits.{is_set}
 use Rattle.lx_cap_lists.specs.Atoms.{part_atom}
-use Rattle.lx_cap_lists.proofs.Masks.{set_in_both}
+use Rattle.lx_cap_nodes.proofs.Masks.{set_in_both}
 use Rattle.lx_caps.proofs.Tests.{byte_of}
 
 and_true : (a b : Bool) → b ≡ true → (a && b) ≡ a

@@ -7,9 +7,9 @@ use Rattle.std.proofs.lemmas.Nat.Bits.{bit_at-lt, bit_at_and, bit_at_above, same
 use Rattle.lx_words.proofs.Tests.{eq_self}
 use Rattle.lx_caps.specs.Regions.{covers}
 use Rattle.lx_caps.specs.History.{each_byte}
-use Rattle.lx_cap_lists.specs.Bits.{is_set}
-use Rattle.lx_cap_lists.proofs.Masks.{set_in_both}
-use Rattle.lx_cap_lists.proofs.Ranges.{covered, covered_more, none_before, all_before}
+use Rattle.lx_cap_nodes.specs.Bits.{is_set}
+use Rattle.lx_cap_nodes.proofs.Masks.{set_in_both}
+use Rattle.lx_cap_nodes.proofs.Ranges.{covered, covered_more, none_before, all_before}
 
 and_left : (a b : Bool) → (a && b) ≡ b → b ≡ true → a ≡ true
 and_left true b e f = refl

@@ -7,14 +7,12 @@ pub mod IndexLemmas
 pub mod KeptLemmas
 pub mod KeyLemmas
 pub mod KeyPlaces
-pub mod Masks
 pub mod MoreParts
 mod MoreRuns
 pub mod NearLemmas
 mod NextBit
 pub mod NodeLemmas
 pub mod PartLemmas
-pub mod Ranges
 pub mod ShownLemmas
 pub mod TakenLemmas
 pub mod VisitLemmas

@@ -5,19 +5,20 @@ use Rattle.std.specs.List.Sorted.{IsNonDecreasingBy}
 use Rattle.std.proofs.lemmas.Bool.Decides.{nat_tests}
 use Rattle.std.proofs.lemmas.List.{drop_more, drop_all}
 use Rattle.std.proofs.lemmas.List.Sorted.{IsNonDecreasingBy-drop}
-use Rattle.std.proofs.lemmas.Nat.Bits.{bit_at-lt, bit_at-zero, bit_at_or}
+use Rattle.std.proofs.lemmas.Nat.Bits.{bit_at-zero}
 use Rattle.lx_words.proofs.Tests.{or_nothing}
 use Rattle.lx_caps.specs.declared.Cap.{Cap}
 use Rattle.lx_caps.specs.Ranges.{IsRanges}
 use Rattle.lx_cap_lists.specs.declared.PartBytes.{PartBytes}
 use Rattle.lx_cap_lists.specs.declared.runs.Span.{Span}
 use Rattle.lx_cap_lists.specs.declared.walk.Walk.{Walk}
-use Rattle.lx_cap_lists.specs.Mask.{is_set, IsNextSet}
+use Rattle.lx_cap_lists.specs.Mask.{IsNextSet}
+use Rattle.lx_cap_nodes.specs.Bits.{is_set}
 use Rattle.lx_cap_lists.specs.Parts.{has_byte, is_among, IsPartOf, Rises}
 use Rattle.lx_cap_lists.specs.Runs.{AreRangesUpTo, IsFull, write_of}
 use Rattle.lx_cap_lists.specs.Walk.{HasWalked}
 use Rattle.lx_cap_lists.proofs.MoreRuns.{goes_past, none_before, whole}
-use Rattle.lx_caps.proofs.Tests.{max_one}
+use Rattle.lx_cap_nodes.proofs.Masks.{set_in_either}
 
 -- bytes of a part that the mask tells alike
 pub alike : (p : ℕ → Bool) (x : PartBytes) (v : Bool) (from to : ℕ) → IsPartOf p x → to ≤ 64 → ((k : ℕ) → from ≤ k → k < to → is_set x.mask k ≡ v) → (b : ℕ) → x.part * 64 + from ≤ b → b < x.part * 64 + to → p b ≡ v
@@ -69,9 +70,6 @@ walks_on p done new walk now next left other e step w =
       rises = subst (λ (x : PartBytes). Rises x.part left) (sym e) w.rises.1;
     }
 
-pub either_set : (m n k : ℕ) → is_set (bit_or m n) k ≡ (is_set m k || is_set n k)
-either_set m n k = ap (λ t. nat_eq t 1) (bit_at_or m n k) ∙ max_one (bit_at m k) (bit_at n k) (bit_at-lt m k) (bit_at-lt n k)
-
 shared : (q x y r : Bool) → ((q && x) || ((q && y) || r)) ≡ ((q && (x || y)) || r)
 shared false x y r = refl
 shared true true y r = refl
@@ -82,7 +80,7 @@ joined : (b : ℕ) (x y z : PartBytes) (left : List PartBytes) → y.part ≡ x.
 joined b x y z left same part mask =
     ap (λ n. (nat_eq x.part (b / 64) && is_set x.mask (b % 64)) || ((nat_eq n (b / 64) && is_set y.mask (b % 64)) || is_among b left)) same
     ∙ (shared (nat_eq x.part (b / 64)) (is_set x.mask (b % 64)) (is_set y.mask (b % 64)) (is_among b left)
-    ∙ (ap (λ t. (nat_eq x.part (b / 64) && t) || is_among b left) (sym (either_set x.mask y.mask (b % 64)))
+    ∙ (ap (λ t. (nat_eq x.part (b / 64) && t) || is_among b left) (sym (set_in_either x.mask y.mask (b % 64)))
     ∙ (λ j. (nat_eq (sym part j) (b / 64) && is_set (sym mask j) (b % 64)) || is_among b left)))
 
 pub stays : (p : ℕ → Bool) (done : List Cap) (walk now : Walk) (next : PartBytes) (left : List PartBytes) → next.part ≡ walk.at_hand.part → now.last ≡ walk.last → now.at_hand.part ≡ walk.at_hand.part

@@ -10,11 +10,12 @@ use Rattle.lx_caps.specs.Order.{is_before, is_behind, IsFirst}
 use Rattle.lx_cap_nodes.specs.Words.{nodes_at}
 use Rattle.lx_cap_lists.specs.declared.entry.Entry.{Entry}
 use Rattle.lx_cap_lists.specs.Atoms.{part_atom}
-use Rattle.lx_cap_lists.specs.Bits.{is_set}
+use Rattle.lx_cap_nodes.specs.Bits.{is_set}
 use Rattle.lx_cap_lists.specs.Entries.{bit_among}
 use Rattle.lx_cap_lists.specs.Holders.{held_by}
 use Rattle.lx_cap_lists.specs.Owned.{owned_from}
-use Rattle.lx_cap_lists.specs.Tables.{Key, part_list, place_of, bit_of, shown_at}
+use Rattle.lx_cap_lists.specs.Tables.{Key, place_of, bit_of, shown_at}
+use Rattle.lx_cap_nodes.specs.Pieces.{part_list}
 
 module _ (places : List (List (ℕ × Entry))) (who : Principal) (part from : ℕ) where
   -- the bits of a part from one on are what is owned there

@@ -7,7 +7,8 @@ use Rattle.std.proofs.lemmas.Bool.{cases_lt}
 use Rattle.std.proofs.lemmas.Bool.Decides.{nat_tests}
 use Rattle.std.proofs.lemmas.Nat.{div-add-mod', pow_pos}
 use Rattle.std.proofs.lemmas.Nat.Bits.{bit_at-lt, bit_at-zero, bit_at_above, bit_at_cat_high, bit_at_not}
-use Rattle.lx_cap_lists.specs.Mask.{is_set, IsNextSet}
+use Rattle.lx_cap_lists.specs.Mask.{IsNextSet}
+use Rattle.lx_cap_nodes.specs.Bits.{is_set}
 
 -- what is shifted down has the bits from the place on
 shifted : (n p i : ℕ) → p ≤ i → bit_at n i ≡ bit_at (n / 2 ^ p) (i - p)

@@ -11,12 +11,11 @@ use Rattle.lx_cap_lists.specs.Holders.{same_holder}
 use Rattle.std.proofs.Math.ListN as listn
 use Rattle.lx_cap_nodes.specs.Words.{nodes_at, without}
 use Rattle.lx_cap_lists.specs.declared.entry.Entry.{Entry}
-use Rattle.lx_cap_lists.specs.Bits.{is_set}
+use Rattle.lx_cap_nodes.specs.Bits.{is_set}
 use Rattle.lx_cap_lists.specs.Entries.{is_holder, with_mask, left_of, cut_all}
 use Rattle.lx_cap_lists.specs.Kept.{width_of, IsMask, AreNodes, AllNodes}
 use Rattle.lx_cap_lists.proofs.HeldLemmas.{lacks}
-use Rattle.lx_cap_lists.proofs.BitLemmas.{none_set}
-use Rattle.lx_cap_lists.proofs.MoreParts.{either_set}
+use Rattle.lx_cap_nodes.proofs.Masks.{none_set, set_in_either}
 
 -- a number that is not 0 has a bit
 pub some_bit : (w m : ℕ) → ((k : ℕ) → w ≤ k → bit_at m k ≡ 0) → nat_eq m 0 ≡ false → IsMask w m
@@ -74,7 +73,7 @@ mask_widened : (w v m more : ℕ) → m ≡ bit_or v more → ((k : ℕ) → w �
 mask_widened w v m more is high mask = record {
   bit = mask.bit;
   within = mask.within;
-  set = ap (λ n. is_set n mask.bit) is ∙ (either_set v more mask.bit ∙ or_true (is_set v mask.bit) (is_set more mask.bit) mask.set);
+  set = ap (λ n. is_set n mask.bit) is ∙ (set_in_either v more mask.bit ∙ or_true (is_set v mask.bit) (is_set more mask.bit) mask.set);
   none = λ k h. high_either m v more k is (mask.none k h) (high k h);
 }
 

@@ -3,7 +3,7 @@ use Rattle.std.proofs.Common.{◌≡◌, ℕ, ◌<◌, Some, List, length, arith
 use Rattle.lx_cap_lists.specs.Tables.{Key, same_key, place_in, behind_parts, call_key, ref_key, place_of}
 use Rattle.lx_cap_lists.proofs.KeyLemmas.{found_within}
 use Rattle.lx_caps.specs.declared.Atom.{Atom}
-use Rattle.lx_cap_lists.proofs.PartLemmas.{list_below}
+use Rattle.lx_cap_nodes.proofs.PartLists.{list_below}
 use Rattle.lx_caps.specs.declared.Atom.TheVariants as atom
 
 pub list_within : (atoms : List Key) (k : Key) (i : ℕ) → place_in atoms k ≡ Some i → i < length atoms

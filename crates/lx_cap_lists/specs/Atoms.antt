@@ -7,7 +7,7 @@ use Rattle.lx_caps.specs.declared.Atom.TheVariants as atom
 use Rattle.lx_cap_lists.specs.declared.entry.Entry.{Entry}
 use Rattle.lx_cap_lists.specs.declared.entry.Spot.{Spot}
 use Rattle.lx_cap_lists.specs.declared.entry.Spot.TheVariants as spot
-use Rattle.lx_cap_lists.specs.Bits.{is_set}
+use Rattle.lx_cap_nodes.specs.Bits.{is_set}
 pub use Rattle.lx_caps.specs.Order.{same_atom}
 
 -- the atom is a byte of the part that has its bit

@@ -6,13 +6,14 @@ use Rattle.lx_cap_nodes.specs.declared.pool.ListName.TheVariants.{Place, Owner}
 use Rattle.lx_cap_nodes.specs.Pool.{Pool}
 use Rattle.lx_cap_nodes.specs.Words.{nodes_of, nodes_at}
 use Rattle.lx_cap_lists.specs.declared.holder.Holder.{Holder}
-use Rattle.lx_cap_lists.specs.Bits.{is_set}
+use Rattle.lx_cap_nodes.specs.Bits.{is_set}
 use Rattle.lx_cap_lists.specs.declared.entry.Entry.{Entry}
 use Rattle.lx_cap_lists.specs.declared.entry.Spot.{Spot}
 use Rattle.lx_cap_lists.specs.declared.entry.Spot.TheVariants.{Part}
 use Rattle.lx_cap_lists.specs.Entries.{bit_among, with_mask, is_holder}
 use Rattle.lx_cap_lists.specs.Loans.{is_on}
-use Rattle.lx_cap_lists.specs.Tables.{Key, part_list, place_of_spot}
+use Rattle.lx_cap_lists.specs.Tables.{Key, place_of_spot}
+use Rattle.lx_cap_nodes.specs.Pieces.{part_list}
 
 -- the test holds of each node's entry
 abbrev pub all_nodes : (Entry → Bool) → List (ℕ × Entry) → Bool

@@ -1,5 +1,4 @@
 pub mod Atoms
-pub mod Bits
 pub mod Entries
 pub mod Holders
 pub mod Index
@@ -9,7 +8,6 @@ pub mod Loans
 pub mod Mask
 pub mod Owned
 pub mod Parts
-pub mod Pieces
 pub mod Runs
 pub mod Tables
 pub mod Walk

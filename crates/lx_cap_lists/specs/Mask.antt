@@ -1,10 +1,6 @@
 -- The bits of a mask of 64.
-use Rattle.std.specs.Prelude.{◌≡◌, ℕ, ◌<◌, ◌≤◌, Bool, true, false, nat_eq, Option, Some, None}
-use Rattle.std.specs.Int.{bit_at}
-
--- the mask's bit at this place is set
-abbrev pub is_set : ℕ → ℕ → Bool
-is_set mask place = nat_eq (bit_at mask place) 1
+use Rattle.std.specs.Prelude.{◌≡◌, ℕ, ◌<◌, ◌≤◌, true, false, Option, Some, None}
+use Rattle.lx_cap_nodes.specs.Bits.{is_set}
 
 -- the first place from the given one on at which a bit is set, or none
 abbrev pub IsNextSet : ℕ → ℕ → Option ℕ → Type 0

@@ -7,12 +7,13 @@ use Rattle.lx_cap_nodes.specs.Words.{nodes_at}
 use Rattle.lx_cap_lists.specs.declared.entry.Entry.{Entry}
 use Rattle.lx_cap_lists.specs.declared.entry.Spot.{Spot}
 use Rattle.lx_cap_lists.specs.declared.entry.Spot.TheVariants as spot
-use Rattle.lx_cap_lists.specs.Bits.{is_set}
+use Rattle.lx_cap_nodes.specs.Bits.{is_set}
 use Rattle.lx_cap_lists.specs.Atoms.{atom_among, spot_fits}
 use Rattle.lx_cap_lists.specs.Kept.{all_nodes}
 use Rattle.lx_cap_lists.specs.Lists.{some_below}
 use Rattle.lx_cap_lists.specs.Holders.{held_by}
-use Rattle.lx_cap_lists.specs.Tables.{Key, loan_key, part_list, place_in, shown_at}
+use Rattle.lx_cap_lists.specs.Tables.{Key, loan_key, place_in, shown_at}
+use Rattle.lx_cap_nodes.specs.Pieces.{part_list}
 
 -- the list, if there is one, gives the principal the atom
 abbrev pub given_in : List (List (ℕ × Entry)) → Principal → Atom → Option ℕ → Bool

@@ -2,7 +2,7 @@
 use Rattle.std.specs.Prelude.{◌≡◌, ℕ, ◌+◌, ◌*◌, ◌/◌, ◌%◌, ◌<◌, ◌≤◌, Bool, ◌&&◌, nat_eq, List, [], ◌∷◌}
 use Rattle.std.specs.List.{list_any}
 use Rattle.lx_cap_lists.specs.declared.PartBytes.{PartBytes}
-use Rattle.lx_cap_lists.specs.Mask.{is_set}
+use Rattle.lx_cap_nodes.specs.Bits.{is_set}
 
 -- the byte is one of these bytes of a part
 abbrev pub has_byte : ℕ → PartBytes → Bool

@@ -1,5 +1,5 @@
 -- What the lists of a pool say of atoms.
-use Rattle.std.specs.Prelude.{◌≡◌, ℕ, zero, suc, ◌+◌, ◌-◌, ◌/◌, ◌%◌, ◌≤◌, Bool, true, false, nat_eq, nat_lt, nat_le, ◌&&◌, List, [], ◌∷◌, ◌++◌, length, Option, Some, None, if◌then◌else◌}
+use Rattle.std.specs.Prelude.{◌≡◌, ℕ, zero, suc, ◌+◌, ◌-◌, ◌/◌, ◌%◌, ◌≤◌, Bool, true, false, nat_eq, ◌&&◌, List, [], ◌∷◌, ◌++◌, length, Option, Some, None, if◌then◌else◌}
 use Rattle.std.specs.List.{position_from}
 use Rattle.lx_caps.specs.declared.Principal.{Principal}
 use Rattle.lx_caps.specs.declared.Atom.{Atom}
@@ -20,6 +20,7 @@ use Rattle.lx_cap_lists.specs.declared.holder.Holder.TheVariants.{Keeper, Borrow
 use Rattle.lx_cap_lists.specs.Entries.{bit_among}
 use Rattle.lx_cap_lists.specs.Holders.{had}
 use Rattle.lx_cap_lists.specs.Loans.{is_open}
+use Rattle.lx_cap_nodes.specs.Pieces.{part_list}
 
 abbrev pub Key : Type 0
 Key = ℕ × ℕ
@@ -48,13 +49,6 @@ ref_key t a = (t + 1, a)
 -- the place of a key
 abbrev pub place_in : List Key → Key → Option ℕ
 place_in keys k = position_from (same_key k) 0 keys
-
--- the number of a part's list, where the part lies in memory
-abbrev pub part_list : ℕ → Option ℕ
-part_list p =
-    if nat_le 0x40000 p && nat_lt p 0x44000
-    then Some (p - 0x40000)
-    else (if nat_le 0x80000 p && nat_lt p 0x84000 then Some (p - 0x80000 + 0x4000) else (if nat_le 0xc0000 p && nat_lt p 0xc4000 then Some (p - 0xc0000 + 0x8000) else None))
 
 -- the list of a call or a reference stands behind those of the parts
 abbrev pub behind_parts : Option ℕ → Option ℕ

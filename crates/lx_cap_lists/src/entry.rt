@@ -3,12 +3,12 @@ ghost use Rattle.std.specs.Prelude.{◌≡◌, ◌+◌, ◌*◌, ◌/◌, ◌%�
 ghost use Rattle.lx_caps.specs.declared.Atom.{Atom};
 ghost use Rattle.lx_caps.specs.declared.Atom.TheVariants.{Byte};
 ghost use Rattle.lx_caps.specs.Order.{is_behind, IsFirst};
-ghost use Rattle.lx_cap_lists.specs.Bits.{is_set};
+ghost use Rattle.lx_cap_nodes.specs.Bits.{is_set};
 ghost use Rattle.lx_cap_lists.specs.Atoms.{entry_atom, part_atom, same_atom, spot_fits};
 ghost use Rattle.lx_cap_lists.specs.Owned.{alone};
 
-use crate::bits::{between, is_set};
 use crate::holder::Holder;
+use lx_cap_nodes::bits::{between, is_set};
 use lx_caps::{Atom, is_before, is_behind};
 
 /// Where something is had: in a part of memory, by its number, at a call, or at a reference.

@@ -23,18 +23,17 @@ mod keys;
 mod lists;
 mod mask;
 mod parts;
-mod piece;
 mod pool;
 mod runs;
 mod walk;
 
-pub use bits::is_set;
 pub use entry::{Entry, Spot, atom_alone, bits_from, first_byte, sooner};
 pub use holder::{Holder, InReach, principal_of};
 pub use keys::{Key, call_key, loan_key, owner_key, place_for, place_in, ref_key};
 pub use lists::{Seen, first_owned, first_owner, give, has_bits, reached, take, take_all, visit};
-pub use parts::{give_range, list_of_part, take_range};
-pub use piece::{PART, Piece, parts_end, piece_bits, piece_of};
+pub use lx_cap_nodes::bits::is_set;
+pub use lx_cap_nodes::{PART, Piece, list_of_part, parts_end, piece_bits, piece_of};
+pub use parts::{give_range, take_range};
 pub use pool::Pool;
 pub use walk::ranges_of;
 

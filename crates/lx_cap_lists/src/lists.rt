@@ -4,7 +4,7 @@ ghost use Rattle.lx_caps.specs.Precedence.{follows, is_found, IsFirstPrincipal};
 ghost use Rattle.lx_caps.specs.declared.Principal.{Principal};
 ghost use Rattle.lx_cap_nodes.specs.Words.{is_live, names, nodes_at, nodes_of, pool_with, value_in};
 ghost use Rattle.lx_cap_nodes.specs.Names.{first_of};
-ghost use Rattle.lx_cap_lists.specs.Bits.{is_set};
+ghost use Rattle.lx_cap_nodes.specs.Bits.{is_set};
 ghost use Rattle.std.specs.Int.{bit_at};
 ghost use Rattle.lx_cap_lists.specs.declared.entry.Entry.{Entry};
 ghost use Rattle.lx_cap_lists.specs.declared.holder.Holder.{Holder};
@@ -18,10 +18,11 @@ ghost use Rattle.lx_cap_lists.specs.Kept.{all_nodes, AllNodes, AreAll, Fits, IsM
 ghost use Rattle.lx_cap_lists.specs.Lists.{family_of};
 ghost use Rattle.lx_cap_lists.specs.Walks.{from, HasCome, StandsAt};
 
-use crate::bits::{has_all, is_set, with};
+use crate::bits::has_all;
 use crate::entry::{Entry, atom_behind, sooner};
 use crate::holder::{Holder, InReach, asked_for, counts, principal_of};
 use crate::pool::Pool;
+use lx_cap_nodes::bits::{is_set, with};
 use lx_cap_nodes::{Family, ListName};
 use lx_caps::{Atom, Principal, Steps, earlier, follows, is_same};
 use std::sync::ledger::Ledger;

@@ -1,6 +1,7 @@
 //! Runs of bits in masks of 64.
 ghost use Rattle.std.specs.Prelude.{◌≡◌, ℕ, ◌<◌, ◌≤◌, true};
-ghost use Rattle.lx_cap_lists.specs.Mask.{is_set, IsNextSet};
+ghost use Rattle.lx_cap_lists.specs.Mask.{IsNextSet};
+ghost use Rattle.lx_cap_nodes.specs.Bits.{is_set};
 
 /// The place of the first bit from a place on that is set.
 pub(crate) fn next_set(mask: u64, place: u64) -> Option<u64>

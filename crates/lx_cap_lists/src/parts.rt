@@ -7,30 +7,16 @@ ghost use Rattle.lx_cap_lists.specs.Entries.{bit_among};
 ghost use Rattle.lx_cap_nodes.specs.declared.pool.ListName.{ListName};
 ghost use Rattle.lx_cap_lists.specs.declared.entry.Entry.{Entry};
 ghost use Rattle.lx_cap_lists.specs.Kept.{AllNodes, AreAll, FitsParts, Respects};
-ghost use Rattle.lx_cap_lists.specs.Tables.{count_in, part_list, work_in};
+ghost use Rattle.lx_cap_lists.specs.Tables.{count_in, work_in};
+ghost use Rattle.lx_cap_nodes.specs.Pieces.{part_list};
 
 use crate::entry::{Entry, Spot};
 use crate::holder::Holder;
 use crate::lists::{give, take};
-use crate::piece::{PART, parts_end, piece_bits, piece_of};
 use crate::pool::Pool;
+use lx_cap_nodes::{PART, list_of_part, parts_end, piece_bits, piece_of};
 use lx_caps::Steps;
 use std::sync::ledger::Ledger;
-
-/// The number of a part's list, where the part lies in memory.
-pub fn list_of_part(part: u64) -> Option<u64>
-    ensures { result ≡ part_list part }
-{
-    if 0x40000 <= part && part < 0x44000 {
-        Some(part - 0x40000)
-    } else if 0x80000 <= part && part < 0x84000 {
-        Some(part - 0x80000 + 0x4000)
-    } else if 0xc0000 <= part && part < 0xc4000 {
-        Some(part - 0xc0000 + 0x8000)
-    } else {
-        None
-    }
-}
 
 /// Takes the bytes of a range in one part from everyone.
 fn take_part<L: Ledger>(pool: &mut Pool, at: u64, size: u64, part: u64, steps: &mut Steps<L>)

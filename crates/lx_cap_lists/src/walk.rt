@@ -11,12 +11,10 @@ ghost use Rattle.lx_cap_lists.specs.Walk.{HasWalked};
 use crate::PartBytes;
 use crate::mask::{next_set, run_end};
 use crate::runs::{Span, put_run, put_span};
+use lx_cap_nodes::PART;
 use lx_caps::Cap;
 use lx_words::Memory;
 use std::alloc::Global;
-
-/// How many bytes a part has.
-const PART: u64 = 64;
 
 /// How far a walk has come: the range that may go on, and the bytes of the part that it stands at.
 #[derive(Clone, Copy)]

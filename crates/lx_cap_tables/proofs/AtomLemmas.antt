@@ -11,13 +11,14 @@ use Rattle.lx_caps.specs.declared.Cap.TheVariants as cap
 use Rattle.lx_caps.specs.History.{has}
 use Rattle.lx_cap_nodes.specs.Words.{nodes_at}
 use Rattle.lx_cap_lists.specs.declared.entry.Entry.{Entry}
-use Rattle.lx_cap_lists.specs.Bits.{is_set}
+use Rattle.lx_cap_nodes.specs.Bits.{is_set}
 use Rattle.lx_cap_lists.specs.Entries.{HasBits, bit_among, cut_all}
-use Rattle.lx_cap_lists.specs.Tables.{Key, same_key, call_key, ref_key, place_in, with_key, or_with, part_list, behind_parts, place_of, bit_of, shown_at, AreEmpty}
+use Rattle.lx_cap_lists.specs.Tables.{Key, same_key, call_key, ref_key, place_in, with_key, or_with, behind_parts, place_of, bit_of, shown_at, AreEmpty}
+use Rattle.lx_cap_nodes.specs.Pieces.{part_list}
 use Rattle.lx_cap_lists.proofs.BitLemmas.{bit_cut}
 use Rattle.lx_cap_lists.proofs.KeyLemmas.{same_self, found_last, found_before, not_last, one_key}
 use Rattle.lx_cap_lists.proofs.NodeLemmas.{one_mask}
-use Rattle.lx_cap_lists.proofs.PartLemmas.{list_below}
+use Rattle.lx_cap_nodes.proofs.PartLists.{list_below}
 use Rattle.lx_cap_lists.proofs.KeyPlaces.{behind_far, same_parts}
 use Rattle.lx_cap_lists.proofs.PlacesWithin.{behind_within}
 

@@ -15,17 +15,18 @@ use Rattle.lx_cap_nodes.specs.Words.{nodes_at}
 use Rattle.lx_cap_lists.specs.declared.entry.Entry.{Entry}
 use Rattle.lx_cap_lists.specs.declared.holder.Holder.{Holder}
 use Rattle.lx_cap_lists.specs.declared.holder.Holder.TheVariants.{Keeper, Borrower}
-use Rattle.lx_cap_lists.specs.Bits.{is_set}
+use Rattle.lx_cap_nodes.specs.Bits.{is_set}
 use Rattle.lx_cap_lists.specs.Entries.{is_holder, bit_among}
 use Rattle.lx_cap_lists.specs.Holders.{had, left_by, open_count, same_holder}
 use Rattle.lx_cap_lists.specs.Kept.{AreNodes, AllNodes}
-use Rattle.lx_cap_lists.specs.Tables.{Key, Shows, shown_at, part_list, behind_parts, place_in, place_of, bit_of, call_key, ref_key, count_in, work_in, cap_work}
+use Rattle.lx_cap_lists.specs.Tables.{Key, Shows, shown_at, behind_parts, place_in, place_of, bit_of, call_key, ref_key, count_in, work_in, cap_work}
+use Rattle.lx_cap_nodes.specs.Pieces.{part_list}
 use Rattle.lx_cap_tables.specs.Work.{is_among, and_one, count_of, holders, has_now, has_in_part, parts_and_pairs, strip_bound}
 use Rattle.lx_cap_tables.proofs.Below.{some_from}
 use Rattle.lx_cap_tables.proofs.Few.{added, added_self, few, ArePassing}
 use Rattle.lx_cap_lists.proofs.BitLemmas.{same_is}
 use Rattle.lx_cap_lists.proofs.NodeLemmas.{width_part, width_behind}
-use Rattle.lx_cap_lists.proofs.PartLemmas.{list_below}
+use Rattle.lx_cap_nodes.proofs.PartLists.{list_below}
 use Rattle.lx_cap_tables.proofs.TieLemmas.{bit_there}
 use Rattle.lx_caps.proofs.Tests.{byte_of}
 use Rattle.lx_cap_lists.proofs.KeyPlaces.{behind_far}

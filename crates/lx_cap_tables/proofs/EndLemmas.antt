@@ -12,7 +12,7 @@ use Rattle.lx_cap_nodes.specs.Words.{nodes_at, nodes_of, PoolLaws}
 use Rattle.lx_cap_lists.specs.declared.entry.Entry.{Entry}
 use Rattle.lx_cap_lists.specs.declared.holder.Holder.{Holder}
 use Rattle.lx_cap_lists.specs.declared.holder.Holder.TheVariants.{Keeper, Borrower}
-use Rattle.lx_cap_lists.specs.Bits.{is_set}
+use Rattle.lx_cap_nodes.specs.Bits.{is_set}
 use Rattle.lx_cap_lists.specs.Entries.{gives_bit, bit_among}
 use Rattle.lx_cap_lists.specs.Holders.{left_by}
 use Rattle.lx_cap_lists.specs.Kept.{all_nodes, AreAll, AreEnded, StayBut}

@@ -21,12 +21,13 @@ use Rattle.lx_cap_lists.specs.declared.entry.Spot.{Spot}
 use Rattle.lx_cap_lists.specs.declared.entry.Spot.TheVariants as spot
 use Rattle.lx_cap_lists.specs.declared.holder.Holder.{Holder}
 use Rattle.lx_cap_lists.specs.declared.holder.Holder.TheVariants.{Keeper, Borrower}
-use Rattle.lx_cap_lists.specs.Bits.{is_set}
+use Rattle.lx_cap_nodes.specs.Bits.{is_set}
 use Rattle.lx_cap_lists.specs.Entries.{is_holder}
 use Rattle.lx_cap_lists.specs.Holders.{had, left_by, open_count, same_holder}
 use Rattle.lx_cap_lists.specs.Kept.{AreAll, IsMask, width_of, AreNodes, AllNodes}
 use Rattle.lx_cap_lists.specs.Loans.{loans_of, is_on}
-use Rattle.lx_cap_lists.specs.Tables.{Key, Shows, loan_key, holder_key, place_in, part_list, place_of_spot, call_key, ref_key, is_in_order, count_in, loans_work}
+use Rattle.lx_cap_lists.specs.Tables.{Key, Shows, loan_key, holder_key, place_in, place_of_spot, call_key, ref_key, is_in_order, count_in, loans_work}
+use Rattle.lx_cap_nodes.specs.Pieces.{part_list}
 use Rattle.lx_cap_tables.specs.Work.{is_among, and_one, count_of, same_spot, parts_from, spots_of, Pair, same_pair, and_each, lent_pairs, has_now, has_at, is_lent, loans_and_pairs, shut_bound}
 use Rattle.lx_cap_tables.proofs.Below.{some_from}
 use Rattle.lx_cap_lists.proofs.BitLemmas.{same_is}
@@ -35,7 +36,7 @@ use Rattle.lx_cap_tables.proofs.EndLemmas.{on_loan}
 use Rattle.lx_cap_lists.proofs.KeyLemmas.{one_key}
 use Rattle.lx_cap_tables.proofs.Few.{added, added_self, few, ArePassing}
 use Rattle.lx_cap_lists.proofs.NodeLemmas.{width_part, width_behind}
-use Rattle.lx_cap_lists.proofs.PartLemmas.{list_below}
+use Rattle.lx_cap_nodes.proofs.PartLists.{list_below}
 use Rattle.lx_cap_tables.proofs.TieLemmas.{in_place, in_owner, value_place}
 use Rattle.lx_caps.proofs.Tests.{byte_of}
 use Rattle.lx_cap_lists.proofs.KeyPlaces.{behind_far}

@@ -15,7 +15,7 @@ use Rattle.lx_cap_nodes.specs.Words.{names, nodes_at, value_at, value_in, PoolLa
 use Rattle.lx_cap_lists.specs.declared.entry.Entry.{Entry}
 use Rattle.lx_cap_lists.specs.declared.entry.Spot.{Spot}
 use Rattle.lx_cap_lists.specs.declared.entry.Spot.TheVariants as spot
-use Rattle.lx_cap_lists.specs.Bits.{is_set}
+use Rattle.lx_cap_nodes.specs.Bits.{is_set}
 use Rattle.lx_cap_lists.specs.Entries.{gives_bit, bit_among}
 use Rattle.lx_cap_lists.specs.declared.holder.Holder.{Holder}
 use Rattle.lx_cap_lists.specs.declared.holder.Holder.TheVariants.{Keeper, Borrower}
@@ -25,10 +25,11 @@ use Rattle.lx_cap_lists.specs.Lists.{some_below}
 use Rattle.lx_cap_lists.specs.Loans.{is_open, loans_of}
 use Rattle.lx_cap_lists.specs.Owned.{AllFit, given_in, lent_atom, listed_atom}
 use Rattle.lx_cap_lists.specs.Kept.{all_nodes, AreAll}
-use Rattle.lx_cap_lists.specs.Tables.{Key, owner_key, loan_key, holder_key, call_key, ref_key, place_in, part_list, behind_parts, place_of, place_of_spot, bit_of, shown_at, is_place, is_in_order}
+use Rattle.lx_cap_lists.specs.Tables.{Key, owner_key, loan_key, holder_key, call_key, ref_key, place_in, behind_parts, place_of, place_of_spot, bit_of, shown_at, is_place, is_in_order}
+use Rattle.lx_cap_nodes.specs.Pieces.{part_list}
 use Rattle.lx_cap_tables.proofs.Below.{some_from, some_inside}
 use Rattle.lx_cap_lists.proofs.KeyLemmas.{one_key}
-use Rattle.lx_cap_lists.proofs.PartLemmas.{one_part, list_below, part_small}
+use Rattle.lx_cap_nodes.proofs.PartLists.{one_part, list_below, part_small}
 use Rattle.lx_cap_lists.specs.declared.holder.Holder.{Holder}
 use Rattle.lx_caps.proofs.Principals.{same_principal_is}
 use Rattle.lx_cap_lists.proofs.KeyPlaces.{behind_far}

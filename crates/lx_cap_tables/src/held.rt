@@ -14,7 +14,8 @@ ghost use Rattle.lx_cap_lists.specs.Kept.{AreAll};
 ghost use Rattle.lx_cap_lists.specs.Lists.{some_below};
 ghost use Rattle.lx_cap_lists.specs.Loans.{loans_of};
 ghost use Rattle.lx_cap_lists.specs.Owned.{AllFit, lent_atom, listed_atom, owned_from};
-ghost use Rattle.lx_cap_lists.specs.Tables.{behind_parts, bit_of, HoldsPart, is_in_order, owner_key, part_list, place_in, place_of, shown_at, shown_cap};
+ghost use Rattle.lx_cap_lists.specs.Tables.{behind_parts, bit_of, HoldsPart, is_in_order, owner_key, place_in, place_of, shown_at, shown_cap};
+ghost use Rattle.lx_cap_nodes.specs.Pieces.{part_list};
 
 use crate::caps::list_of_key;
 use crate::loans::THREADS;

@@ -15,9 +15,10 @@ use Rattle.lx_caps.specs.History.{History, has, same_principal}
 use Rattle.lx_caps.specs.Writers.{is_writer}
 use Rattle.lx_cap_nodes.specs.Words.{nodes_at}
 use Rattle.lx_writer_sets.specs.declared.entry.Entry.{Entry}
-use Rattle.lx_writer_sets.specs.Bits.{is_set}
+use Rattle.lx_cap_nodes.specs.Bits.{is_set}
 use Rattle.lx_writer_sets.specs.Nodes.{has_writer, AreNodes, AllNodes}
-use Rattle.lx_writer_sets.specs.Sets.{part_list, is_given, is_given_at, is_recorded, Records, count_in}
+use Rattle.lx_writer_sets.specs.Sets.{is_given, is_given_at, is_recorded, Records, count_in}
+use Rattle.lx_cap_nodes.specs.Pieces.{part_list}
 use Rattle.lx_writer_sets.specs.Work.{some_below, is_among, and_one, count_of, receivers, writes_part_of, pairs, look_bound, note_bound}
 use Rattle.lx_writer_sets.proofs.Few.{added, added_self, few, ArePassing}
 use Rattle.lx_writer_sets.proofs.GivenLemmas.{by_writer}

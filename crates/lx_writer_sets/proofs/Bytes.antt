@@ -3,8 +3,8 @@ use Rattle.std.proofs.Common.{◌≡◌, ◌∙◌, inl, inr, refl, sym, ap, sub
 use Rattle.std.proofs.lemmas.Bool.{cases_Bool}
 use Rattle.std.proofs.lemmas.Bool.Decides.{nat_tests}
 use Rattle.lx_caps.specs.Regions.{covers}
-use Rattle.lx_writer_sets.specs.Bits.{is_set}
-use Rattle.lx_caps.proofs.Tests.{both_zeroed}
+use Rattle.lx_cap_nodes.specs.Bits.{is_set}
+use Rattle.lx_cap_nodes.proofs.Ranges.{both_zeroed}
 
 -- a byte that its writer lost
 lost_at : (s o e : Bool) → (e ≡ true → o ≡ false) → (s && not e) ≡ (s && (not e || o))

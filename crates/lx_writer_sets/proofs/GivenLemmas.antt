@@ -2,18 +2,15 @@
 use Rattle.std.proofs.Common.{◌≡◌, ◌∙◌, refl, sym, ap, ℕ, Bool, true, false, ◌&&◌, ◌||◌, nat_eq, cond, List, [], ◌∷◌, ◌++◌, arith}
 use Rattle.std.proofs.lemmas.Bool.Decides.{nat_tests}
 use Rattle.std.proofs.lemmas.List.Folds.{list_any-append}
-use Rattle.std.proofs.lemmas.Nat.Bits.{bit_at-zero}
 use Rattle.lx_words.proofs.Tests.{and_false, or_false, or_swap}
 use Rattle.lx_caps.specs.declared.Principal.{Principal}
 use Rattle.lx_caps.specs.History.{same_principal}
 use Rattle.lx_writer_sets.specs.declared.entry.Entry.{Entry}
-use Rattle.lx_writer_sets.specs.Bits.{is_set}
+use Rattle.lx_cap_nodes.specs.Bits.{is_set}
 use Rattle.lx_writer_sets.specs.Nodes.{with_mask, put_node}
 use Rattle.lx_writer_sets.specs.Sets.{is_given}
 use Rattle.lx_caps.proofs.Principals.{same_principal_is}
-
-pub none_set : (k : ℕ) → is_set 0 k ≡ false
-none_set k = ap (λ n. nat_eq n 1) (bit_at-zero k)
+use Rattle.lx_cap_nodes.proofs.Masks.{none_set}
 
 -- a node with more bits
 wider : (s v m r t : Bool) → t ≡ (v || m) → ((s && t) || r) ≡ ((s && m) || ((s && v) || r))

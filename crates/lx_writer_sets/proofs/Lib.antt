@@ -1,6 +1,4 @@
-pub mod Masks
 pub mod Bytes
-pub mod Ranges
 pub mod Lists
 pub mod Slots
 pub mod WalkLemmas

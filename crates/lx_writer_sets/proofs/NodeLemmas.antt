@@ -11,10 +11,11 @@ use Rattle.lx_caps.specs.declared.Principal.{Principal}
 use Rattle.lx_caps.specs.History.{same_principal}
 use Rattle.lx_cap_nodes.specs.Words.{nodes_at}
 use Rattle.lx_writer_sets.specs.declared.entry.Entry.{Entry}
-use Rattle.lx_writer_sets.specs.Bits.{is_set, is_marked}
+use Rattle.lx_writer_sets.specs.Bits.{is_marked}
+use Rattle.lx_cap_nodes.specs.Bits.{is_set}
 use Rattle.lx_writer_sets.specs.Nodes.{has_writer, with_mask, HasBit, AreNodes, AllNodes, has_nodes, AreMarked}
 use Rattle.lx_writer_sets.specs.Sets.{is_given}
-use Rattle.lx_writer_sets.proofs.GivenLemmas.{none_set}
+use Rattle.lx_cap_nodes.proofs.Masks.{none_set}
 use Rattle.lx_caps.proofs.Tests.{and_yes}
 use Rattle.lx_writer_sets.proofs.SlotMasks.{bit_is_none}
 

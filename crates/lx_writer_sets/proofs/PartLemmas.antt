@@ -6,31 +6,13 @@ use Rattle.lx_caps.specs.declared.Principal.{Principal}
 use Rattle.lx_caps.specs.History.{same_principal}
 use Rattle.lx_caps.specs.Regions.{covers, mapped}
 use Rattle.lx_cap_nodes.specs.Words.{nodes_at}
-use Rattle.lx_writer_sets.specs.declared.piece.Piece.{Piece}
+use Rattle.lx_cap_nodes.specs.declared.piece.Piece.{Piece}
 use Rattle.lx_writer_sets.specs.declared.entry.Entry.{Entry}
-use Rattle.lx_writer_sets.specs.Bits.{is_set}
-use Rattle.lx_writer_sets.specs.Sets.{lies_in, part_list, is_given, is_given_at, is_recorded}
+use Rattle.lx_cap_nodes.specs.Bits.{is_set}
+use Rattle.lx_writer_sets.specs.Sets.{is_given, is_given_at, is_recorded}
+use Rattle.lx_cap_nodes.specs.Pieces.{lies_in, part_list}
 use Rattle.lx_caps.proofs.Tests.{not_given}
-
--- the part of a list
-abbrev part_of : ℕ → ℕ
-part_of l = cond (nat_lt l 0x4000) (l + 0x40000) (cond (nat_lt l 0x8000) (l - 0x4000 + 0x80000) (l - 0x8000 + 0xc0000))
-
-inverse_by : (p l : ℕ) (a b c : Bool) → a ≡ (nat_le 0x40000 p && nat_lt p 0x44000) → b ≡ (nat_le 0x80000 p && nat_lt p 0x84000) → c ≡ (nat_le 0xc0000 p && nat_lt p 0xc4000)
-    → cond a (Some (p - 0x40000)) (cond b (Some (p - 0x80000 + 0x4000)) (cond c (Some (p - 0xc0000 + 0x8000)) None)) ≡ Some l → (part_of l ≡ p) × (l < 0xc000)
-inverse_by p l true b c ea eb ec is = let at : p - 0x40000 ≡ l = cc in (grind (arith, nat_tests, ea, at), grind (arith, nat_tests, ea, at))
-inverse_by p l false true c ea eb ec is = let at : p - 0x80000 + 0x4000 ≡ l = cc in (grind (arith, nat_tests, eb, at), grind (arith, nat_tests, eb, at))
-inverse_by p l false false true ea eb ec is = let at : p - 0xc0000 + 0x8000 ≡ l = cc in (grind (arith, nat_tests, ec, at), grind (arith, nat_tests, ec, at))
-inverse_by p l false false false ea eb ec is = absurd (cc)
-
-inverse : (p l : ℕ) → part_list p ≡ Some l → (part_of l ≡ p) × (l < 0xc000)
-inverse p l is = inverse_by p l (nat_le 0x40000 p && nat_lt p 0x44000) (nat_le 0x80000 p && nat_lt p 0x84000) (nat_le 0xc0000 p && nat_lt p 0xc4000) refl refl refl is
-
-pub one_part : (p q l : ℕ) → part_list p ≡ Some l → part_list q ≡ Some l → p ≡ q
-one_part p q l e f = sym (inverse p l e).0 ∙ (inverse q l f).0
-
-pub list_below : (p l : ℕ) → part_list p ≡ Some l → l < 0xc000
-list_below p l e = (inverse p l e).1
+use Rattle.lx_cap_nodes.proofs.PartLists.{one_part, piece_bit}
 
 in_region : (p at size start low : ℕ) → (nat_le start at && nat_le (at + size) (start + 0x100000)) ≡ true → start ≡ low * 64 → 0 < size → at / 64 ≤ p → p * 64 < at + size → (nat_le low p && nat_lt p (low + 0x4000)) ≡ true
 in_region p at size start low is same some below high =
@@ -64,13 +46,6 @@ has_list p at size is some below high none =
     (nat_le 0x40000 p && nat_lt p 0x44000) (nat_le 0x80000 p && nat_lt p 0x84000) (nat_le 0xc0000 p && nat_lt p 0xc4000)
     (λ e. in_region p at size 0x1000000 0x40000 e refl some below high) (λ e. in_region p at size 0x2000000 0x80000 e refl some below high) (λ e. in_region p at size 0x3000000 0xc0000 e refl some below high) regions in
     none_by (nat_le 0x40000 p && nat_lt p 0x44000) (nat_le 0x80000 p && nat_lt p 0x84000) (nat_le 0xc0000 p && nat_lt p 0xc4000) (p - 0x40000) (p - 0x80000 + 0x4000) (p - 0xc0000 + 0x8000) tests none
-
--- the bits of a piece
-piece_bit : (piece : Piece) (part at size b : ℕ) (t : Bool) → piece.part ≡ part → lies_in piece b ≡ (covers at size b && nat_eq part (b / 64)) → nat_eq part (b / 64) ≡ true
-    → t ≡ (nat_le piece.from (b % 64) && nat_lt (b % 64) piece.to) → t ≡ (covers at size b && nat_eq part (b / 64))
-piece_bit piece part at size b t same lies is bit =
-    let here : nat_eq piece.part (b / 64) ≡ true = ap (λ p. nat_eq p (b / 64)) same ∙ is in
-    bit ∙ (sym (ap (λ c. c && (nat_le piece.from (b % 64) && nat_lt (b % 64) piece.to)) here) ∙ lies)
 
 not_lost : (r c e o : Bool) → e ≡ false → r ≡ (r && (not (c && e) || o))
 not_lost r true e o is = and_true r ∙ ap (λ (t : Bool). r && (not t || o)) (sym is)

@@ -9,10 +9,9 @@ use Rattle.std.proofs.lemmas.Nat.Bits.{bit_at-lt, bit_at-zero, bit_at_above, sam
 use Rattle.lx_words.proofs.Tests.{eq_self, first_of, second_of}
 use Rattle.lx_caps.specs.Regions.{covers}
 use Rattle.lx_writer_sets.specs.declared.entry.Entry.{Entry}
-use Rattle.lx_writer_sets.specs.Bits.{is_set}
+use Rattle.lx_cap_nodes.specs.Bits.{is_set}
 use Rattle.lx_writer_sets.specs.Sets.{eight, has_byte, touches, IsSlotMask}
-use Rattle.lx_writer_sets.proofs.GivenLemmas.{none_set}
-use Rattle.lx_writer_sets.proofs.Masks.{set_in_both}
+use Rattle.lx_cap_nodes.proofs.Masks.{none_set, set_in_both}
 
 -- one of the eight that passes
 one_of_eight : (p : ℕ → Bool) → list_any p eight ≡ true → (k : ℕ) × (k < 8) × (p k ≡ true)

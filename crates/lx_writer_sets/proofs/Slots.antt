@@ -9,8 +9,9 @@ use Rattle.lx_caps.specs.History.{History, same_principal}
 use Rattle.lx_caps.specs.Precedence.{IsFirstPrincipal}
 use Rattle.lx_caps.specs.Writers.{is_writer, is_slot_writer}
 use Rattle.lx_cap_nodes.specs.Words.{nodes_at}
-use Rattle.lx_writer_sets.specs.Bits.{is_set}
-use Rattle.lx_writer_sets.specs.Sets.{eight, has_byte, touches, part_list, is_given, is_given_at, is_recorded, Records, writes_in, writes_part, IsNobody, IsFirstWriter}
+use Rattle.lx_cap_nodes.specs.Bits.{is_set}
+use Rattle.lx_writer_sets.specs.Sets.{eight, has_byte, touches, is_given, is_given_at, is_recorded, Records, writes_in, writes_part, IsNobody, IsFirstWriter}
+use Rattle.lx_cap_nodes.specs.Pieces.{part_list}
 use Rattle.lx_writer_sets.specs.declared.entry.Entry.{Entry}
 use Rattle.lx_writer_sets.proofs.GivenLemmas.{or_rest}
 use Rattle.lx_writer_sets.proofs.Lists.{and_or}

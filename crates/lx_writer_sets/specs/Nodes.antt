@@ -5,7 +5,8 @@ use Rattle.lx_caps.specs.declared.Principal.{Principal}
 use Rattle.lx_caps.specs.History.{same_principal}
 use Rattle.lx_cap_nodes.specs.Pool.{Pool}
 use Rattle.lx_cap_nodes.specs.Words.{nodes_at}
-use Rattle.lx_writer_sets.specs.Bits.{is_set, is_marked}
+use Rattle.lx_writer_sets.specs.Bits.{is_marked}
+use Rattle.lx_cap_nodes.specs.Bits.{is_set}
 use Rattle.lx_writer_sets.specs.Index.{Key, AreIndexed}
 use Rattle.lx_writer_sets.specs.declared.entry.Entry.{Entry}
 

@@ -1,6 +1,6 @@
 -- Who is recorded as a writer of a byte, by lists of nodes: one list for each part of 64 bytes, in which a node is a writer
 -- and a mask of bytes.
-use Rattle.std.specs.Prelude.{◌≡◌, ℕ, ◌+◌, ◌-◌, ◌*◌, ◌/◌, ◌%◌, ◌<◌, Bool, true, false, ◌&&◌, nat_eq, nat_le, nat_lt, List, [], ◌∷◌, Option, Some, None, length, if◌then◌else◌}
+use Rattle.std.specs.Prelude.{◌≡◌, ℕ, ◌+◌, ◌*◌, ◌/◌, ◌%◌, ◌<◌, Bool, true, false, ◌&&◌, nat_eq, List, [], ◌∷◌, Option, Some, None, length}
 use Rattle.std.specs.List.{list_any}
 use Rattle.lx_caps.specs.declared.Principal.{Principal}
 use Rattle.lx_caps.specs.History.{History, same_principal}
@@ -8,20 +8,9 @@ use Rattle.lx_caps.specs.Precedence.{follows, IsFirstPrincipal}
 use Rattle.lx_caps.specs.Regions.{covers}
 use Rattle.lx_caps.specs.Writers.{is_writer, is_slot_writer}
 use Rattle.lx_cap_nodes.specs.Words.{nodes_at}
-use Rattle.lx_writer_sets.specs.Bits.{is_set}
+use Rattle.lx_cap_nodes.specs.Bits.{is_set}
 use Rattle.lx_writer_sets.specs.declared.entry.Entry.{Entry}
-use Rattle.lx_writer_sets.specs.declared.piece.Piece.{Piece}
-
--- the byte lies in the piece of a part
-abbrev pub lies_in : Piece → ℕ → Bool
-lies_in p b = nat_eq p.part (b / 64) && (nat_le p.from (b % 64) && nat_lt (b % 64) p.to)
-
--- the number of a part's list, where the part lies in memory
-abbrev pub part_list : ℕ → Option ℕ
-part_list p =
-    if nat_le 0x40000 p && nat_lt p 0x44000
-    then Some (p - 0x40000)
-    else (if nat_le 0x80000 p && nat_lt p 0x84000 then Some (p - 0x80000 + 0x4000) else (if nat_le 0xc0000 p && nat_lt p 0xc4000 then Some (p - 0xc0000 + 0x8000) else None))
+use Rattle.lx_cap_nodes.specs.Pieces.{part_list}
 
 -- some node says that the principal is a writer of the byte at this place of the part
 abbrev pub is_given : List (ℕ × Entry) → ℕ → Principal → Bool

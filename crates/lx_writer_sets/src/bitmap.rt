@@ -4,9 +4,9 @@ ghost use Rattle.lx_cap_nodes.specs.Words.{nodes_at};
 ghost use Rattle.lx_writer_sets.specs.Bits.{is_marked};
 ghost use Rattle.lx_writer_sets.specs.Nodes.{has_nodes};
 
-use crate::bits::{between, is_set, with, without};
 use crate::chain::Pool;
 use lx_cap_nodes::ListName;
+use lx_cap_nodes::bits::{between, is_set, with, without};
 use lx_words::Memory;
 
 /// How many words of 64 bits there are for the parts of memory.

@@ -6,7 +6,7 @@ ghost use Rattle.lx_caps.specs.History.{History, owns, same_principal};
 ghost use Rattle.lx_caps.specs.Precedence.{IsFirstPrincipal};
 ghost use Rattle.indexmap.specs.IndexMap.{spare};
 ghost use Rattle.lx_cap_nodes.specs.Words.{is_live, nodes_at, pool_with, value_in};
-ghost use Rattle.lx_writer_sets.specs.Bits.{is_set};
+ghost use Rattle.lx_cap_nodes.specs.Bits.{is_set};
 ghost use Rattle.lx_writer_sets.specs.declared.entry.Entry.{Entry};
 ghost use Rattle.lx_writer_sets.specs.Index.{AreIndexed};
 ghost use Rattle.lx_writer_sets.specs.Nodes.{AllNodes, HasBit, has_nodes, put_node, with_mask};
@@ -14,11 +14,10 @@ ghost use Rattle.lx_writer_sets.specs.Sets.{IsNobody, IsSomePrincipal, is_given,
 ghost use Rattle.lx_writer_sets.specs.Walks.{from, HasCome, StandsAt};
 
 use crate::PrincipalTest;
-use crate::bits::with;
 use crate::entry::{Entry, SlotPart, kept_mask, touches, writer_by};
 use crate::index::{Table, key_of, node_at, put, remove};
-use crate::piece::Piece;
-use lx_cap_nodes::{Family, ListName, NodePool};
+use lx_cap_nodes::bits::with;
+use lx_cap_nodes::{Family, ListName, NodePool, Piece};
 use lx_caps::{CapStore, Principal, Steps, earlier};
 use std::sync::ledger::Ledger;
 

@@ -4,12 +4,12 @@ ghost use Rattle.lx_caps.specs.declared.Principal.{Principal};
 ghost use Rattle.lx_caps.specs.declared.Atom.TheVariants.{Byte};
 ghost use Rattle.lx_caps.specs.History.{History, owns, same_principal};
 ghost use Rattle.lx_caps.specs.Precedence.{is_found};
-ghost use Rattle.lx_writer_sets.specs.Bits.{is_set};
+ghost use Rattle.lx_cap_nodes.specs.Bits.{is_set};
 ghost use Rattle.lx_writer_sets.specs.Sets.{IsSlotMask, touches};
 
 use crate::PrincipalTest;
-use crate::bits::{between, is_set, without};
-use crate::piece::{PART, Piece};
+use lx_cap_nodes::bits::{between, is_set, without};
+use lx_cap_nodes::{PART, Piece};
 use lx_caps::{CapStore, Principal, owns_byte};
 
 /// The bytes of a part, by a bit for each, that a principal may have written.

@@ -34,14 +34,12 @@
 
 mod behind;
 mod bitmap;
-mod bits;
 mod chain;
 mod entry;
 mod index;
 mod laws;
 mod noted;
 mod parts;
-mod piece;
 mod principal_test;
 mod recorded;
 mod sets;

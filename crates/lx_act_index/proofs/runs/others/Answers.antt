@@ -1,5 +1,5 @@
 use Rattle.std.proofs.Common.{◌∙◌, ◌&&◌, not, ap, arith}
-use Rattle.lx_cap_lists.specs.Bits.{is_set}
+use Rattle.lx_cap_nodes.specs.Bits.{is_set}
 use Rattle.lx_cap_lists.proofs.BitLemmas.{set_left}
 use Rattle.lx_act_index.proofs.RunLemmas.{in_whole}
 use Rattle.lx_act_index.proofs.runs.others.Goals as goal

@@ -1,5 +1,5 @@
 use Rattle.std.proofs.Common.{◌≡◌, ◌+◌, ◌∙◌, refl, sym, ap, subst, length, take, arith}
-use Rattle.lx_cap_lists.specs.Tables.{part_list}
+use Rattle.lx_cap_nodes.specs.Pieces.{part_list}
 use Rattle.lx_act_index.specs.Table.{ArePut}
 use Rattle.lx_act_index.proofs.TableLemmas.{popped, put_more}
 use Rattle.lx_act_index.proofs.table.put_lines.Goals as goal

@@ -4,10 +4,11 @@ use Rattle.lx_cap_nodes.specs.Words.{value_in}
 use Rattle.lx_cap_lists.specs.declared.entry.Entry.{Entry}
 use Rattle.lx_cap_lists.specs.declared.holder.Holder.{Holder}
 use Rattle.lx_cap_lists.specs.declared.holder.Holder.TheVariants.{Keeper}
-use Rattle.lx_cap_lists.specs.Bits.{is_set}
+use Rattle.lx_cap_nodes.specs.Bits.{is_set}
 use Rattle.lx_cap_lists.specs.Entries.{bit_among}
 use Rattle.lx_cap_lists.specs.Holders.{counts}
-use Rattle.lx_cap_lists.proofs.BitLemmas.{none_set, same_is}
+use Rattle.lx_cap_lists.proofs.BitLemmas.{same_is}
+use Rattle.lx_cap_nodes.proofs.Masks.{none_set}
 use Rattle.lx_cap_lists.proofs.HasLemmas.{bit_there}
 use Rattle.lx_cap_lists.proofs.TakenLemmas.{same_some}
 use Rattle.lx_cap_lists.proofs.lists.kept_bits.Goals as goal

@@ -5,7 +5,7 @@ use Rattle.lx_cap_lists.specs.Holders.{counts}
 use Rattle.lx_cap_lists.specs.Entries.{bit_among}
 use Rattle.lx_cap_lists.specs.Walks.{from}
 use Rattle.lx_cap_lists.proofs.WalkLemmas.{begins}
-use Rattle.lx_cap_lists.proofs.BitLemmas.{none_set}
+use Rattle.lx_cap_nodes.proofs.Masks.{none_set}
 use Rattle.lx_cap_lists.proofs.lists.reached.Goals as goal
 
 pub loop-node-init : goal.loop-node-init

@@ -1,7 +1,7 @@
 use Rattle.std.proofs.Common.{◌≡◌, ℕ, ◌||◌, length}
 use Rattle.lx_cap_lists.specs.Holders.{counts}
 use Rattle.lx_cap_nodes.specs.Words.{nodes_at}
-use Rattle.lx_cap_lists.specs.Bits.{is_set}
+use Rattle.lx_cap_nodes.specs.Bits.{is_set}
 use Rattle.lx_cap_lists.specs.Entries.{bit_among}
 use Rattle.lx_cap_lists.specs.Walks.{from, HasCome}
 use Rattle.lx_cap_lists.proofs.lists.reached.Given as goal

@@ -3,7 +3,7 @@ use Rattle.lx_cap_nodes.specs.declared.pool.Family.TheVariants as family
 use Rattle.lx_cap_nodes.specs.Pool.{Pool}
 use Rattle.lx_cap_nodes.specs.Words.{nodes_at}
 use Rattle.lx_cap_lists.specs.declared.entry.Entry.{Entry}
-use Rattle.lx_cap_lists.specs.Bits.{is_set}
+use Rattle.lx_cap_nodes.specs.Bits.{is_set}
 use Rattle.lx_cap_lists.specs.Entries.{with_mask}
 use Rattle.lx_cap_lists.specs.Kept.{AreNodes, width_of}
 use Rattle.lx_cap_lists.proofs.NodeLemmas.{nodes_at_one, nodes_widened}

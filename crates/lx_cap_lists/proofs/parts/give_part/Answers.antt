@@ -2,11 +2,11 @@ use Rattle.std.proofs.Common.{◌≡◌, ◌≢◌, ◌<◌, ◌/◌, ◌%◌, �
 use Rattle.std.proofs.lemmas.Bool.Decides.{nat_tests}
 use Rattle.lx_caps.specs.Regions.{covers}
 use Rattle.lx_cap_nodes.specs.Words.{nodes_at}
-use Rattle.lx_cap_lists.specs.Bits.{is_set}
+use Rattle.lx_cap_nodes.specs.Bits.{is_set}
 use Rattle.lx_cap_lists.specs.Entries.{bit_among}
-use Rattle.lx_cap_lists.specs.Tables.{part_list}
+use Rattle.lx_cap_nodes.specs.Pieces.{part_list}
 use Rattle.lx_cap_lists.specs.Kept.{FitsParts, IsMask}
-use Rattle.lx_cap_lists.proofs.PartLemmas.{one_part, list_below, piece_bit}
+use Rattle.lx_cap_nodes.proofs.PartLists.{one_part, list_below, piece_bit}
 use Rattle.lx_cap_lists.proofs.NodeLemmas.{width_part, high_none}
 use Rattle.lx_cap_lists.proofs.parts.give_part.Goals as goal
 use Rattle.lx_caps.proofs.Tests.{ne_from_test, not_given}

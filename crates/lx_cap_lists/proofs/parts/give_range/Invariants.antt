@@ -4,8 +4,8 @@ use Rattle.lx_cap_lists.specs.declared.entry.Entry.{Entry}
 use Rattle.lx_cap_lists.specs.Entries.{bit_among}
 use Rattle.lx_cap_nodes.specs.declared.pool.ListName.{ListName}
 use Rattle.lx_cap_lists.specs.Kept.{AllNodes, AreAll, FitsParts, Respects}
-use Rattle.lx_cap_lists.specs.Tables.{part_list}
-use Rattle.lx_cap_lists.proofs.Ranges.{covered}
+use Rattle.lx_cap_nodes.specs.Pieces.{part_list}
+use Rattle.lx_cap_nodes.proofs.Ranges.{covered}
 use Rattle.lx_cap_lists.specs.declared.holder.Holder.{Holder}
 use Rattle.lx_cap_lists.proofs.parts.give_range.Given as goal
 

@@ -1,13 +1,14 @@
 use Rattle.std.proofs.Common.{◌≡◌, ◌≢◌, ◌<◌, ◌/◌, ◌%◌, ◌^◌, ◌&&◌, not, nat_eq, true, false, Bool, Some, refl, sym, ap, ◌∙◌, subst, arith, eqb-true}
 use Rattle.lx_caps.specs.Regions.{covers}
 use Rattle.lx_cap_nodes.specs.Words.{nodes_at}
-use Rattle.lx_cap_lists.specs.Bits.{is_set}
+use Rattle.lx_cap_nodes.specs.Bits.{is_set}
 use Rattle.lx_cap_lists.specs.Entries.{bit_among}
-use Rattle.lx_cap_lists.specs.Tables.{part_list}
+use Rattle.lx_cap_nodes.specs.Pieces.{part_list}
 use Rattle.lx_cap_lists.specs.Kept.{AreNodes, width_of}
 use Rattle.lx_cap_lists.proofs.NodeLemmas.{nodes_at_one, nodes_cut}
 use Rattle.lx_cap_lists.proofs.BitLemmas.{bit_cut}
-use Rattle.lx_cap_lists.proofs.PartLemmas.{one_part, piece_bit, not_taken}
+use Rattle.lx_cap_lists.proofs.PartLemmas.{not_taken}
+use Rattle.lx_cap_nodes.proofs.PartLists.{one_part, piece_bit}
 use Rattle.lx_cap_lists.proofs.parts.take_part.Goals as goal
 use Rattle.lx_caps.proofs.Tests.{ne_from_test}
 

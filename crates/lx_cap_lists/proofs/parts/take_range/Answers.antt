@@ -1,8 +1,10 @@
 use Rattle.std.proofs.Common.{◌≡◌, ◌≢◌, ◌<◌, ◌+◌, ◌/◌, ◌%◌, ℕ, Some, ◌∙◌, arith}
 use Rattle.lx_cap_nodes.specs.Words.{nodes_at}
 use Rattle.lx_cap_lists.specs.Entries.{bit_among}
-use Rattle.lx_cap_lists.specs.Tables.{part_list, count_in}
-use Rattle.lx_cap_lists.proofs.PartLemmas.{list_below, not_there, taken_more, work_more, same_count}
+use Rattle.lx_cap_lists.specs.Tables.{count_in}
+use Rattle.lx_cap_nodes.specs.Pieces.{part_list}
+use Rattle.lx_cap_lists.proofs.PartLemmas.{taken_more, work_more, same_count}
+use Rattle.lx_cap_nodes.proofs.PartLists.{list_below, not_there}
 use Rattle.lx_cap_lists.proofs.parts.take_range.Goals as goal
 
 pub loop-part-preserved : goal.loop-part-preserved

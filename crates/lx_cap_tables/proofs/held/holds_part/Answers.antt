@@ -3,11 +3,12 @@ use Rattle.std.proofs.lemmas.Bool.{and_parts, and_from}
 use Rattle.lx_words.proofs.Tests.{eq_self}
 use Rattle.lx_cap_lists.specs.Holders.{counts}
 use Rattle.lx_caps.specs.Regions.{covers}
-use Rattle.lx_cap_lists.specs.Bits.{is_set}
+use Rattle.lx_cap_nodes.specs.Bits.{is_set}
 use Rattle.lx_cap_nodes.specs.Words.{nodes_at}
 use Rattle.lx_cap_lists.specs.Entries.{HasBits, bit_among}
-use Rattle.lx_cap_lists.specs.Tables.{shown_at, part_list, HoldsPart}
-use Rattle.lx_cap_lists.proofs.PartLemmas.{piece_bit}
+use Rattle.lx_cap_lists.specs.Tables.{shown_at, HoldsPart}
+use Rattle.lx_cap_nodes.specs.Pieces.{part_list}
+use Rattle.lx_cap_nodes.proofs.PartLists.{piece_bit}
 use Rattle.lx_cap_lists.proofs.HeldLemmas.{some_byte}
 use Rattle.lx_cap_tables.proofs.held.holds_part.Goals as goal
 use Rattle.lx_caps.proofs.Tests.{byte_of}

@@ -1,6 +1,7 @@
 use Rattle.std.proofs.Common.{◌/◌, ◌%◌, sym, arith}
 use Rattle.lx_cap_lists.specs.Holders.{counts}
-use Rattle.lx_cap_lists.specs.Tables.{shown_at, part_list}
+use Rattle.lx_cap_lists.specs.Tables.{shown_at}
+use Rattle.lx_cap_nodes.specs.Pieces.{part_list}
 use Rattle.lx_cap_lists.proofs.HeldLemmas.{each_none, held_all}
 use Rattle.lx_cap_tables.proofs.held.holds_range.Goals as goal
 

@@ -1,7 +1,8 @@
 use Rattle.std.proofs.Common.{◌≡◌, ◌≤◌, ◌+◌, ◌/◌, ◌%◌, true, ℕ}
 use Rattle.lx_cap_lists.specs.Holders.{counts}
-use Rattle.lx_cap_lists.specs.Tables.{shown_at, part_list}
-use Rattle.lx_cap_lists.proofs.Ranges.{covered}
+use Rattle.lx_cap_lists.specs.Tables.{shown_at}
+use Rattle.lx_cap_nodes.specs.Pieces.{part_list}
+use Rattle.lx_cap_nodes.proofs.Ranges.{covered}
 use Rattle.lx_cap_tables.proofs.held.holds_range.Given as goal
 
 abbrev pub invariant-loop-part : goal.invariant-loop-part

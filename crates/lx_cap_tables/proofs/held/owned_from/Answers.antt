@@ -2,9 +2,9 @@ use Rattle.std.proofs.Common.{◌≡◌, Bool, Some, sym, ◌∙◌, subst, arit
 use Rattle.std.proofs.lemmas.Bool.Decides.{nat_tests}
 use Rattle.lx_caps.specs.declared.Atom.{Atom}
 use Rattle.lx_caps.specs.Order.{IsFirst}
-use Rattle.lx_cap_lists.specs.Tables.{part_list}
+use Rattle.lx_cap_nodes.specs.Pieces.{part_list}
 use Rattle.lx_cap_lists.proofs.NearLemmas.{part_is, none_there}
-use Rattle.lx_cap_lists.proofs.PartLemmas.{part_small}
+use Rattle.lx_cap_nodes.proofs.PartLists.{part_small}
 use Rattle.lx_cap_tables.proofs.held.owned_from.Goals as goal
 
 pub first_byte-requires : goal.first_byte-requires

@@ -1,7 +1,7 @@
 use Rattle.std.proofs.Common.{◌&&◌, ◌||◌, sym, ap, ◌∙◌, subst}
 use Rattle.std.proofs.lemmas.Bool.{or_left}
 use Rattle.lx_caps.specs.History.{same_principal}
-use Rattle.lx_writer_sets.specs.Bits.{is_set}
+use Rattle.lx_cap_nodes.specs.Bits.{is_set}
 use Rattle.lx_writer_sets.specs.Nodes.{has_nodes, AreNodes}
 use Rattle.lx_writer_sets.specs.Sets.{is_given}
 use Rattle.lx_writer_sets.proofs.GivenLemmas.{given_wider}

@@ -3,7 +3,7 @@ use Rattle.lx_cap_nodes.specs.declared.pool.Family.TheVariants.{Place}
 use Rattle.lx_cap_nodes.specs.Pool.{Pool}
 use Rattle.lx_cap_nodes.specs.Words.{nodes_at}
 use Rattle.lx_writer_sets.specs.declared.entry.Entry.{Entry}
-use Rattle.lx_writer_sets.specs.Bits.{is_set}
+use Rattle.lx_cap_nodes.specs.Bits.{is_set}
 use Rattle.lx_writer_sets.specs.Nodes.{with_mask}
 use Rattle.lx_writer_sets.proofs.chain.widen.Goals as goal
 
@@ -19,7 +19,7 @@ returns-clause-here c xs ys v is =
     let same : v ≡ c.value.result.now = cc (at.value, c.value.ensures) in (
       c.with.result,
       ap (λ (p : Pool Entry). nodes_at p.places c.args.list) (c.put_mask.ensures v at.value) ∙ at.written (with_mask v c.with.result),
-      λ k. c.with.ensures k ∙ ap (λ (e : Entry). is_set e.mask k || is_set c.args.more k) (sym same),
+      λ k. c.with.ensures.bits k ∙ ap (λ (e : Entry). is_set e.mask k || is_set c.args.more k) (sym same),
     )
 
 pub returns-clause-others : goal.returns-clause-others

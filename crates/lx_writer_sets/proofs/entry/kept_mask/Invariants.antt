@@ -2,7 +2,7 @@
 use Rattle.std.proofs.Common.{◌≡◌, ℕ, ◌+◌, ◌*◌, ◌<◌, ◌≤◌, not, ◌&&◌, ◌||◌, nat_le, nat_lt}
 use Rattle.lx_caps.specs.declared.Atom.TheVariants.{Byte}
 use Rattle.lx_caps.specs.History.{History, owns}
-use Rattle.lx_writer_sets.specs.Bits.{is_set}
+use Rattle.lx_cap_nodes.specs.Bits.{is_set}
 use Rattle.lx_writer_sets.proofs.entry.kept_mask.Given as goal
 
 abbrev pub invariant-loop-place : goal.invariant-loop-place

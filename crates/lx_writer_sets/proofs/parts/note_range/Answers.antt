@@ -2,7 +2,7 @@
 use Rattle.std.proofs.Common.{arith}
 use Rattle.lx_caps.specs.History.{same_principal}
 use Rattle.lx_writer_sets.specs.Sets.{is_recorded}
-use Rattle.lx_writer_sets.proofs.Ranges.{noted_more}
+use Rattle.lx_cap_nodes.proofs.Ranges.{noted_more}
 use Rattle.lx_writer_sets.proofs.parts.note_range.Goals as goal
 
 pub loop-part-preserved : goal.loop-part-preserved

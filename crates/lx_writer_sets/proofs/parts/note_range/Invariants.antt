@@ -4,7 +4,7 @@ use Rattle.lx_caps.specs.declared.Principal.{Principal}
 use Rattle.lx_caps.specs.History.{same_principal}
 use Rattle.lx_writer_sets.specs.Nodes.{is_ready}
 use Rattle.lx_writer_sets.specs.Sets.{is_recorded}
-use Rattle.lx_writer_sets.proofs.Ranges.{covered}
+use Rattle.lx_cap_nodes.proofs.Ranges.{covered}
 use Rattle.lx_writer_sets.proofs.parts.note_range.Given as goal
 
 abbrev pub invariant-loop-part : goal.invariant-loop-part

@@ -3,7 +3,7 @@ use Rattle.std.proofs.Common.{arith}
 use Rattle.lx_caps.specs.declared.Atom.TheVariants.{Byte}
 use Rattle.lx_caps.specs.History.{owns}
 use Rattle.lx_writer_sets.specs.Sets.{is_recorded}
-use Rattle.lx_writer_sets.proofs.Ranges.{zeroed_more}
+use Rattle.lx_cap_nodes.proofs.Ranges.{zeroed_more}
 use Rattle.lx_writer_sets.proofs.parts.zero_range.Goals as goal
 
 pub loop-part-preserved : goal.loop-part-preserved

@@ -5,7 +5,7 @@ use Rattle.lx_caps.specs.declared.Atom.TheVariants.{Byte}
 use Rattle.lx_caps.specs.History.{History, owns}
 use Rattle.lx_writer_sets.specs.Nodes.{is_ready}
 use Rattle.lx_writer_sets.specs.Sets.{is_recorded}
-use Rattle.lx_writer_sets.proofs.Ranges.{covered}
+use Rattle.lx_cap_nodes.proofs.Ranges.{covered}
 use Rattle.lx_writer_sets.proofs.parts.zero_range.Given as goal
 
 abbrev pub invariant-loop-part : goal.invariant-loop-part

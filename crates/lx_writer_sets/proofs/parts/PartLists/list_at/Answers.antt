@@ -1,7 +1,8 @@
 use Rattle.std.proofs.Common.{◌≡◌, ◌<◌, ◌/◌, length, true, false, Some, sym, ap, ◌∙◌, subst}
 use Rattle.lx_cap_nodes.specs.Words.{nodes_at}
 use Rattle.lx_writer_sets.specs.Nodes.{Parts, has_nodes}
-use Rattle.lx_writer_sets.specs.Sets.{is_given_at, part_list}
+use Rattle.lx_writer_sets.specs.Sets.{is_given_at}
+use Rattle.lx_cap_nodes.specs.Pieces.{part_list}
 use Rattle.lx_writer_sets.proofs.NodeLemmas.{in_use, word_within, none_given, marked_is}
 use Rattle.lx_writer_sets.proofs.parts.PartLists.list_at.Goals as goal
 

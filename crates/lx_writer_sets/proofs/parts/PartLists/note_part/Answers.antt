@@ -3,7 +3,8 @@ use Rattle.std.proofs.lemmas.Bool.Decides.{nat_tests}
 use Rattle.lx_caps.specs.History.{same_principal}
 use Rattle.lx_caps.specs.Regions.{covers}
 use Rattle.lx_writer_sets.specs.Nodes.{Parts}
-use Rattle.lx_writer_sets.specs.Sets.{is_recorded, part_list}
+use Rattle.lx_writer_sets.specs.Sets.{is_recorded}
+use Rattle.lx_cap_nodes.specs.Pieces.{part_list}
 use Rattle.lx_writer_sets.proofs.NodeLemmas.{marked_more}
 use Rattle.lx_writer_sets.proofs.PartLemmas.{noted_part}
 use Rattle.lx_writer_sets.proofs.parts.PartLists.note_part.Goals as goal

@@ -4,7 +4,8 @@ use Rattle.std.proofs.lemmas.Bool.{true_from_ne_false}
 use Rattle.lx_words.proofs.Tests.{eq_from_ne}
 use Rattle.lx_caps.specs.declared.Principal.{Principal}
 use Rattle.lx_caps.specs.Writers.{is_slot_writer}
-use Rattle.lx_writer_sets.specs.Sets.{count_in, part_list, writes_part}
+use Rattle.lx_writer_sets.specs.Sets.{count_in, writes_part}
+use Rattle.lx_cap_nodes.specs.Pieces.{part_list}
 use Rattle.lx_writer_sets.proofs.BoundLemmas.{first_within, both_within}
 use Rattle.lx_writer_sets.proofs.Slots.{at_slot, nobody_of, somebody_of, someone, nobody_in_both, one_alone, writer_in_first, writer_in_last}
 use Rattle.lx_writer_sets.proofs.sets.WriterSets.is_clean_counted.Goals as goal

@@ -1,8 +1,9 @@
 //! Masks of 64 bits.
-ghost use Rattle.std.specs.Prelude.{◌≡◌, ◌<◌, ◌≤◌, ℕ, ◌&&◌, ◌||◌, not, nat_eq, nat_le, nat_lt};
-ghost use Rattle.lx_writer_sets.specs.Bits.{is_set};
+ghost use Rattle.std.specs.Prelude.{◌≡◌, ◌<◌, ◌≤◌, ℕ, ◌&&◌, ◌||◌, not, bit_or, nat_eq, nat_le, nat_lt};
+ghost use Rattle.lx_cap_nodes.specs.Bits.{is_set};
 
-pub(crate) fn is_set(mask: u64, place: u64) -> bool
+/// Says whether the bit at a place of a mask is set.
+pub fn is_set(mask: u64, place: u64) -> bool
     requires { place < 64 }
     ensures { result ≡ is_set mask place }
 {
@@ -10,7 +11,7 @@ pub(crate) fn is_set(mask: u64, place: u64) -> bool
 }
 
 /// The mask without one of its bits.
-pub(crate) fn without(mask: u64, place: u64) -> u64
+pub fn without(mask: u64, place: u64) -> u64
     requires { place < 64 }
     ensures { (k : ℕ) → k < 64 → is_set result k ≡ (is_set mask k && not (nat_eq k place)) }
 {
@@ -18,14 +19,15 @@ pub(crate) fn without(mask: u64, place: u64) -> u64
 }
 
 /// The bits of either mask.
-pub(crate) fn with(mask: u64, more: u64) -> u64
-    ensures { (k : ℕ) → is_set result k ≡ (is_set mask k || is_set more k) }
+pub fn with(mask: u64, more: u64) -> u64
+    ensures is { result ≡ bit_or mask more }
+    ensures bits { (k : ℕ) → is_set result k ≡ (is_set mask k || is_set more k) }
 {
     mask | more
 }
 
 /// The bits from one place up to another.
-pub(crate) fn between(from: u64, to: u64) -> u64
+pub fn between(from: u64, to: u64) -> u64
     requires some { from < to }
     requires within { to ≤ 64 }
     ensures { (k : ℕ) → k < 64 → is_set result k ≡ (nat_le from k && nat_lt k to) }

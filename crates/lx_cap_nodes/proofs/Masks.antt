@@ -1,11 +1,31 @@
 -- The bits of masks that are made of others.
-use Rattle.std.proofs.Common.{◌≡◌, ◌∙◌, inl, inr, refl, sym, ap, subst, ℕ, ◌-◌, ◌*◌, ◌/◌, ◌%◌, ◌^◌, ◌<◌, ◌≤◌, Bool, true, false, not, ◌&&◌, ◌||◌, nat_eq, nat_le, nat_lt, bit_and, bit_or, w64, arith}
+use Rattle.std.proofs.Common.{zero, suc, max, min, ◌≡◌, ◌∙◌, inl, inr, refl, sym, ap, subst, ℕ, ◌-◌, ◌*◌, ◌/◌, ◌%◌, ◌^◌, ◌<◌, ◌≤◌, Bool, true, false, not, ◌&&◌, ◌||◌, nat_eq, nat_le, nat_lt, bit_and, bit_or, w64, arith}
 use Rattle.std.specs.Int.{bit_at}
 use Rattle.std.proofs.lemmas.Bool.{cases_Bool, cases_eq}
 use Rattle.std.proofs.lemmas.Bool.Decides.{nat_tests}
-use Rattle.std.proofs.lemmas.Nat.Bits.{bit_at-lt, bit_at_and, bit_at_or, bit_at_clear_same, bit_at_clear_other, bit_at_mask_inside, bit_at_mask_below, bit_at_ones, bit_at_ones_above, ones_shl, ones_shr}
-use Rattle.lx_writer_sets.specs.Bits.{is_set}
-use Rattle.lx_caps.proofs.Tests.{max_one, min_one}
+use Rattle.std.proofs.lemmas.Nat.Bits.{bit_at-zero, bit_at-lt, bit_at_and, bit_at_or, bit_at_clear_same, bit_at_clear_other, bit_at_mask_inside, bit_at_mask_below, bit_at_ones, bit_at_ones_above, ones_shl, ones_shr}
+use Rattle.lx_cap_nodes.specs.Bits.{is_set}
+
+pub none_set : (k : ℕ) → is_set 0 k ≡ false
+none_set k = ap (λ n. nat_eq n 1) (bit_at-zero k)
+
+max_one : (a b : ℕ) → a < 2 → b < 2 → nat_eq (max a b) 1 ≡ (nat_eq a 1 || nat_eq b 1)
+max_one zero zero p q = refl
+max_one zero (suc zero) p q = refl
+max_one (suc zero) zero p q = refl
+max_one (suc zero) (suc zero) p q = refl
+max_one (suc (suc a)) b p q = absurd (omega arith)
+max_one zero (suc (suc b)) p q = absurd (omega arith)
+max_one (suc zero) (suc (suc b)) p q = absurd (omega arith)
+
+min_one : (a b : ℕ) → a < 2 → b < 2 → nat_eq (min a b) 1 ≡ (nat_eq a 1 && nat_eq b 1)
+min_one zero zero p q = refl
+min_one zero (suc zero) p q = refl
+min_one (suc zero) zero p q = refl
+min_one (suc zero) (suc zero) p q = refl
+min_one (suc (suc a)) b p q = absurd (omega arith)
+min_one zero (suc (suc b)) p q = absurd (omega arith)
+min_one (suc zero) (suc (suc b)) p q = absurd (omega arith)
 
 pub set_in_either : (m n k : ℕ) → is_set (bit_or m n) k ≡ (is_set m k || is_set n k)
 set_in_either m n k = ap (λ t. nat_eq t 1) (bit_at_or m n k) ∙ max_one (bit_at m k) (bit_at n k) (bit_at-lt m k) (bit_at-lt n k)

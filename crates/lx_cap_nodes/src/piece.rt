@@ -1,23 +1,23 @@
 //! The parts of 64 bytes, and the pieces of a range in them.
 ghost use Rattle.std.specs.Prelude.{◌≡◌, ◌+◌, ◌*◌, ◌/◌, ◌^◌, ◌<◌, ◌≤◌, ℕ, ◌&&◌, nat_eq, nat_le, nat_lt};
-ghost use Rattle.lx_caps.specs.Regions.{covers};
-ghost use Rattle.lx_writer_sets.specs.Bits.{is_set};
-ghost use Rattle.lx_writer_sets.specs.Sets.{lies_in, part_list};
+ghost use Rattle.lx_cap_nodes.specs.Bits.{is_set};
+ghost use Rattle.lx_cap_nodes.specs.Pieces.{in_range, lies_in, part_list};
 
 use crate::bits::between;
 
-pub(crate) const PART: u64 = 64;
+/// How many bytes a part of memory has.
+pub const PART: u64 = 64;
 
 /// Some bytes of a part: those from one of its places up to another.
 #[derive(Clone, Copy)]
-pub(crate) struct Piece {
-    pub(crate) part: u64,
-    pub(crate) from: u64,
-    pub(crate) to: u64,
+pub struct Piece {
+    pub part: u64,
+    pub from: u64,
+    pub to: u64,
 }
 
 /// The piece of a range in one of the parts that it lies in.
-pub(crate) fn piece_of(at: u64, size: u64, part: u64) -> Piece
+pub fn piece_of(at: u64, size: u64, part: u64) -> Piece
     requires within { at + size + 63 < 2 ^ 64 }
     requires low { at / 64 ≤ part }
     requires high { part * 64 < at + size }
@@ -25,7 +25,7 @@ pub(crate) fn piece_of(at: u64, size: u64, part: u64) -> Piece
     ensures of_the_part { result.part ≡ part }
     ensures from { result.from < result.to }
     ensures to { result.to ≤ 64 }
-    ensures bytes { (b : ℕ) → lies_in result b ≡ (covers at size b && nat_eq part (b / 64)) }
+    ensures bytes { (b : ℕ) → lies_in result b ≡ (in_range at size b && nat_eq part (b / 64)) }
 {
     let start = part * PART;
     let end = at + size - start;
@@ -37,7 +37,7 @@ pub(crate) fn piece_of(at: u64, size: u64, part: u64) -> Piece
 }
 
 /// The part behind the last one that a range lies in.
-pub(crate) fn parts_end(at: u64, size: u64) -> u64
+pub fn parts_end(at: u64, size: u64) -> u64
     requires { at + size + 63 < 2 ^ 64 }
     ensures { result ≡ (at + size + 63) / 64 }
 {
@@ -45,7 +45,7 @@ pub(crate) fn parts_end(at: u64, size: u64) -> u64
 }
 
 /// A bit for each byte of a piece.
-pub(crate) fn piece_bits(piece: Piece) -> u64
+pub fn piece_bits(piece: Piece) -> u64
     requires some { piece.from < piece.to }
     requires within { piece.to ≤ 64 }
     ensures { (k : ℕ) → k < 64 → is_set result k ≡ (nat_le piece.from k && nat_lt k piece.to) }
@@ -54,7 +54,7 @@ pub(crate) fn piece_bits(piece: Piece) -> u64
 }
 
 /// The number of a part's list, where the part lies in memory.
-pub(crate) fn list_of_part(part: u64) -> Option<u64>
+pub fn list_of_part(part: u64) -> Option<u64>
     ensures { result ≡ part_list part }
 {
     if 0x40000 <= part && part < 0x44000 {
