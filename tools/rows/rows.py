@@ -1,7 +1,7 @@
 """Writes the worked rows of crates/lx_generated_laws over the built-in kernel and interface, from IR and interface texts.
 
-Run it in this folder. The accounts are written out by hand below; `rt check` in crates/lx_generated_laws proves that the
-definitions evaluate to them."""
+Run it in this folder, then `rt fmt` and `rt tidy` in crates/lx_generated_laws, which lay the files out and drop the imports that a row does
+not name. The accounts are written out by hand below; `rt check` there proves that the definitions evaluate to them."""
 import os, sys
 from ir2antt import *
 from if2antt import I, IHEAD
@@ -223,12 +223,17 @@ rows.append(row('generated', 'Twenty generated calls on four threads.', 'gen', [
     [('s', 'call', 0x10060), ('s', 'call', 0x10080), ('s', 'call', 0x10130), ('s', 'call', 0x10140)], []))
 os.makedirs(C + '/src', exist_ok=True)
 only = [r for r in rows if r[0] in sys.argv[1:]] if sys.argv[1:] else rows
-# the modules of linking, of images and of the texts that are brought along are written by hand, behind those of the programs
-others = ''.join(f'pub mod {c}\n' for c in ('LinkCalls', 'LinkFaults', 'LinkOrders', 'LinkedPrograms', 'ImageFaults', 'Images', 'ImageTexts', 'Wrappers', 'Builtin', 'Cases', 'Inputs'))
-open(C + '/specs/Lib.antt', 'w').write('pub mod RowTexts\npub mod ProgramRows\npub mod RowsOfThreads\npub mod Kernel\n' + ''.join(f'pub mod {c}\n' for n, c, t in only) + others)
+# rows of loans are written by hand, as are the modules of linking, of images and of the texts that are brought along
+LOANS = [
+    ('lent_packet', 'LentPacket', 'A packet that is lent to a module for one call: it is not the module\'s in the next one.'),
+    ('borrowed_packet', 'BorrowedPacket', 'A packet that a module gives away while it has it on loan.'),
+]
+shown = [*only, *LOANS]
+others = ('RowTexts', 'ProgramRows', 'RowsOfThreads', 'Kernel', 'Lending', 'LinkCalls', 'LinkFaults', 'LinkOrders', 'LinkedPrograms', 'ImageFaults', 'Images', 'ImageTexts', 'Wrappers', 'Builtin', 'Cases', 'Inputs')
+open(C + '/specs/Lib.antt', 'w').write(''.join(f'pub mod {c}\n' for c in sorted([*others, *(c for n, c, t in shown)])))
 open(C + '/src/programs.rt', 'w').write('//! Worked rows: programs written out, and the accounts that the monitor gives of their runs.\n'
     + 'ghost use Rattle.lx_generated_laws.specs.ProgramRows.{WorkedRows};\nghost use Rattle.lx_generated_laws.specs.RowsOfThreads.{WorkedThreads};\n'
-    + ''.join(f'ghost use Rattle.lx_generated_laws.specs.{c}.{{{c}}};\n' for n, c, t in only)
-    + '\n/// One function: with enough fuel, with too little, and a store past the end of a global.\npub fn worked_rows()\n    ensures { WorkedRows }\n{\n}\n'
-    + '\n/// Two threads that race for a block.\npub fn worked_threads()\n    ensures { WorkedThreads }\n{\n}\n'
-    + ''.join(f'\n/// {t}\npub fn {n}()\n    ensures {{ {c} }}\n{{\n}}\n' for n, c, t in only))
+    + ''.join(f'ghost use Rattle.lx_generated_laws.specs.{c}.{{{c}}};\n' for n, c, t in shown)
+    + '\n/// One function: with enough fuel, with too little, and a store past the end of a global.\npub fn worked_rows()\n    ensures { WorkedRows }\n{}\n'
+    + '\n/// Two threads that race for a block.\npub fn worked_threads()\n    ensures { WorkedThreads }\n{}\n'
+    + ''.join(f'\n/// {t}\npub fn {n}()\n    ensures {{ {c} }}\n{{}}\n' for n, c, t in shown))
