@@ -5,3 +5,4 @@ mod Entering
 mod Holding
 mod MarkAsking
 mod Performing
+mod Tabled

@@ -1,6 +1,6 @@
 //! Laws of the monitor and of images in words of their own, so that a definition that is wrong together with its code breaks one: what requests do to
 //! each byte of memory, what calls enter, who holds what, what actions do to owners, which actions a crossing does, what a report tells, which bytes
-//! a guard is enough for, and for whom a module's text asks.
+//! a guard is enough for, for whom a module's text asks, and which instructions a table decides.
 //!
 //! ```text
 //! effect_laws();
@@ -12,6 +12,8 @@
 //! mark_laws();
 //! // Behind a guard of 8 bytes at 0x2000000 a store of 8 bytes there is asked for the principal on top, and one of 8 bytes at 0x2000004 for
 //! // the kernel, since the guard does not name its last four bytes.
+//! table_laws();
+//! // A switch of nine cases, each of which is a number, has a table; one of eight need not have one.
 //! ```
 #![tactic(auto)]
 
@@ -23,6 +25,7 @@ ghost use Rattle.lx_monitor_laws.specs.EntryLaws.{EntryLaws};
 ghost use Rattle.lx_monitor_laws.specs.HoldingLaws.{HoldingLaws};
 ghost use Rattle.lx_monitor_laws.specs.MarkLaws.{MarkLaws};
 ghost use Rattle.lx_monitor_laws.specs.Outcomes.{WorkedOutcomes};
+ghost use Rattle.lx_monitor_laws.specs.TableLaws.{TableLaws};
 
 use lx_caps::{owner_laws, region_laws};
 use lx_model::authority_laws;
@@ -73,4 +76,9 @@ pub fn count_laws()
 /// behind such a mark is asked for the principal on top of its thread, and what it does without one for the kernel.
 pub fn mark_laws()
     ensures { MarkLaws }
+{}
+
+/// Which switches and phis are decided by a table, and that each of those has one.
+pub fn table_laws()
+    ensures { TableLaws }
 {}
