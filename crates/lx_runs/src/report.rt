@@ -18,8 +18,8 @@ use lx_words::{Items, Memory, Name};
 use lx_world::World;
 use std::alloc::Global;
 
-/// Whether every call returned.
-fn all_returned(calls: &[CallOutcome]) -> bool
+/// Whether every one of these calls returned: none was refused, trapped or ran out of fuel.
+pub fn all_returned(calls: &[CallOutcome]) -> bool
     ensures { result ≡ all_returned calls.now }
 {
     calls.iter().all(|call| is_returned(call.outcome))

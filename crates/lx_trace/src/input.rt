@@ -8,7 +8,7 @@ ghost use Rattle.lx_model.specs.World.{opening};
 ghost use Rattle.lx_model.specs.declared.program.Program.{Program};
 ghost use Rattle.lx_model.specs.declared.program.ProgramModule.{ProgramModule};
 ghost use Rattle.lx_model.specs.declared.program.ScriptCall.{ScriptCall};
-ghost use Rattle.lx_runs.specs.Reports.{all_returned, broken_at, is_returned};
+ghost use Rattle.lx_runs.specs.Reports.{all_returned, broken_at};
 ghost use Rattle.lx_runs.specs.Runs.{images_of};
 ghost use Rattle.lx_trace.specs.Run.{IsOfRun, StandsForTrace};
 ghost use Rattle.lx_trace.specs.Tells.{TellsTrace};
@@ -21,11 +21,10 @@ use lx_cap_tables::CapTables;
 use lx_caps::CapStore;
 use lx_image_check::Checked;
 use lx_input::{Besides, Input};
-use lx_model::account::{CallOutcome, ImageCount};
+use lx_model::account::ImageCount;
 use lx_model::program::{Calls, Program};
-use lx_model::request::Outcome;
 use lx_opening::OpenFault;
-use lx_runs::{Guarding, Told, images_of_program};
+use lx_runs::{Guarding, Told, all_returned, images_of_program};
 use lx_slot_types::Annotated;
 use lx_trace_text::{Traced, trace_text};
 use lx_words::{Items, Memory, Name, Schedule};
@@ -126,19 +125,6 @@ fn gather<C: CapStore + Drop>(
     } else {
         Ok(Some(schedule.len() as u64))
     }
-}
-
-fn is_returned(outcome: Outcome) -> bool
-    ensures { result ≡ is_returned outcome }
-{
-    matches!(outcome, Outcome::Returned(_))
-}
-
-/// Whether every call returned.
-fn all_returned(calls: &[CallOutcome]) -> bool
-    ensures { result ≡ all_returned calls.now }
-{
-    calls.iter().all(|call| is_returned(call.outcome))
 }
 
 /// The text of the events of a run behind its last one, and whether every call returned. `images` is what the images of its modules have.
