@@ -21,5 +21,5 @@ mod tree;
 mod words;
 
 pub use answer::{Answer, answer_text, status_of};
-pub use top::{WANT_OF_MEMORY, lxfi, put};
+pub use top::{WANT_OF_MEMORY, lxfi, write_text};
 pub use words::{Command, command_of};

@@ -41,7 +41,7 @@ const NOT_TAKEN: u8 = 5;
 pub const WANT_OF_MEMORY: u8 = 6;
 
 /// Writes the whole text of a status, and gives that status, or 5 where the sink did not take all.
-pub fn put<K: Sink>(sink: &mut K, text: &[u8], status: u8) -> u8
+pub fn write_text<K: Sink>(sink: &mut K, text: &[u8], status: u8) -> u8
     requires { status ≢ 5 }
     ensures status { result ≢ 5 → result ≡ status }
     ensures all { result ≢ 5 → (told : List ℕ) → K.bytes sink.old ≡ Some told → K.bytes sink.new ≡ Some (told ++ text.now) }
@@ -249,7 +249,7 @@ pub fn lxfi<R: Threads + Wait + Sync, S: Shelf, K: Sink, G: Gate + Sync>(
 {
     input_laws();
     let Some(command) = command_of(alloc, words) else {
-        return put(sink, USAGE.as_bytes(), 2);
+        return write_text(sink, USAGE.as_bytes(), 2);
     };
     let host = Host { rt, alloc, gate };
     let Ok(answer) = answer_of(&host, shelf, command) else {
@@ -259,5 +259,5 @@ pub fn lxfi<R: Threads + Wait + Sync, S: Shelf, K: Sink, G: Gate + Sync>(
     let Ok(text) = answer_text(alloc, answer) else {
         return WANT_OF_MEMORY;
     };
-    put(sink, text.as_slice(), status)
+    write_text(sink, text.as_slice(), status)
 }

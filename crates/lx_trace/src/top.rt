@@ -12,7 +12,7 @@ ghost use Rattle.lx_trace.specs.Traced.{HasWritten, HasWrittenPart, NoNewFault, 
 
 use crate::answer::answer_to;
 use crate::words::named_by;
-use lx_cli::{WANT_OF_MEMORY, answer_text, put, status_of};
+use lx_cli::{WANT_OF_MEMORY, answer_text, status_of, write_text};
 use lx_input::input_laws;
 use lx_outside::{Gate, Shelf, Sink};
 use lx_runs::Host;
@@ -80,7 +80,7 @@ pub fn lxfi_trace<R: Threads + Wait + Sync, S: Shelf, K: Sink, G: Gate + Sync>(
 {
     input_laws();
     let Some(named) = named_by(words) else {
-        return put(sink, USAGE.as_bytes(), 2);
+        return write_text(sink, USAGE.as_bytes(), 2);
     };
     let host = Host { rt, alloc, gate };
     let Ok(answer) = answer_to(&host, shelf, named) else {
@@ -90,5 +90,5 @@ pub fn lxfi_trace<R: Threads + Wait + Sync, S: Shelf, K: Sink, G: Gate + Sync>(
     let Ok(text) = answer_text(alloc, answer) else {
         return WANT_OF_MEMORY;
     };
-    put(sink, text.as_slice(), status)
+    write_text(sink, text.as_slice(), status)
 }
