@@ -1,5 +1,5 @@
 -- The frames that a runner keeps, and what the definitions see of them.
-use Rattle.std.specs.Prelude.{ℕ, suc, ◌+◌, Bool, true, false, Option, Some, None, List, [], ◌∷◌, ◌<◌, drop, map, vec_len, vec_capacity, ⊤}
+use Rattle.std.specs.Prelude.{ℕ, suc, ◌+◌, Bool, true, false, Option, Some, None, List, [], ◌∷◌, ◌<◌, ◌≤◌, drop, map, vec_len, vec_capacity, ⊤}
 use Rattle.lx_words.specs.Word.{Word}
 use Rattle.lx_model.specs.declared.request.Trap.TheVariants.{Unreachable}
 use Rattle.lx_model.specs.Thread.{Activation, activation_behind, behind_head}
@@ -114,10 +114,19 @@ abbrev pub Counts : KeptFrame → Type 0
 Counts (kept.Runs run) = ⊤
 Counts (kept.Wraps n args wrapper at x) = at < 18446744073709551615
 
+-- none does: the line is the last that is counted
+abbrev pub IsUncounted : KeptFrame → Type 0
+IsUncounted (kept.Runs run) = ⊥
+IsUncounted (kept.Wraps n args wrapper at x) = 18446744073709551615 ≤ at
+
 -- and so it is of a wrapper on top
 abbrev pub CountsOn : Option KeptFrame → Type 0
 CountsOn None = ⊤
 CountsOn (Some f) = Counts f
+
+abbrev pub IsUncountedOn : Option KeptFrame → Type 0
+IsUncountedOn None = ⊥
+IsUncountedOn (Some f) = IsUncounted f
 
 -- a wrapper behind its line
 abbrev pub past_line : KeptFrame → KeptFrame

@@ -1,14 +1,14 @@
 //! Frames of a thread: functions that run, and the wrappers round those that calls cross into.
-ghost use Rattle.std.specs.Prelude.{◌≡◌, ◌+◌, ◌≤◌, ◌∷◌, IfOk, IfSome, IsNone, IsSome, IsTrue, List, None, OnErr, OnOk, Some, false, option_copied, slice_get, true};
+ghost use Rattle.std.specs.Prelude.{◌≡◌, ◌+◌, ◌≤◌, ◌∷◌, IfOk, IfSome, IsNone, IsSome, IsTrue, List, None, OnErr, OnOk, Some, false, find, option_copied, slice_get, true};
 ghost use Rattle.lx_words.specs.declared.word.Width.TheVariants.{W64};
 ghost use Rattle.lx_words.specs.Word.{word};
 ghost use Rattle.lx_model.specs.Thread.{activation_behind};
-ghost use Rattle.lx_model.specs.Effect.{arrival};
+ghost use Rattle.lx_model.specs.Effect.{arrival, is_phi};
 ghost use Rattle.lx_model.specs.Next.{with_alloca};
 ghost use Rattle.lx_images.specs.Image.{Code as Images, Goes, ImageFrame, ImageThread, frame_step, if_paid, with_frames};
 ghost use Rattle.lx_image_steps.specs.declared.activation.Activation.{Activation as Running};
-ghost use Rattle.lx_image_steps.specs.Standing.{run_of};
-ghost use Rattle.lx_frames.specs.Frames.{Counts, HasSpace, arrival_in, changed, frame_of, line_at, line_behind, marked_frame_step, past_line, resumed, runs, wrapped_args, wrapped_function, wrapped_value};
+ghost use Rattle.lx_image_steps.specs.Standing.{block_at, run_of};
+ghost use Rattle.lx_frames.specs.Frames.{Counts, HasSpace, IsUncounted, arrival_in, changed, frame_of, line_at, line_behind, marked_frame_step, past_line, resumed, runs, wrapped_args, wrapped_function, wrapped_value};
 
 use lx_image_code::{Code, Line, Wrapper};
 use lx_image_steps::{Activation, Marks};
@@ -46,7 +46,8 @@ impl Frame {
     /// `Memory`, where the wrapper has more lines than a number counts.
     #[tactic(auto, using(crate::proofs::Arriving::line_more))]
     pub(crate) fn line_behind(&self, code: &Code) -> Result<Option<Line>, Memory>
-        ensures { IfOk result (λ line. line ≡ line_behind (frame_of code.now self.now)) }
+        ensures line { IfOk result (λ line. line ≡ line_behind (frame_of code.now self.now)) }
+        ensures uncounted { OnErr result (IsUncounted self.now) }
     {
         match self {
             Frame::Runs(_) => Ok(None),
@@ -181,11 +182,12 @@ impl Frame {
     /// A running function goes to the block with a number; `false`, where there is no such block, and in a wrapper.
     ///
     /// # Errors
-    /// Want of memory; the function stays where it is.
+    /// Want of memory, only where the block has phis; the function stays where it is.
     pub fn arrive(&mut self, alloc: Global, code: &Code, block: usize) -> Result<bool, Memory>
         ensures arrives { IfOk result (λ there. (run : Running) → runs self.old ≡ Some run → arrival code.now.program (run_of code.now run) (slice_get (run_of code.now run).blocks block) ≡ arrival_in there (frame_of code.now self.new)) }
         ensures there { IfOk result (λ there. IsTrue there → IsSome (runs self.new)) }
         ensures stays { OnErr result (frame_of code.now self.new ≡ frame_of code.now self.old) }
+        ensures phis { OnErr result ((run : Running) → runs self.old ≡ Some run → IsSome (find is_phi (block_at (run_of code.now run).blocks block).code)) }
     {
         match self {
             Frame::Runs(run) => {

@@ -1,9 +1,9 @@
 //! The frames of a thread, and the principals of the wrappers among them.
-ghost use Rattle.std.specs.Prelude.{◌≡◌, ◌≤◌, [], IfOk, IfSome, IsSome, option_copied, option_map};
+ghost use Rattle.std.specs.Prelude.{◌≡◌, ◌≤◌, [], IfOk, IfSome, IsSome, OnErr, option_copied, option_map};
 ghost use Rattle.lx_images.specs.Asker.{acting};
 ghost use Rattle.lx_images.specs.Image.{Code as Images, fits_site, has_room, stack_top};
 ghost use Rattle.lx_image_steps.specs.Standing.{run_of};
-ghost use Rattle.lx_frames.specs.Frames.{args_on, frames_of, function_on, high_on, line_behind_on, line_on, running_on, value_on};
+ghost use Rattle.lx_frames.specs.Frames.{IsUncountedOn, args_on, frames_of, function_on, high_on, line_behind_on, line_on, running_on, value_on};
 ghost use Rattle.lx_frames.specs.Stack.{returned_on};
 ghost use Rattle.lx_model.specs.Program.{same_result};
 
@@ -116,7 +116,8 @@ impl FrameStack {
     /// # Errors
     /// `Memory`, where the wrapper has more lines than a number counts.
     pub fn line_behind(&self, code: &Code) -> Result<Option<Line>, Memory>
-        ensures { IfOk result (λ line. line ≡ line_behind_on (frames_of code.now self.now.top self.now.below)) }
+        ensures line { IfOk result (λ line. line ≡ line_behind_on (frames_of code.now self.now.top self.now.below)) }
+        ensures uncounted { OnErr result (IsUncountedOn self.now.top) }
     {
         match &self.top {
             Some(frame) => {

@@ -4,5 +4,7 @@ pub mod Falling
 pub mod Lines
 pub mod Marking
 pub mod Takings
+pub mod Freely
+pub mod Lacking
 pub mod Goings
 pub mod Replies

@@ -1,2 +1,4 @@
 pub mod Runner
 pub mod Places
+pub mod Lacks
+pub mod LackLaws

@@ -14,6 +14,8 @@
 //! ```
 #![tactic(auto)]
 
+ghost use Rattle.lx_interp.specs.LackLaws.{LackLaws};
+
 mod ending;
 mod runner;
 mod standing;
@@ -22,3 +24,8 @@ pub use ending::Ending;
 pub use lx_image_code::Code;
 pub use runner::Runner;
 pub use standing::Standing;
+
+/// Where a runner wants no memory: at loads, stores and returns, where an outcome is due, and where its function has no fuel.
+pub fn lack_laws()
+    ensures { LackLaws }
+{}

@@ -1,9 +1,11 @@
 //! What the effect of an instruction does to the runner.
-ghost use Rattle.std.specs.Prelude.{◌≡◌, ◌<◌, ◌≤◌, OnOk, OnErr, IsSome, None, Some};
+ghost use Rattle.std.specs.Prelude.{◌≡◌, ◌<◌, ◌≤◌, OnOk, OnErr, IsSome, None, Some, true};
 ghost use Rattle.lx_images.specs.Image.{Code as Images, comes_to, has_room};
 ghost use Rattle.lx_model.specs.Next.{finish};
 ghost use Rattle.lx_image_steps.specs.declared.effect.Effect.TheVariants as effect;
 ghost use Rattle.lx_frames.specs.Frames.{frames_of, running_on};
+ghost use Rattle.lx_frames.specs.Stack.{takes_room};
+ghost use Rattle.lx_interp.specs.Lacks.{FoundLacksOn};
 ghost use Rattle.lx_interp.specs.Runner.{HasStayed, HasTaken, asker_in, effect_on, events_left, marks_in, poorer, thread_of};
 
 use super::Runner;
@@ -81,6 +83,7 @@ impl Runner {
         requires top { IsSome (running_on self.old.stack.top) }
         ensures steps { OnOk result (HasTaken code.now self.old self.new (effect_on code.now (marks_in self.old.marks) (poorer (thread_of code.now self.old)) (effect.Jumps block))) }
         ensures stays { OnErr result (HasStayed code.now self.old self.new) }
+        ensures lacks { OnErr result (FoundLacksOn code.now self.old.stack.top (effect.Jumps block)) }
         ensures spares { events_left self.new ≤ events_left self.old }
     {
         if let Some(frame) = &mut self.stack.top {
@@ -116,6 +119,7 @@ impl Runner {
         requires top { IsSome (running_on self.old.stack.top) }
         ensures steps { OnOk result (HasTaken code.now self.old self.new (effect_on code.now (marks_in self.old.marks) (poorer (thread_of code.now self.old)) (effect.Wants what))) }
         ensures stays { OnErr result (HasStayed code.now self.old self.new) }
+        ensures lacks { OnErr result (takes_room what ≡ true) }
         ensures spares { events_left self.new ≤ events_left self.old }
     {
         let who = self.asker(code, &what);
@@ -171,6 +175,7 @@ impl Runner {
         requires top { IsSome (running_on self.old.stack.top) }
         ensures steps { OnOk result (HasTaken code.now self.old self.new (effect_on code.now (marks_in self.old.marks) (poorer (thread_of code.now self.old)) effect)) }
         ensures stays { OnErr result (HasStayed code.now self.old self.new) }
+        ensures lacks { OnErr result (FoundLacksOn code.now self.old.stack.top effect) }
         ensures spares { events_left self.new ≤ events_left self.old }
     {
         match effect {

@@ -4,6 +4,7 @@ ghost use Rattle.lx_model.specs.Thread.{has_call};
 ghost use Rattle.lx_images.specs.Asker.{acting, code_place, image_asks_at};
 ghost use Rattle.lx_images.specs.Image.{Code as Images, ImageThread, image_next};
 ghost use Rattle.lx_frames.specs.Frames.{frames_of};
+ghost use Rattle.lx_interp.specs.Lacks.{MayLack};
 ghost use Rattle.lx_interp.specs.Places.{stand_in};
 ghost use Rattle.lx_interp.specs.Runner.{GoesOn, IsAsking, IsAt, StandsFor, calls_left, events_left, request_of, thread_of};
 
@@ -31,6 +32,7 @@ impl Runner {
         ensures from { IfOk result (λ at. self.old.marks ≡ None → option_map (stand_in code.now) at ≡ image_asks_at code.now (thread_of code.now self.old)) }
         ensures asks { OnOk result (IsSome self.new.request) }
         ensures asks_nothing { OnErr result (self.new.request ≡ None) }
+        ensures lacks { OnErr result (MayLack code.now self.new) }
         ensures spares { events_left self.new ≤ events_left self.old }
     {
         let mut at = None;
@@ -56,6 +58,7 @@ impl Runner {
         ensures events { events_left self.new ≤ events_left self.old }
         ensures waits { OnOk result (IsTrue (has_call (calls_left self.old)) → IsSome (request_of self.new)) }
         ensures asks_nothing { OnErr result (request_of self.new ≡ None) }
+        ensures lacks { OnErr result (MayLack code.now self.new) }
     {
         if self.request.is_some() || self.done() {
             return Ok(None);

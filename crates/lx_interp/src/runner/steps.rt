@@ -6,6 +6,7 @@ ghost use Rattle.lx_model.specs.Thread.{first_fuel, has_call};
 ghost use Rattle.lx_images.specs.Image.{Code as Images, ImageAsking, ImageThread, Marks, image_next, start_step};
 ghost use Rattle.lx_images.specs.ImageWorld.{fresh_image_thread};
 ghost use Rattle.lx_frames.specs.Frames.{frames_of, line_on, marked_frame_step, running_on};
+ghost use Rattle.lx_interp.specs.Lacks.{MayLack, NextOn, RunLacks, TopLacks};
 ghost use Rattle.lx_interp.specs.Runner.{GoesOn, HasStayed, HasTaken, IsAsking, IsAt, IsMarked, StandsFor, StepsAlike, calls_left, events_left, events_of, instruction_in, instruction_on, marked_step, marks_in, next_in, poorer, request_of, steps_before, thread_of};
 
 use super::Runner;
@@ -94,6 +95,7 @@ impl Runner {
         requires work { IsTrue (has_call (calls_left self.old)) }
         ensures steps { OnOk result (HasTaken code.now self.old self.new (start_step (calls_left self.old) (thread_of code.now self.old))) }
         ensures stays { OnErr result (HasStayed code.now self.old self.new) }
+        ensures lacks { OnErr result (TopLacks code.now self.new.fuel self.new.stack.top) }
         ensures spares { events_left self.new ≤ events_left self.old }
     {
         if self.fuel == 0 {
@@ -113,9 +115,11 @@ impl Runner {
     }
 
     // What the next instruction of the function on top does; none, where there is no instruction.
-    #[tactic(auto, using(crate::proofs::Lines::next_found, crate::proofs::Lines::nothing_found))]
+    #[tactic(auto, using(crate::proofs::Lines::next_found, crate::proofs::Lines::nothing_found, crate::proofs::Lacking::next_on, crate::proofs::Lacking::nothing_on, crate::proofs::Lacking::call_lacks))]
     fn next_step(&self, code: &Code) -> Result<Option<Step>, Memory>
-        ensures { IfOk result (λ s. (m : Marks) → (v : ImageThread) → instruction_in code.now m v (frames_of code.now self.now.stack.top self.now.stack.below) ≡ next_in code.now m v (frames_of code.now self.now.stack.top self.now.stack.below) s) }
+        ensures step { IfOk result (λ s. (m : Marks) → (v : ImageThread) → instruction_in code.now m v (frames_of code.now self.now.stack.top self.now.stack.below) ≡ next_in code.now m v (frames_of code.now self.now.stack.top self.now.stack.below) s) }
+        ensures next { IfOk result (NextOn code.now self.now.stack.top) }
+        ensures lacks { OnErr result (RunLacks code.now self.now.stack.top) }
     {
         match self.stack.running() {
             Some(run) => {
@@ -133,6 +137,7 @@ impl Runner {
         requires top { IsSome (running_on self.old.stack.top) }
         ensures steps { OnOk result (HasTaken code.now self.old self.new (instruction_on code.now (marks_in self.old.marks) (poorer (thread_of code.now self.old)))) }
         ensures stays { OnErr result (HasStayed code.now self.old self.new) }
+        ensures lacks { OnErr result (RunLacks code.now self.old.stack.top) }
         ensures spares { events_left self.new ≤ events_left self.old }
     {
         let next = self.next_step(code)?;
@@ -157,6 +162,7 @@ impl Runner {
         requires marks { IsSome self.old.marks }
         ensures steps { OnOk result (HasTaken code.now self.old self.new (marked_frame_step code.now self.old.marks (thread_of code.now self.old) (frames_of code.now self.old.stack.top self.old.stack.below))) }
         ensures stays { OnErr result (HasStayed code.now self.old self.new) }
+        ensures lacks { OnErr result (TopLacks code.now self.new.fuel self.new.stack.top) }
         ensures spares { events_left self.new ≤ events_left self.old }
     {
         if self.fuel == 0 {
@@ -186,6 +192,7 @@ impl Runner {
         requires work { IsTrue (has_call (calls_left self.old)) }
         ensures steps { OnOk result (HasTaken code.now self.old self.new (marked_frame_step code.now self.old.marks (thread_of code.now self.old) (frames_of code.now self.old.stack.top self.old.stack.below))) }
         ensures stays { OnErr result (HasStayed code.now self.old self.new) }
+        ensures lacks { OnErr result (TopLacks code.now self.new.fuel self.new.stack.top) }
         ensures spares { events_left self.new ≤ events_left self.old }
     {
         if self.stack.running().is_some() {
@@ -204,6 +211,7 @@ impl Runner {
         requires work { IsTrue (has_call (calls_left self.old)) }
         ensures steps { OnOk result (HasTaken code.now self.old self.new (marked_step code.now self.old.marks (thread_of code.now self.old))) }
         ensures stays { OnErr result (HasStayed code.now self.old self.new) }
+        ensures lacks { OnErr result (MayLack code.now self.new) }
         ensures spares { events_left self.new ≤ events_left self.old }
     {
         match self.stack.line(code) {
@@ -220,6 +228,7 @@ impl Runner {
         requires work { IsTrue (has_call (calls_left self.old)) }
         ensures steps { OnOk result (HasTaken code.now self.old self.new (marked_step code.now self.old.marks (thread_of code.now self.old))) }
         ensures stays { OnErr result (HasStayed code.now self.old self.new) }
+        ensures lacks { OnErr result (MayLack code.now self.new) }
         ensures spares { events_left self.new ≤ events_left self.old }
     {
         let due = self.due;
@@ -278,6 +287,7 @@ impl Runner {
         ensures steps { OnOk result (HasTaken code.now self.old self.new (marked_step code.now self.old.marks (thread_of code.now self.old))) }
         ensures stays { OnErr result (GoesOn code.now self.old self.new) }
         ensures asks_nothing { OnErr result (self.new.request ≡ None) }
+        ensures lacks { OnErr result (MayLack code.now self.new) }
         ensures spares { events_left self.new ≤ events_left self.old }
     {
         if self.give_next(code) {
@@ -295,6 +305,7 @@ impl Runner {
         ensures goes_on { GoesOn code.now self.old self.new }
         ensures asks { OnOk result (IsSome self.new.request) }
         ensures asks_nothing { OnErr result (self.new.request ≡ None) }
+        ensures lacks { OnErr result (MayLack code.now self.new) }
         ensures spares { events_left self.new ≤ events_left self.old }
     {
         while self.request.is_none() {
@@ -312,6 +323,7 @@ impl Runner {
         ensures events { events_left self.new ≤ events_left self.old }
         ensures waits { OnOk result (IsTrue (has_call (calls_left self.old)) → IsSome (request_of self.new)) }
         ensures asks_nothing { OnErr result (request_of self.new ≡ None) }
+        ensures lacks { OnErr result (MayLack code.now self.new) }
     {
         if self.request.is_some() || self.done() {
             return Ok(());

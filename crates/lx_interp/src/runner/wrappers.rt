@@ -8,6 +8,7 @@ ghost use Rattle.lx_image_code.specs.declared.line.Line.TheVariants as line;
 ghost use Rattle.lx_image_code.specs.Wrappers.{wrapper_lines};
 ghost use Rattle.lx_frames.specs.Frames.{args_on, frame_of, frames_of, function_on, line_on, running_on, value_on};
 ghost use Rattle.lx_frames.specs.Stack.{CanEnter, CanGoOn};
+ghost use Rattle.lx_interp.specs.Lacks.{TopLacks};
 ghost use Rattle.lx_interp.specs.Runner.{HasStayed, HasTaken, action_of, action_on, asked_by, events_left, is_enter, is_ret, poorer, thread_of, wrapper_on};
 
 use super::Runner;
@@ -67,6 +68,7 @@ impl Runner {
         requires request { self.old.request ≡ None }
         ensures steps { OnOk result ((c : Images) → CanGoOn c self.old.stack self.old.stack.top → HasTaken c self.old self.new (action_on true (thread_of c self.old) (function_on self.old.stack.top) (args_on self.old.stack.top) post index value.now)) }
         ensures stays { OnErr result ((c : Images) → HasStayed c self.old self.new) }
+        ensures top { OnErr result (self.new.stack.top ≡ self.old.stack.top) }
         ensures spares { events_left self.new ≤ events_left self.old }
     {
         if self.fuel == 0 {
@@ -86,6 +88,7 @@ impl Runner {
         requires line { line_on (frames_of code.now self.old.stack.top self.old.stack.below) ≡ Some (asked_by post index) }
         ensures steps { OnOk result (HasTaken code.now self.old self.new (frame_step code.now (thread_of code.now self.old) (frames_of code.now self.old.stack.top self.old.stack.below))) }
         ensures stays { OnErr result (HasStayed code.now self.old self.new) }
+        ensures lacks { OnErr result (TopLacks code.now self.new.fuel self.new.stack.top) }
         ensures spares { events_left self.new ≤ events_left self.old }
     {
         let function = self.stack.function();
@@ -151,6 +154,7 @@ impl Runner {
         requires line { line_on (frames_of code.now self.old.stack.top self.old.stack.below) ≡ Some (line.Leave) }
         ensures steps { OnOk result (HasTaken code.now self.old self.new (frame_step code.now (thread_of code.now self.old) (frames_of code.now self.old.stack.top self.old.stack.below))) }
         ensures stays { OnErr result (HasStayed code.now self.old self.new) }
+        ensures lacks { OnErr result (TopLacks code.now self.new.fuel self.new.stack.top) }
         ensures spares { events_left self.new ≤ events_left self.old }
     {
         let behind = self.stack.line_behind(code)?;
@@ -169,6 +173,7 @@ impl Runner {
         requires line { line_on (frames_of code.now self.old.stack.top self.old.stack.below) ≡ Some line }
         ensures steps { OnOk result (HasTaken code.now self.old self.new (frame_step code.now (thread_of code.now self.old) (frames_of code.now self.old.stack.top self.old.stack.below))) }
         ensures stays { OnErr result (HasStayed code.now self.old self.new) }
+        ensures lacks { OnErr result (TopLacks code.now self.new.fuel self.new.stack.top) }
         ensures spares { events_left self.new ≤ events_left self.old }
     {
         match line {

@@ -8,6 +8,7 @@ use Rattle.lx_frames.specs.Frames.{IsUnwrapped}
 use Rattle.lx_frames.specs.Stack.{HasRoomFor}
 use Rattle.lx_interp.specs.Runner.{calls_left, thread_of}
 use Rattle.lx_interp.proofs.Calls.{paid_at_most, some_left}
+use Rattle.lx_interp.proofs.Lacking.{start_lacks}
 use Rattle.lx_interp.proofs.Takings.{taken_as, start_unpaid, start_paid, first_at, asked_with_room, roomier_stays}
 use Rattle.lx_interp.proofs.runner.Runner.start.Goals as goal
 
@@ -43,3 +44,10 @@ returns-in_err-make_room-clause-stays c =
     let p = c.args.code.now in
     let e = err_from_is_err_and c.from_residual-in_err-make_room.result c.from_residual-in_err-make_room.ensures.1 in
     rw e.1 (roomier_stays p c.args.self.now (record c.args.self.now { stack = c.make_room.new.self; room = c.in_err-make_room.self-1-own.given.0 }) c.requires.request refl refl refl refl refl refl refl (c.make_room.ensures.rest p))
+
+pub returns-in_err-make_room-clause-lacks : goal.returns-in_err-make_room-clause-lacks
+returns-in_err-make_room-clause-lacks c =
+    let p = c.args.code.now in
+    let old = c.args.self.now in
+    let e = err_from_is_err_and c.from_residual-in_err-make_room.result c.from_residual-in_err-make_room.ensures.1 in
+    rw e.1 (start_lacks p old.fuel old.stack.top c.make_room.new.self.top old.stack.below c.make_room.new.self.below (omega (arith, c.if-self-eq0.false)) c.requires.top (c.make_room.ensures.rest p).frames)
