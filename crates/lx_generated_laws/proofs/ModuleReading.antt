@@ -31,7 +31,7 @@ use Rattle.lx_ir_tokens.specs.Lines.{kept_tokens, last_line}
 use Rattle.lx_ir_tokens.specs.Names.{number_of}
 use Rattle.lx_ir_tokens.specs.Reading.{IsTokOf, ReadsAs, StandsFor, names_of, said_at}
 use Rattle.lx_ir_tokens.specs.Said.{kind_of, value_of_number}
-use Rattle.lx_ir_tokens.proofs.Numbered.{named}
+use Rattle.lx_ir_lawful.proofs.NameNumbers.{named}
 use Rattle.lx_ir_terms.specs.Reading.{more_at}
 use Rattle.lx_ir_terms.specs.Types.{type_at}
 use Rattle.lx_ir_terms.specs.Words.{words_at}

@@ -14,7 +14,7 @@ use Rattle.lx_ir.specs.declared.instr.Argument.{Argument}
 use Rattle.lx_ir.specs.declared.instr.Instr.{Instr}
 use Rattle.lx_ir.specs.Operands.{given_by, operands_where}
 use Rattle.lx_ir_tokens.specs.Names.{number_of}
-use Rattle.lx_ir_tokens.proofs.Numbered.{named}
+use Rattle.lx_ir_lawful.proofs.NameNumbers.{named}
 use Rattle.lx_ir_tables.specs.Numbering.{Numbering, numbering, with_thing, is_new}
 use Rattle.lx_ir_tables.specs.Registers.{with_given, with_given_by, with_all_given, with_read, with_operands, with_read_by, with_all_read, with_parameters, registers_of}
 use Rattle.lx_ir_read.specs.Again.{register_name, local_names, nameless}

@@ -18,7 +18,7 @@ use Rattle.lx_ir.specs.Operands.{register_count, given_numbers, given_by}
 use Rattle.lx_ir.specs.Text.{register_names}
 use Rattle.lx_ir.specs.Lawful.{is_distinct, counts_from, first_come, read_numbers, numbers_read, numbers_registers}
 use Rattle.lx_ir_tokens.specs.Names.{number_of}
-use Rattle.lx_ir_tokens.proofs.Numbered.{named}
+use Rattle.lx_ir_lawful.proofs.NameNumbers.{named}
 use Rattle.lx_ir_terms.specs.Context.{Context, entry, nothing, register_or, register_number}
 use Rattle.lx_ir_tables.specs.Numbering.{Numbering, numbering, has_name, number_from, number_named, table_of, with_thing}
 use Rattle.lx_ir_tables.specs.Registers.{with_parameters, with_all_given, with_all_read, registers_of}

@@ -14,7 +14,7 @@ use Rattle.lx_ir.specs.Text.{name_at}
 use Rattle.lx_ir_terms.specs.Context.{entry}
 use Rattle.lx_ir_tables.specs.Numbering.{numbering, has_name, number_from, number_named, table_of, symbol_by, symbols_by}
 use Rattle.lx_ir_tokens.specs.Names.{number_of}
-use Rattle.lx_ir_tokens.proofs.Numbered.{named}
+use Rattle.lx_ir_lawful.proofs.NameNumbers.{named}
 use Rattle.lx_ir_lawful.proofs.FewNames.{some_same}
 use Rattle.lx_ir_lawful.proofs.RegisterTables.{entry_from}
 use Rattle.lx_ir_complete.specs.KnownTables.{AreOnce}

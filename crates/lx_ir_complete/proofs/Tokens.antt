@@ -1,5 +1,5 @@
 -- Each text has tokens as the grammar of IR text sees them.
-use Rattle.std.proofs.Common.{◌≡◌, ℕ, Bool, true, false, List, [], ◌∷◌, ◌++◌, length, refl, Option, Some, None, is_some, fold}
+use Rattle.std.proofs.Common.{◌≡◌, ℕ, zero, suc, Bool, true, false, List, [], ◌∷◌, ◌++◌, length, refl, Option, Some, None, is_some, slice_get, fold}
 use Rattle.std.specs.Prelude.{if◌then◌else◌}
 use Rattle.std.specs.List.{AllZip, AllByRecursion}
 use Rattle.lx_words.specs.declared.token.TokenRule.TheVariants.{Ir}
@@ -13,8 +13,7 @@ use Rattle.lx_ir_tokens.specs.Lines.{kept_tokens, last_line}
 use Rattle.lx_ir_tokens.specs.Names.{number_of}
 use Rattle.lx_ir_tokens.specs.Said.{kind_of}
 use Rattle.lx_ir_tokens.specs.Reading.{said_at, with_said, names_of, StandsFor, IsTokOf, ReadsAs}
-use Rattle.lx_ir_tokens.proofs.Growing.{slice_get-front}
-use Rattle.lx_ir_tokens.proofs.Numbered.{named}
+use Rattle.lx_ir_lawful.proofs.NameNumbers.{named}
 use Rattle.lx_ir_complete.proofs.Cutting.{text_is_scanned}
 
 -- Names that stand in a table stay in it.
@@ -23,10 +22,15 @@ use Rattle.lx_ir_complete.proofs.Cutting.{text_is_scanned}
 abbrev Named : List (List ℕ) → Option (List ℕ) → Type 0
 Named names said = (n : ℕ) × StandsFor names n said
 
+front_stays : (names more : List (List ℕ)) (n : ℕ) (name : List ℕ) → slice_get names n ≡ Some name → slice_get (names ++ more) n ≡ Some name
+front_stays [] more n name h = cc
+front_stays (x ∷ xs) more zero name h = h
+front_stays (x ∷ xs) more (suc n) name h = front_stays xs more n name h
+
 stays_if : (there : Bool) (names : List (List ℕ)) (new : List ℕ) (said : Option (List ℕ)) → Named names said → Named (if there then names else names ++ new ∷ []) said
 stays_if true names new said h = h
 stays_if false names new None h = h
-stays_if false names new (Some name) (n, at) = (n, slice_get-front names (new ∷ []) n name at)
+stays_if false names new (Some name) (n, at) = (n, front_stays names (new ∷ []) n name at)
 
 stays : (names : List (List ℕ)) (more said : Option (List ℕ)) → Named names said → Named (with_said names more) said
 stays names None said h = h

@@ -9,7 +9,7 @@ use Rattle.lx_ir.specs.declared.module.Symbol.{Symbol}
 use Rattle.lx_ir.specs.declared.module.Symbol.TheVariants as symbol
 use Rattle.lx_ir.specs.Text.{name_at}
 use Rattle.lx_ir_tokens.specs.Names.{number_of}
-use Rattle.lx_ir_tokens.proofs.Numbered.{named}
+use Rattle.lx_ir_lawful.proofs.NameNumbers.{named}
 use Rattle.lx_ir_terms.specs.Context.{entry}
 use Rattle.lx_ir_tables.specs.Numbering.{has_name, number_from, number_named, numbers_from, table_of, symbol_by, symbols_by}
 use Rattle.lx_ir_lawful.specs.NamedThings.{named_things}

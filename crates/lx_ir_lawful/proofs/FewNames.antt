@@ -17,7 +17,7 @@ use Rattle.lx_ir_tokens.specs.declared.read.IrTokens.{IrTokens}
 use Rattle.lx_ir_tokens.specs.Said.{name_said, bytes_said, kind_of, said}
 use Rattle.lx_ir_tokens.specs.Names.{number_of}
 use Rattle.lx_ir_tokens.specs.Reading.{said_at, with_said, names_of, IsTokOf, ReadsAs}
-use Rattle.lx_ir_tokens.proofs.Numbered.{named}
+use Rattle.lx_ir_lawful.proofs.NameNumbers.{named}
 use Rattle.lx_ir_lawful.specs.NamedThings.{somes, numbers_of, has_numbers}
 use Rattle.lx_ir_lawful.specs.TokenNames.{counted_mark, mark_count}
 

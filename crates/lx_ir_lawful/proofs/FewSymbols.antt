@@ -17,7 +17,7 @@ use Rattle.lx_ir_tokens.specs.declared.token.Tok.{Tok}
 use Rattle.lx_ir_tokens.specs.declared.read.IrTokens.{IrTokens}
 use Rattle.lx_ir_tokens.specs.Lines.{kept_tokens}
 use Rattle.lx_ir_tokens.specs.Reading.{IsTokOf, ReadsAs}
-use Rattle.lx_ir_tokens.proofs.KeptLines.{fewer_kept}
+use Rattle.lx_ir_lawful.proofs.NameNumbers.{fewer_kept}
 use Rattle.lx_ir_terms.specs.Context.{Context, bytes_of}
 use Rattle.lx_ir_calls.specs.declared.intrinsics.TextForm.{TextForm}
 use Rattle.lx_ir_statements.specs.declared.form.Statement.{Statement}

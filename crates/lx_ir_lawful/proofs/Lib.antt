@@ -17,6 +17,7 @@ pub mod Labels
 pub mod LastReading
 pub mod LawfulBodies
 pub mod LawfulLimits
+pub mod NameNumbers
 pub mod NamedForms
 pub mod NamedModules
 pub mod NamedThings

@@ -4,7 +4,7 @@ use Rattle.std.specs.Prelude.{if◌then◌else◌}
 use Rattle.lx_words.specs.declared.token.Token.{Token}
 use Rattle.lx_ir_tokens.specs.Names.{number_of}
 use Rattle.lx_ir_tokens.specs.Reading.{said_at, with_said, names_of}
-use Rattle.lx_ir_tokens.proofs.Distinct.{nowhere, where_it_stands}
+use Rattle.lx_ir_lawful.proofs.NameNumbers.{nowhere, where_it_stands}
 use Rattle.lx_ir_lawful.specs.NamedThings.{AreOnce}
 
 longer : (names : List (List ℕ)) (new : List ℕ) → number_of names new ≡ None → AreOnce names → AreOnce (names ++ new ∷ [])

@@ -1,8 +1,7 @@
 -- Names that stand once in a table, and their numbers.
 use Rattle.std.proofs.Common.{◌≡◌, ◌∙◌, ℕ, ◌≤◌, ◌<◌, Option, Some, None, List, [], slice_get, refl, ap, true≢false}
 use Rattle.lx_ir_tokens.specs.Names.{number_of}
-use Rattle.lx_ir_tokens.proofs.Distinct.{nowhere}
-use Rattle.lx_ir_tokens.proofs.Numbered.{named}
+use Rattle.lx_ir_lawful.proofs.NameNumbers.{nowhere, named}
 use Rattle.lx_ir_lawful.specs.NamedThings.{AreOnce}
 
 number_by : (names : List (List ℕ)) → AreOnce names → (n : ℕ) (name : List ℕ) (o : Option ℕ) → number_of names name ≡ o → slice_get names n ≡ Some name → o ≡ Some n

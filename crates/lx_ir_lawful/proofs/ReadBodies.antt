@@ -13,7 +13,7 @@ use Rattle.lx_ir.specs.declared.module.Module.{Module}
 use Rattle.lx_ir.specs.Lawful.{is_lawful_body}
 use Rattle.lx_ir_tokens.specs.declared.token.Tok.{Tok}
 use Rattle.lx_ir_tokens.specs.Names.{number_of}
-use Rattle.lx_ir_tokens.proofs.Numbered.{named as name_at_number}
+use Rattle.lx_ir_lawful.proofs.NameNumbers.{named as name_at_number}
 use Rattle.lx_ir_terms.specs.Context.{Context, nothing, bytes_of}
 use Rattle.lx_ir_calls.specs.declared.intrinsics.TextForm.{TextForm}
 use Rattle.lx_ir_statements.specs.declared.form.Statement.{Statement}
