@@ -7,4 +7,4 @@ pub mod EntryLaws
 pub mod HoldingLaws
 pub mod MarkLaws
 pub mod Outcomes
-pub mod TableLaws
+pub mod JumpTableLaws

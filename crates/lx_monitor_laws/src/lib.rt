@@ -12,7 +12,7 @@
 //! mark_laws();
 //! // Behind a guard of 8 bytes at 0x2000000 a store of 8 bytes there is asked for the principal on top, and one of 8 bytes at 0x2000004 for
 //! // the kernel, since the guard does not name its last four bytes.
-//! table_laws();
+//! jump_table_laws();
 //! // A switch of nine cases, each of which is a number, has a table; one of eight need not have one.
 //! ```
 #![tactic(auto)]
@@ -25,7 +25,7 @@ ghost use Rattle.lx_monitor_laws.specs.EntryLaws.{EntryLaws};
 ghost use Rattle.lx_monitor_laws.specs.HoldingLaws.{HoldingLaws};
 ghost use Rattle.lx_monitor_laws.specs.MarkLaws.{MarkLaws};
 ghost use Rattle.lx_monitor_laws.specs.Outcomes.{WorkedOutcomes};
-ghost use Rattle.lx_monitor_laws.specs.TableLaws.{TableLaws};
+ghost use Rattle.lx_monitor_laws.specs.JumpTableLaws.{JumpTableLaws};
 
 use lx_caps::{owner_laws, region_laws};
 use lx_model::authority_laws;
@@ -79,6 +79,6 @@ pub fn mark_laws()
 {}
 
 /// Which switches and phis are decided by a table, and that each of those has one.
-pub fn table_laws()
-    ensures { TableLaws }
+pub fn jump_table_laws()
+    ensures { JumpTableLaws }
 {}

@@ -2,7 +2,7 @@
 use Rattle.std.proofs.Common.{refl}
 use Rattle.lx_code.specs.Fits.{at_place}
 use Rattle.lx_monitor_laws.proofs.Tabled.{there}
-use Rattle.lx_monitor_laws.proofs.table_laws.Goals as goal
+use Rattle.lx_monitor_laws.proofs.jump_table_laws.Goals as goal
 
 pub returns : goal.returns
 returns c = record {

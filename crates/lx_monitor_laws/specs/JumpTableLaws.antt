@@ -24,7 +24,7 @@ of_register = record { value = Register 0; label = codes "a" }
 abbrev pub from_block : Edge
 from_block = record { value = Register 0; label = codes "a" }
 
-pub record TableLaws : Type 0 where
+pub record JumpTableLaws : Type 0 where
   pub eight_cases : (ty : Scalar) (v : Value) (otherwise : List ℕ) → wants_table (Switch ty v otherwise (replicate 8 of_number)) ≡ false
   pub nine_cases : (ty : Scalar) (v : Value) (otherwise : List ℕ) → wants_table (Switch ty v otherwise (replicate 9 of_number)) ≡ true
   -- a case that a register gives may be another number each time
