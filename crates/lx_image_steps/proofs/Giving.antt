@@ -5,13 +5,10 @@ use Rattle.lx_words.specs.Word.{Word}
 use Rattle.lx_ir.specs.declared.instr.Op.{Op}
 use Rattle.lx_ir.specs.declared.instr.Op.TheVariants as op
 use Rattle.lx_model.specs.Thread.{Activation, activation_behind, behind_head}
-use Rattle.lx_model.specs.Effect.{Effect, effect, value_effect}
+use Rattle.lx_model.specs.Effect.{Effect, division, effect, value_effect}
 use Rattle.lx_images.specs.Image.{Code, ImageFrame, ImageThread, Goes, Runs, effect_step, if_paid, instruction_step, no_marks, with_frames}
-use Rattle.lx_image_steps.specs.Effects.{effect_of}
 use Rattle.lx_image_steps.specs.Given.{GivesWord, GoesTo}
 use Rattle.lx_image_steps.specs.Standing.{head_of}
-use Rattle.lx_image_steps.specs.declared.effect.Effect.{Effect as Found}
-use Rattle.lx_image_steps.specs.declared.effect.Effect.TheVariants as found
 use Rattle.lx_image_steps.proofs.Places.{some_head}
 
 -- an instruction whose step is its effect: it sets no mark and calls no wrapper
@@ -25,12 +22,6 @@ given c a o w steps gives = λ head v fs.
     ap (λ (os : List Op). instruction_step c v fs os no_marks a) (some_head a.code o head)
     ∙ steps v fs (behind_head a.code)
     ∙ ap (λ (e : Effect). if_paid v (λ w. effect_step c w no_marks a fs e)) gives
-
--- as an effect in code has it, if it gives one
-pub given_if : (c : Code) (a : Activation) (o : Op) (e : Found) (r : Option Word) → StepsByEffect c a o → effect_of c.program a e ≡ effect c.program a o → IfSome r (λ w. e ≡ found.Gives w) →
-    IfSome r (GivesWord c a o)
-given_if c a o e None steps same is = tt
-given_if c a o e (Some w) steps same is = given c a o w steps (sym same ∙ ap (effect_of c.program a) is)
 
 -- instructions whose step is their effect
 abbrev pub is_value : Op → Bool
@@ -51,9 +42,18 @@ by_effect c a (op.Select to test ty x y) h = λ v fs os. refl
 by_effect c a (op.GetElementPtr to ty base indices) h = λ v fs os. refl
 by_effect c a o h = absurd (cc)
 
-pub value_given : (c : Code) (a : Activation) (o : Op) (e : Found) (r : Option Word) → is_value o ≡ true → effect_of c.program a e ≡ effect c.program a o → IfSome r (λ w. e ≡ found.Gives w) →
-    IfSome r (GivesWord c a o)
-value_given c a o e r h same is = given_if c a o e r (by_effect c a o h) same is
+pub value_given : (c : Code) (a : Activation) (o : Op) (w : Word) → is_value o ≡ true → value_effect a w ≡ effect c.program a o → GivesWord c a o w
+value_given c a o w h same = given c a o w (by_effect c a o h) (sym same)
+
+-- if there is a value
+pub value_given_if : (c : Code) (a : Activation) (o : Op) (r : Option Word) → is_value o ≡ true → IfSome r (λ w. value_effect a w ≡ effect c.program a o) → IfSome r (GivesWord c a o)
+value_given_if c a o None h same = tt
+value_given_if c a o (Some w) h same = value_given c a o w h same
+
+-- a division has one, if it has a result
+pub quotient_given : (c : Code) (a : Activation) (o : Op) (r q : Option Word) → is_value o ≡ true → effect c.program a o ≡ division a q → r ≡ q → IfSome r (GivesWord c a o)
+quotient_given c a o None q h does is = tt
+quotient_given c a o (Some w) q h does is = value_given c a o w h (ap (division a) is ∙ sym does)
 
 -- behind the instruction the function stands where the step leads
 pub goes_to : (c : Code) (a b : Activation) (o : Op) (w : Word) → head_of a.code ≡ Some o → GivesWord c a o w → b ≡ activation_behind (Some w) a → GoesTo c a b

@@ -1,6 +1,7 @@
 pub mod Choices
 pub mod Firsts
 pub mod Jumping
+pub mod Leading
 pub mod Legs
 pub mod Places
 pub mod Tabled

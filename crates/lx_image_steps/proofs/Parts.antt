@@ -1,6 +1,9 @@
 -- The parts of types within the limits, modulo 2^64.
 use Rattle.std.proofs.Common.{◌≡◌, ℕ, ◌+◌, ◌*◌, ◌%◌, ◌^◌, ◌<◌, Some, None, List, [], ◌∷◌, IsTrue, ℤ, pos, refl, sym, ap, ◌∙◌, subst, arith}
 use Rattle.std.specs.Prelude.{nat_abs, negsuc, ◌+ℤ◌, ◌*ℤ◌}
+use Rattle.lx_words.specs.declared.word.Width.{Width}
+use Rattle.lx_words.specs.declared.word.Width.TheVariants.{W1, W8, W16, W32, W64}
+use Rattle.lx_words.specs.Width.{bit_count}
 use Rattle.lx_words.specs.Word.{modulo}
 use Rattle.lx_ir.specs.declared.types.NamedType.{NamedType}
 use Rattle.lx_ir.specs.IrType.{IrType}
@@ -74,6 +77,14 @@ address types t size i inner z is e f h g =
     ap (λ x. (x + inner) % 2 ^ 64) (product z i size (size_of types t) e f h)
     ∙ ap (λ x. (modulo (z *ℤ pos (size_of types t)) (2 ^ 64) + x) % 2 ^ 64) g
     ∙ modulo_sum (z *ℤ pos (size_of types t)) (part_at types t is).offset
+
+-- a word is below the modulus of the widest
+pub word_below : (w : Width) (n : ℕ) → n < 2 ^ bit_count w → n < 2 ^ 64
+word_below W1 n h = omega (arith, h)
+word_below W8 n h = omega (arith, h)
+word_below W16 n h = omega (arith, h)
+word_below W32 n h = omega (arith, h)
+word_below W64 n h = h
 
 -- the base and what lies behind it
 pub based : (base off : ℕ) (z : ℤ) → base < 2 ^ 64 → off ≡ modulo z (2 ^ 64) → (base + off) % 2 ^ 64 ≡ modulo (pos base +ℤ z) (2 ^ 64)

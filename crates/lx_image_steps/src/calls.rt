@@ -2,7 +2,7 @@
 ghost use Rattle.std.specs.Prelude.{◌≡◌, IfOk};
 ghost use Rattle.lx_model.specs.Effect.{call_effect, slot_effect, target_effect, argument_words, text_of};
 ghost use Rattle.lx_model.specs.Program.{target};
-ghost use Rattle.lx_image_steps.specs.Effects.{effect_of};
+ghost use Rattle.lx_image_steps.specs.Effects.{effect_of, Stays};
 ghost use Rattle.lx_image_steps.specs.Standing.{run_of};
 
 use crate::activation::Activation;
@@ -24,7 +24,8 @@ fn call_slot(
     ty: u32,
     args: &[Argument],
 ) -> Result<Effect, Memory>
-    ensures { IfOk result (λ e. effect_of code.now.program (run_of code.now run.now) e ≡ slot_effect ty (argument_words code.now.program (run_of code.now run.now) args.now)) }
+    ensures does { IfOk result (λ e. effect_of code.now.program (run_of code.now run.now) e ≡ slot_effect ty (argument_words code.now.program (run_of code.now run.now) args.now)) }
+    ensures stays { IfOk result Stays }
 {
     match args.split_first() {
         Some((first, others)) => {
@@ -47,7 +48,8 @@ fn call_function(
     number: u32,
     args: &[Argument],
 ) -> Result<Effect, Memory>
-    ensures { IfOk result (λ e. effect_of code.now.program (run_of code.now run.now) e ≡ target_effect (target code.now.program (text_of code.now.program (run_of code.now run.now)) number) (argument_words code.now.program (run_of code.now run.now) args.now)) }
+    ensures does { IfOk result (λ e. effect_of code.now.program (run_of code.now run.now) e ≡ target_effect (target code.now.program (text_of code.now.program (run_of code.now run.now)) number) (argument_words code.now.program (run_of code.now run.now) args.now)) }
+    ensures stays { IfOk result Stays }
 {
     let program = code.program_code();
     match program.target(program.home(run.function), number) {
@@ -82,7 +84,8 @@ pub(crate) fn call(
     callee: &Callee,
     args: &[Argument],
 ) -> Result<Effect, Memory>
-    ensures { IfOk result (λ e. effect_of code.now.program (run_of code.now run.now) e ≡ call_effect code.now.program (run_of code.now run.now) callee.now (argument_words code.now.program (run_of code.now run.now) args.now)) }
+    ensures does { IfOk result (λ e. effect_of code.now.program (run_of code.now run.now) e ≡ call_effect code.now.program (run_of code.now run.now) callee.now (argument_words code.now.program (run_of code.now run.now) args.now)) }
+    ensures stays { IfOk result Stays }
 {
     match callee {
         Callee::Symbol(Symbol::Function(number)) => {

@@ -1,7 +1,9 @@
 //! The effect of an instruction.
-ghost use Rattle.std.specs.Prelude.{◌≡◌, IsTrue, MatchResult, true};
-ghost use Rattle.lx_model.specs.Effect.{effect, types_of};
-ghost use Rattle.lx_image_steps.specs.Effects.{effect_of, is_call};
+ghost use Rattle.std.specs.Prelude.{◌≡◌, IfOk, IsTrue, MatchResult, true};
+ghost use Rattle.lx_model.specs.declared.program.Program.{Program};
+ghost use Rattle.lx_model.specs.Thread.{Activation as Running};
+ghost use Rattle.lx_model.specs.Effect.{division, effect, types_of};
+ghost use Rattle.lx_image_steps.specs.Effects.{effect_of, is_call, label_after, Leads, Stays};
 ghost use Rattle.lx_code.specs.Reach.{is_sized};
 ghost use Rattle.lx_image_steps.specs.Standing.{run_of};
 
@@ -35,7 +37,19 @@ pub enum Effect {
     Traps(Trap),
 }
 
+// A value is given; a division without a result traps.
+fn given(value: Option<Word>) -> Effect
+    ensures does { (p : Program) → (a : Running) → effect_of p a result ≡ division a value }
+    ensures stays { Stays result }
+{
+    match value {
+        Some(word) => Effect::Gives(word),
+        None => Effect::Traps(Trap::Division),
+    }
+}
+
 /// What an instruction of a running function does. `Memory` where there is no room for the arguments of a call.
+#[tactic(auto, using(crate::proofs::Leading::stays))]
 pub(crate) fn instruction_effect(
     alloc: Global,
     code: &Code,
@@ -43,28 +57,29 @@ pub(crate) fn instruction_effect(
     op: &Op,
 ) -> Result<Effect, Memory>
     requires { IsTrue (is_sized (types_of code.now.program (run_of code.now run.now)) op.now) }
-    ensures { MatchResult result (λ e. effect_of code.now.program (run_of code.now run.now) e ≡ effect code.now.program (run_of code.now run.now) op.now) (λ _. is_call op.now ≡ true) }
+    ensures does { MatchResult result (λ e. effect_of code.now.program (run_of code.now run.now) e ≡ effect code.now.program (run_of code.now run.now) op.now) (λ _. is_call op.now ≡ true) }
+    ensures leads { IfOk result (Leads (run_of code.now run.now) (label_after code.now.program (run_of code.now run.now) op.now)) }
 {
     match op {
-        Op::Binary { op, a, b, .. } => Ok(binary(code, run, *op, a, b)),
-        Op::Compare { pred, a, b, .. } => Ok(compare(code, run, *pred, a, b)),
-        Op::Convert { how, a, into, .. } => Ok(convert(code, run, *how, a, into)),
+        Op::Binary { op, a, b, .. } => Ok(given(binary(code, run, *op, a, b))),
+        Op::Compare { pred, a, b, .. } => Ok(Effect::Gives(compare(code, run, *pred, a, b))),
+        Op::Convert { how, a, into, .. } => Ok(Effect::Gives(convert(code, run, *how, a, into))),
         Op::Unary { op, a, .. } => Ok(Effect::Gives(unary(*op, operand(code, run, a)))),
         Op::Select {
             condition,
             a,
             b,
             ..
-        } => Ok(select(code, run, condition, a, b)),
-        Op::Alloca { ty, .. } => Ok(alloca(code, run, ty)),
-        Op::Load { ty, at, .. } => Ok(load(code, run, ty, at)),
-        Op::Store { ty, value, at } => Ok(store(code, run, ty, value, at)),
+        } => Ok(Effect::Gives(select(code, run, condition, a, b))),
+        Op::Alloca { ty, .. } => Ok(Effect::Wants(alloca(code, run, ty))),
+        Op::Load { ty, at, .. } => Ok(Effect::Wants(load(code, run, ty, at))),
+        Op::Store { ty, value, at } => Ok(Effect::Wants(store(code, run, ty, value, at))),
         Op::GetElementPtr {
             ty,
             base,
             indices,
             ..
-        } => Ok(element(code, run, ty, base, indices.as_slice())),
+        } => Ok(Effect::Gives(element(code, run, ty, base, indices.as_slice()))),
         Op::Call { callee, args, .. } => {
             let effect = call(alloc, code, run, callee, args.as_slice())?;
             Ok(effect)
@@ -74,8 +89,8 @@ pub(crate) fn instruction_effect(
             source,
             len,
             ..
-        } => Ok(copy(code, run, dest, source, len)),
-        Op::FillBlock { dest, byte, len } => Ok(fill(code, run, dest, byte, len)),
+        } => Ok(Effect::Wants(copy(code, run, dest, source, len))),
+        Op::FillBlock { dest, byte, len } => Ok(Effect::Wants(fill(code, run, dest, byte, len))),
         Op::Ret { .. } => Ok(Effect::Wants(What::Return {
             low: run.low,
             high: run.high,

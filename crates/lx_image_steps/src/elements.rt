@@ -4,12 +4,10 @@ ghost use Rattle.lx_words.specs.Word.{signed, modulo};
 ghost use Rattle.lx_ir.specs.Layout.{element_offset, is_lawful_type, part_at, part_of, unnamed};
 ghost use Rattle.lx_image_steps.specs.Parts.{IsPartModulo};
 ghost use Rattle.lx_ir.specs.declared.instr.Op.TheVariants as op;
-ghost use Rattle.lx_model.specs.Effect.{effect, types_of, indices_of};
-ghost use Rattle.lx_image_steps.specs.Effects.{effect_of};
+ghost use Rattle.lx_model.specs.Effect.{effect, types_of, indices_of, value_effect};
 ghost use Rattle.lx_image_steps.specs.Standing.{run_of};
 
 use crate::activation::Activation;
-use crate::effect::Effect;
 use crate::operand::{operand, text_of};
 use lx_code::{Part, element_of, field_named};
 use lx_image_code::Code;
@@ -84,14 +82,14 @@ pub(crate) fn element(
     ty: &IrType,
     base: &Value,
     indices: &[Argument],
-) -> Effect
+) -> Word
     requires { IsTrue (is_lawful_type (types_of code.now.program (run_of code.now run.now)) ty.now) }
-    ensures { (to : ℕ) → effect_of code.now.program (run_of code.now run.now) result ≡ effect code.now.program (run_of code.now run.now) (op.GetElementPtr to ty.now base.now indices.now) }
+    ensures { (to : ℕ) → value_effect (run_of code.now run.now) result ≡ effect code.now.program (run_of code.now run.now) (op.GetElementPtr to ty.now base.now indices.now) }
 {
     let text = text_of(code, run);
     let base = operand(code, run, base).bits;
-    Effect::Gives(Word {
+    Word {
         width: Width::W64,
         bits: base.wrapping_add(offset(code, run, text, ty, indices)),
-    })
+    }
 }

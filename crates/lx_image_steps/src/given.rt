@@ -4,10 +4,8 @@ ghost use Rattle.lx_image_code.specs.Jumps.{op_at};
 ghost use Rattle.lx_images.specs.Image.{image_routine};
 ghost use Rattle.lx_image_steps.specs.Given.{GivesWord, GoesTo};
 ghost use Rattle.lx_image_steps.specs.Standing.{run_of};
-ghost use Rattle.lx_image_steps.specs.declared.effect.Effect.TheVariants as found;
 
 use crate::activation::Activation;
-use crate::effect::Effect;
 use crate::operand::operand;
 use crate::routes::element_by_table;
 use crate::steps::{instr_at, instrs_of, next_place};
@@ -16,38 +14,25 @@ use lx_image_code::Code;
 use lx_ir::instr::Op;
 use lx_words::Word;
 
-// The word that an effect gives the register of its instruction; none, where it is another effect.
-fn word_of(effect: Effect) -> Option<Word>
-    ensures { IfSome result (λ w. effect ≡ found.Gives w) }
-{
-    match effect {
-        Effect::Gives(word) => Some(word),
-        _ => None,
-    }
-}
-
 // The value that an instruction at a place of the block that runs gives of its operands alone; none, where it is another one, a division
 // without a result, or the address of a part that no table has.
-#[tactic(auto, using(crate::proofs::Giving::value_given, crate::proofs::Giving::given))]
+#[tactic(auto, using(crate::proofs::Giving::value_given, crate::proofs::Giving::value_given_if, crate::proofs::Giving::quotient_given))]
 fn value_given(code: &Code, run: &Activation, place: usize, op: &Op) -> Option<Word>
     requires { op_at (image_routine code.now run.now.function).blocks run.now.block place ≡ Some op.now }
     ensures { IfSome result (GivesWord code.now (run_of code.now run.now) op.now) }
 {
     match op {
-        Op::Binary { op, a, b, .. } => word_of(binary(code, run, *op, a, b)),
-        Op::Compare { pred, a, b, .. } => word_of(compare(code, run, *pred, a, b)),
-        Op::Convert { how, a, into, .. } => word_of(convert(code, run, *how, a, into)),
+        Op::Binary { op, a, b, .. } => binary(code, run, *op, a, b),
+        Op::Compare { pred, a, b, .. } => Some(compare(code, run, *pred, a, b)),
+        Op::Convert { how, a, into, .. } => Some(convert(code, run, *how, a, into)),
         Op::Unary { op, a, .. } => Some(unary(*op, operand(code, run, a))),
         Op::Select {
             condition,
             a,
             b,
             ..
-        } => word_of(select(code, run, condition, a, b)),
-        Op::GetElementPtr { .. } => match element_by_table(code, run, place, op) {
-            Some(effect) => word_of(effect),
-            None => None,
-        },
+        } => Some(select(code, run, condition, a, b)),
+        Op::GetElementPtr { .. } => element_by_table(code, run, place, op),
         _ => None,
     }
 }

@@ -8,7 +8,7 @@ ghost use Rattle.lx_code.specs.Fits.{wants_table};
 ghost use Rattle.lx_image_code.specs.Jumps.{op_at};
 ghost use Rattle.lx_model.specs.Effect.{effect, jump_effect, chosen_label, bits, choice};
 ghost use Rattle.lx_images.specs.Image.{image_routine};
-ghost use Rattle.lx_image_steps.specs.Effects.{effect_of};
+ghost use Rattle.lx_image_steps.specs.Effects.{effect_of, Leads, label_after};
 ghost use Rattle.lx_image_steps.specs.Standing.{label_at, run_of};
 
 use crate::activation::Activation;
@@ -22,7 +22,8 @@ use lx_words::Name;
 
 /// Control goes to the block with a label.
 pub(crate) fn jump(code: &Code, run: &Activation, label: &Name) -> Effect
-    ensures { effect_of code.now.program (run_of code.now run.now) result ≡ jump_effect code.now.program (run_of code.now run.now) label.now }
+    ensures does { effect_of code.now.program (run_of code.now run.now) result ≡ jump_effect code.now.program (run_of code.now run.now) label.now }
+    ensures leads { Leads (run_of code.now run.now) (Some label.now) result }
 {
     match code.block_named(run.function, label.as_slice()) {
         Some(number) => Effect::Jumps(number),
@@ -39,7 +40,8 @@ pub(crate) fn branch(
     if_true: &Name,
     if_false: &Name,
 ) -> Effect
-    ensures { effect_of code.now.program (run_of code.now run.now) result ≡ jump_effect code.now.program (run_of code.now run.now) (choice (bits code.now.program (run_of code.now run.now) condition.now) if_true.now if_false.now) }
+    ensures does { effect_of code.now.program (run_of code.now run.now) result ≡ jump_effect code.now.program (run_of code.now run.now) (choice (bits code.now.program (run_of code.now run.now) condition.now) if_true.now if_false.now) }
+    ensures leads { Leads (run_of code.now run.now) (Some (choice (bits code.now.program (run_of code.now run.now) condition.now) if_true.now if_false.now)) result }
 {
     let test = operand(code, run, condition).bits;
     if test == 0 {
@@ -79,7 +81,8 @@ pub(crate) fn switch(
     otherwise: &Name,
     cases: &[SwitchCase],
 ) -> Effect
-    ensures { effect_of code.now.program (run_of code.now run.now) result ≡ jump_effect code.now.program (run_of code.now run.now) (chosen_label code.now.program (run_of code.now run.now) (bits code.now.program (run_of code.now run.now) value.now) otherwise.now cases.now) }
+    ensures does { effect_of code.now.program (run_of code.now run.now) result ≡ jump_effect code.now.program (run_of code.now run.now) (chosen_label code.now.program (run_of code.now run.now) (bits code.now.program (run_of code.now run.now) value.now) otherwise.now cases.now) }
+    ensures leads { Leads (run_of code.now run.now) (Some (chosen_label code.now.program (run_of code.now run.now) (bits code.now.program (run_of code.now run.now) value.now) otherwise.now cases.now)) result }
 {
     let number = operand(code, run, value).bits;
     jump(code, run, chosen_label(code, run, number, otherwise, cases))
@@ -109,6 +112,7 @@ pub(crate) fn switch_by_table(
     requires { op_at (image_routine code.now run.now.function).blocks run.now.block place ≡ Some op.now }
     ensures quick { (ty : Scalar) → (v : Value) → (otherwise : List ℕ) → (cases : List SwitchCase) → op.now ≡ op_is.Switch ty v otherwise cases → wants_table op.now ≡ true → IsSome result }
     ensures does { IfSome result (λ e. effect_of code.now.program (run_of code.now run.now) e ≡ effect code.now.program (run_of code.now run.now) op.now) }
+    ensures leads { IfSome result (Leads (run_of code.now run.now) (label_after code.now.program (run_of code.now run.now) op.now)) }
 {
     match op {
         Op::Switch {

@@ -4,7 +4,7 @@ ghost use Rattle.lx_image_code.specs.Jumps.{op_at};
 ghost use Rattle.lx_code.specs.Reach.{is_sized};
 ghost use Rattle.lx_model.specs.Effect.{effect, types_of};
 ghost use Rattle.lx_images.specs.Image.{image_routine};
-ghost use Rattle.lx_image_steps.specs.Effects.{effect_of, is_call};
+ghost use Rattle.lx_image_steps.specs.Effects.{effect_of, is_call, label_after, Leads};
 ghost use Rattle.lx_image_steps.specs.Next.{IsNext, IsStep, calls_next};
 ghost use Rattle.lx_image_steps.specs.Standing.{head_of, run_of};
 
@@ -36,12 +36,19 @@ pub enum Step {
 // What an instruction at a place of the block that runs does, where a table tells it.
 fn effect_by_table(code: &Code, run: &Activation, place: usize, op: &Op) -> Option<Effect>
     requires { op_at (image_routine code.now run.now.function).blocks run.now.block place ≡ Some op.now }
-    ensures { IfSome result (λ e. effect_of code.now.program (run_of code.now run.now) e ≡ effect code.now.program (run_of code.now run.now) op.now) }
+    ensures does { IfSome result (λ e. effect_of code.now.program (run_of code.now run.now) e ≡ effect code.now.program (run_of code.now run.now) op.now) }
+    ensures leads { IfSome result (Leads (run_of code.now run.now) (label_after code.now.program (run_of code.now run.now) op.now)) }
 {
     match op {
         Op::Switch { .. } => switch_by_table(code, run, place, op),
-        Op::GetElementPtr { .. } => element_by_table(code, run, place, op),
-        Op::Alloca { .. } => alloca_by_table(code, run, place, op),
+        Op::GetElementPtr { .. } => match element_by_table(code, run, place, op) {
+            Some(word) => Some(Effect::Gives(word)),
+            None => None,
+        },
+        Op::Alloca { .. } => match alloca_by_table(code, run, place, op) {
+            Some(what) => Some(Effect::Wants(what)),
+            None => None,
+        },
         _ => None,
     }
 }

@@ -6,13 +6,11 @@ ghost use Rattle.lx_ir.specs.Layout.{element_offset};
 ghost use Rattle.lx_ir.specs.declared.instr.Op.TheVariants as op;
 ghost use Rattle.lx_image_code.specs.Jumps.{op_at};
 ghost use Rattle.lx_code.specs.Routes.{leg_offset, legs_offset, route_offset};
-ghost use Rattle.lx_model.specs.Effect.{effect, types_of, indices_of};
+ghost use Rattle.lx_model.specs.Effect.{effect, types_of, indices_of, value_effect};
 ghost use Rattle.lx_images.specs.Image.{image_routine};
-ghost use Rattle.lx_image_steps.specs.Effects.{effect_of};
 ghost use Rattle.lx_image_steps.specs.Standing.{run_of};
 
 use crate::activation::Activation;
-use crate::effect::Effect;
 use crate::elements::signed_bits;
 use crate::operand::operand;
 use lx_code::{Leg, Route};
@@ -64,25 +62,20 @@ fn element_along(
     route: &Route,
     base: &Value,
     indices: &[Argument],
-) -> Effect
-    ensures { (to : ℕ) → (ty : IrType) → element_offset (types_of code.now.program (run_of code.now run.now)) ty (indices_of code.now.program (run_of code.now run.now) indices.now) ≡ route_offset route.now (indices_of code.now.program (run_of code.now run.now) indices.now) → effect_of code.now.program (run_of code.now run.now) result ≡ effect code.now.program (run_of code.now run.now) (op.GetElementPtr to ty base.now indices.now) }
+) -> Word
+    ensures { (to : ℕ) → (ty : IrType) → element_offset (types_of code.now.program (run_of code.now run.now)) ty (indices_of code.now.program (run_of code.now run.now) indices.now) ≡ route_offset route.now (indices_of code.now.program (run_of code.now run.now) indices.now) → value_effect (run_of code.now run.now) result ≡ effect code.now.program (run_of code.now run.now) (op.GetElementPtr to ty base.now indices.now) }
 {
     let base = operand(code, run, base).bits;
-    Effect::Gives(Word {
+    Word {
         width: Width::W64,
         bits: base.wrapping_add(route_bytes(code, run, route, indices)),
-    })
+    }
 }
 
-/// What a `getelementptr` at a place of the block that runs does, by its route; none, where it has none.
-pub(crate) fn element_by_table(
-    code: &Code,
-    run: &Activation,
-    place: usize,
-    op: &Op,
-) -> Option<Effect>
+/// What a `getelementptr` at a place of the block that runs gives, by its route; none, where it has none.
+pub(crate) fn element_by_table(code: &Code, run: &Activation, place: usize, op: &Op) -> Option<Word>
     requires { op_at (image_routine code.now run.now.function).blocks run.now.block place ≡ Some op.now }
-    ensures { IfSome result (λ e. effect_of code.now.program (run_of code.now run.now) e ≡ effect code.now.program (run_of code.now run.now) op.now) }
+    ensures { IfSome result (λ w. value_effect (run_of code.now run.now) w ≡ effect code.now.program (run_of code.now run.now) op.now) }
 {
     match op {
         Op::GetElementPtr { base, indices, .. } => {

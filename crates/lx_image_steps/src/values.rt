@@ -1,28 +1,25 @@
 //! Instructions that give a value of their operands.
 ghost use Rattle.std.specs.Prelude.{◌≡◌};
 ghost use Rattle.lx_words.specs.Word.{binary, compare, word};
-ghost use Rattle.lx_model.specs.Effect.{operand, bits, division, value_effect, truth_word, conversion, choice, unary_value};
-ghost use Rattle.lx_image_steps.specs.Effects.{effect_of};
+ghost use Rattle.lx_model.specs.Effect.{operand, bits, truth_word, conversion, choice, unary_value};
 ghost use Rattle.lx_image_steps.specs.Standing.{run_of};
 
 use crate::activation::Activation;
-use crate::effect::Effect;
 use crate::operand::operand;
 use lx_code::width_of;
 use lx_image_code::Code;
 use lx_ir::instr::{Conversion, UnaryOp};
 use lx_ir::module::Value;
 use lx_ir::types::Scalar;
-use lx_model::request::Trap;
 use lx_words::{BinOp, Pred, Width, Word, resize};
 
-/// An operator on two words; a division without a result traps.
-pub(crate) fn binary(code: &Code, run: &Activation, op: BinOp, a: &Value, b: &Value) -> Effect
-    ensures { effect_of code.now.program (run_of code.now run.now) result ≡ division (run_of code.now run.now) (binary op (operand code.now.program (run_of code.now run.now) a.now) (operand code.now.program (run_of code.now run.now) b.now)) }
+/// The result of an operator on two words; none, where a division has no result.
+pub(crate) fn binary(code: &Code, run: &Activation, op: BinOp, a: &Value, b: &Value) -> Option<Word>
+    ensures { result ≡ binary op (operand code.now.program (run_of code.now run.now) a.now) (operand code.now.program (run_of code.now run.now) b.now) }
 {
     match lx_words::binary(op, operand(code, run, a), operand(code, run, b)) {
-        Ok(word) => Effect::Gives(word),
-        Err(_) => Effect::Traps(Trap::Division),
+        Ok(word) => Some(word),
+        Err(_) => None,
     }
 }
 
@@ -47,11 +44,10 @@ fn truth(holds: bool) -> Word
 }
 
 /// Whether a comparison holds.
-pub(crate) fn compare(code: &Code, run: &Activation, pred: Pred, a: &Value, b: &Value) -> Effect
-    ensures { effect_of code.now.program (run_of code.now run.now) result ≡ value_effect (run_of code.now run.now) (truth_word (compare pred (operand code.now.program (run_of code.now run.now) a.now) (operand code.now.program (run_of code.now run.now) b.now))) }
+pub(crate) fn compare(code: &Code, run: &Activation, pred: Pred, a: &Value, b: &Value) -> Word
+    ensures { result ≡ truth_word (compare pred (operand code.now.program (run_of code.now run.now) a.now) (operand code.now.program (run_of code.now run.now) b.now)) }
 {
-    let holds = lx_words::compare(pred, operand(code, run, a), operand(code, run, b));
-    Effect::Gives(truth(holds))
+    truth(lx_words::compare(pred, operand(code, run, a), operand(code, run, b)))
 }
 
 // A word at another type.
@@ -71,27 +67,21 @@ pub(crate) fn convert(
     how: Conversion,
     value: &Value,
     into: &Scalar,
-) -> Effect
-    ensures { effect_of code.now.program (run_of code.now run.now) result ≡ value_effect (run_of code.now run.now) (conversion how (operand code.now.program (run_of code.now run.now) value.now) into.now) }
+) -> Word
+    ensures { result ≡ conversion how (operand code.now.program (run_of code.now run.now) value.now) into.now }
 {
-    Effect::Gives(converted(how, operand(code, run, value), into))
+    converted(how, operand(code, run, value), into)
 }
 
 /// The first value, unless the condition is 0.
 #[tactic(auto, using(crate::proofs::Choices::second_chosen, crate::proofs::Choices::first_chosen))]
-pub(crate) fn select(
-    code: &Code,
-    run: &Activation,
-    condition: &Value,
-    a: &Value,
-    b: &Value,
-) -> Effect
-    ensures { effect_of code.now.program (run_of code.now run.now) result ≡ value_effect (run_of code.now run.now) (choice (bits code.now.program (run_of code.now run.now) condition.now) (operand code.now.program (run_of code.now run.now) a.now) (operand code.now.program (run_of code.now run.now) b.now)) }
+pub(crate) fn select(code: &Code, run: &Activation, condition: &Value, a: &Value, b: &Value) -> Word
+    ensures { result ≡ choice (bits code.now.program (run_of code.now run.now) condition.now) (operand code.now.program (run_of code.now run.now) a.now) (operand code.now.program (run_of code.now run.now) b.now) }
 {
     let test = operand(code, run, condition);
     let first = operand(code, run, a);
     let second = operand(code, run, b);
-    Effect::Gives(chosen(test.bits, first, second))
+    chosen(test.bits, first, second)
 }
 
 // The first word, unless the number is 0.

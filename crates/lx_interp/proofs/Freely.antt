@@ -1,26 +1,40 @@
 -- Where memory is not wanted.
-use Rattle.std.proofs.Common.{◌≡◌, ℕ, Option, Some, None, sym, ◌∙◌, arith}
-use Rattle.std.specs.Prelude.{slice_get}
-use Rattle.lx_ir.specs.declared.instr.Op.{Op}
+use Rattle.std.proofs.Common.{◌≡◌, ℕ, ◌<◌, true, false, List, [], ◌∷◌, Option, Some, None, IsSome, refl, ap, ◌∙◌, subst, arith}
+use Rattle.std.specs.Prelude.{bytes_eq, find}
+use Rattle.lx_words.proofs.Lists.{bytes_itself}
+use Rattle.lx_ir.specs.declared.instr.Op.TheVariants as op
 use Rattle.lx_model.specs.declared.program.Program.{Program}
 use Rattle.lx_model.specs.declared.request.Outcome.{Outcome}
-use Rattle.lx_model.specs.declared.request.What.{What}
 use Rattle.lx_model.specs.Thread.{Activation, CodeBlock}
-use Rattle.lx_model.specs.Effect.{Wants, arrival, effect}
+use Rattle.lx_model.specs.Effect.{code_block_named, is_phi}
+use Rattle.lx_model.specs.Next.{has_action}
 use Rattle.lx_images.specs.Image.{Code}
+use Rattle.lx_image_code.specs.declared.line.Line.TheVariants as line
 use Rattle.lx_image_steps.specs.declared.activation.Activation.{Activation as Running}
 use Rattle.lx_frames.specs.declared.frame.Frame.{Frame as KeptFrame}
 use Rattle.lx_frames.specs.declared.frame.Frame.TheVariants as kept
 use Rattle.lx_interp.specs.declared.runner.Runner.{Runner}
-use Rattle.lx_interp.specs.Lacks.{GoesToPhis, MayLack, TopLacks}
+use Rattle.lx_interp.specs.Lacks.{GoesToPhis, HasPhisIn, LineLacks, MayLack, OpLacks, TopLacks}
 
-no_arrival : (p : Program) (a : Activation) (b : Option CodeBlock) (w : What) → Wants w ≡ arrival p a b → ⊥
-no_arrival p a None w e = absurd (cc)
-no_arrival p a (Some b) w e = absurd (cc)
+named_first : (b : CodeBlock) (bs : List CodeBlock) → bytes_eq b.label b.label ≡ true → code_block_named (b ∷ bs) b.label ≡ Some b
+named_first b bs e = search
 
--- what asks for something goes to no phis
-pub asks : (p : Program) (a : Activation) (o : Op) (w : What) → effect p a o ≡ Wants w → GoesToPhis p a o → ⊥
-asks p a o w e lacks = no_arrival p a (slice_get a.blocks lacks.0) w (sym e ∙ lacks.1)
+no_phis : (b : CodeBlock) → find is_phi b.code ≡ None → HasPhisIn (Some b) → ⊥
+no_phis b e h = absurd (cc)
+
+-- a jump to the only block, which has no phis
+pub jump_lacks : (p : Program) (a : Activation) (b : CodeBlock) → a.blocks ≡ b ∷ [] → find is_phi b.code ≡ None → OpLacks p a (Some (op.Jump b.label)) → ⊥
+jump_lacks p a b only e h =
+    no_phis b e (subst HasPhisIn (ap (λ (bs : List CodeBlock). code_block_named bs b.label) only ∙ named_first b [] (bytes_itself b.label)) h)
+
+pub acts_lack : (p : Program) (n at k : ℕ) → has_action p n false k ≡ false → LineLacks p n at (line.Pre k) → ⊥
+acts_lack p n at k e h = absurd (cc)
+
+pub acts_behind_lack : (p : Program) (n at k : ℕ) → has_action p n true k ≡ false → LineLacks p n at (line.Post k) → ⊥
+acts_behind_lack p n at k e h = absurd (cc)
+
+pub leaves_lack : (p : Program) (n at : ℕ) → at < 18446744073709551615 → LineLacks p n at line.Leave → ⊥
+leaves_lack p n at lt h = absurd (omega (arith, lt, h))
 
 pub unpaid_top : (c : Code) (fuel : ℕ) (top : Option KeptFrame) (run : Running) → top ≡ Some (kept.Runs run) → fuel ≡ 0 → TopLacks c fuel top → ⊥
 unpaid_top c fuel None run e zero lacks = absurd (cc)

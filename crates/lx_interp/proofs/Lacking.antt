@@ -1,20 +1,20 @@
 -- Where a step may want memory.
 use Rattle.std.proofs.Common.{◌≡◌, ℕ, ◌<◌, Bool, true, false, Option, Some, None, IsSome, List, ◌∷◌, drop, refl, sym, ap, ◌∙◌, subst}
-use Rattle.std.specs.Prelude.{slice_get}
+use Rattle.std.specs.Prelude.{find, slice_get}
 use Rattle.std.proofs.lemmas.Option.{same_Some}
 use Rattle.lx_words.specs.Word.{Word, binary}
 use Rattle.lx_ir.specs.declared.instr.Op.{Op}
 use Rattle.lx_ir.specs.declared.instr.Op.TheVariants as op
 use Rattle.lx_model.specs.declared.program.Program.{Program}
 use Rattle.lx_model.specs.Thread.{Activation, CodeBlock}
-use Rattle.lx_model.specs.Effect.{Effect, Wants, Enters, Calls, arrival, bits, choice, chosen_label, code_block_named, division, effect, operand, text_of}
+use Rattle.lx_model.specs.Effect.{Effect, Wants, Enters, Calls, arrival, bits, choice, chosen_label, code_block_named, division, effect, is_phi, operand, text_of}
 use Rattle.lx_model.specs.Next.{has_action}
 use Rattle.lx_images.specs.Image.{Code, ImageFrame, Runs, wrapped_import}
 use Rattle.lx_image_code.specs.declared.line.Line.TheVariants as line
 use Rattle.lx_image_code.specs.declared.wrappers.Wrapper.{Wrapper}
-use Rattle.lx_image_steps.specs.Effects.{effect_of}
+use Rattle.lx_image_steps.specs.Effects.{effect_of, IsBlockOf, label_after, Leads}
 use Rattle.lx_image_steps.specs.Next.{IsNext, calls_next}
-use Rattle.lx_image_steps.specs.Standing.{head_of, run_of}
+use Rattle.lx_image_steps.specs.Standing.{block_or_none, head_of, run_of}
 use Rattle.lx_image_steps.specs.declared.activation.Activation.{Activation as Running}
 use Rattle.lx_image_steps.specs.declared.effect.Effect.{Effect as Found}
 use Rattle.lx_image_steps.specs.declared.effect.Effect.TheVariants as found
@@ -25,7 +25,7 @@ use Rattle.lx_frames.specs.declared.frame.Frame.TheVariants as kept
 use Rattle.lx_frames.specs.Frames.{IsUncountedOn, Stack, frames_of, function_on, line_on, running_on}
 use Rattle.lx_frames.specs.Stack.{takes_room}
 use Rattle.lx_interp.specs.declared.runner.Runner.{Runner}
-use Rattle.lx_interp.specs.Lacks.{FoundLacks, FoundLacksOn, HasPhis, LineLacks, MayLack, NextOn, OpLacks, RunLacks, TopLacks}
+use Rattle.lx_interp.specs.Lacks.{FoundLacks, FoundLacksOn, GoesToPhis, HasPhis, HasPhisIn, LineLacks, MayLack, NextOn, OpLacks, RunLacks, TopLacks}
 use Rattle.lx_interp.specs.Runner.{HasStayed, asked_by}
 
 -- the instruction by which memory is wanted
@@ -39,10 +39,18 @@ crosses_op : (c : Code) (a : Activation) (o : Op) (n : ℕ) → wrapped_import c
 crosses_op c a (op.Call to ret callee args) n e = tt
 crosses_op c a o n e = absurd (cc)
 
-jump_op : (p : Program) (a : Activation) (o : Op) (k : ℕ) → effect p a o ≡ arrival p a (slice_get a.blocks k) → HasPhis a k → OpLacks p a (Some o)
-jump_op p a (op.Call to ret callee args) k e h = tt
-jump_op p a (op.Alloca to ty) k e h = tt
-jump_op p a o k e h = (k, e, h)
+phis_in : (b : Option CodeBlock) → IsSome (find is_phi (block_or_none b).code) → HasPhisIn b
+phis_in None h = absurd (cc)
+phis_in (Some b) h = h
+
+goes_to : (a : Activation) (label : Option (List ℕ)) (k : ℕ) → IsBlockOf a label k → HasPhis a k → GoesToPhis a label
+goes_to a None k is h = absurd is
+goes_to a (Some label) k is h = subst HasPhisIn is (phis_in (slice_get a.blocks k) h)
+
+jump_op : (p : Program) (a : Activation) (o : Op) (k : ℕ) → IsBlockOf a (label_after p a o) k → HasPhis a k → OpLacks p a (Some o)
+jump_op p a (op.Call to ret callee args) k is h = tt
+jump_op p a (op.Alloca to ty) k is h = tt
+jump_op p a o k is h = goes_to a (label_after p a o) k is h
 
 -- an effect keeps something: it asks for room, or calls
 keeps : Effect → Bool
@@ -76,14 +84,14 @@ asks_op p a (op.Branch test first second) h = lost _ (arrival_keeps p a (code_bl
 asks_op p a (op.Switch ty v otherwise cases) h = lost _ (arrival_keeps p a (code_block_named a.blocks (chosen_label p a (bits p a v) otherwise cases))) h
 asks_op p a o h = absurd (cc)
 
-found_op : (p : Program) (a : Activation) (o : Op) (e : Found) → effect_of p a e ≡ effect p a o → FoundLacks a e → OpLacks p a (Some o)
+found_op : (p : Program) (a : Activation) (o : Op) (e : Found) → effect_of p a e ≡ effect p a o → Leads a (label_after p a o) e → FoundLacks a e → OpLacks p a (Some o)
 unfolding keeps
-found_op p a o (found.Jumps k) is h = jump_op p a o k (sym is) h
-found_op p a o (found.Wants w) is h = asks_op p a o (ap keeps (sym is) ∙ h)
-found_op p a o (found.Enters w) is h = asks_op p a o (ap keeps (sym is))
-found_op p a o (found.Calls n args) is h = asks_op p a o (ap keeps (sym is))
-found_op p a o (found.Gives w) is h = absurd h
-found_op p a o (found.Traps trap) is h = absurd h
+found_op p a o (found.Jumps k) is leads h = jump_op p a o k leads h
+found_op p a o (found.Wants w) is leads h = asks_op p a o (ap keeps (sym is) ∙ h)
+found_op p a o (found.Enters w) is leads h = asks_op p a o (ap keeps (sym is))
+found_op p a o (found.Calls n args) is leads h = asks_op p a o (ap keeps (sym is))
+found_op p a o (found.Gives w) is leads h = absurd h
+found_op p a o (found.Traps trap) is leads h = absurd h
 
 -- what is found of the function on top
 
@@ -101,7 +109,7 @@ call_lacks c top run e h = λ other here.
     call_op c.program (run_of c other) (head_of (run_of c other).code) (subst (λ (r : Running). calls_next (head_of (run_of c r).code) ≡ true) same h)
 
 does_op : (c : Code) (a : Activation) (o : Option Op) (e : Found) → IsNext c a o (Some (step.Does e)) → FoundLacks a e → OpLacks c.program a o
-does_op c a o e is h = subst (OpLacks c.program a) (sym is.1) (found_op c.program a is.0 e is.2.1 h)
+does_op c a o e is h = subst (OpLacks c.program a) (sym is.1) (found_op c.program a is.0 e is.2.1 is.2.2 h)
 
 crosses_next : (c : Code) (a : Activation) (o : Option Op) (n : ℕ) (args : List Word) (wrapper : Wrapper) → IsNext c a o (Some (step.Crosses n args wrapper)) → OpLacks c.program a o
 crosses_next c a o n args wrapper is = subst (OpLacks c.program a) (sym is.1) (crosses_op c a is.0 n is.2.0)

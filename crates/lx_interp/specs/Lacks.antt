@@ -1,15 +1,16 @@
 -- At which of its register steps a runner may want memory.
-use Rattle.std.specs.Prelude.{◌≡◌, ℕ, ◌<◌, ◌≤◌, false, true, IsTrue, IsSome, Option, Some, None, drop, find, slice_get, ⊤}
+use Rattle.std.specs.Prelude.{◌≡◌, ℕ, ◌<◌, ◌≤◌, false, true, IsTrue, IsSome, List, Option, Some, None, drop, find, ⊤}
 use Rattle.lx_ir.specs.declared.instr.Op.{Op}
 use Rattle.lx_ir.specs.declared.instr.Op.TheVariants as op
 use Rattle.lx_model.specs.declared.program.Program.{Program}
-use Rattle.lx_model.specs.Thread.{Activation}
-use Rattle.lx_model.specs.Effect.{arrival, effect, is_phi}
+use Rattle.lx_model.specs.Thread.{Activation, CodeBlock}
+use Rattle.lx_model.specs.Effect.{code_block_named, is_phi}
 use Rattle.lx_model.specs.Next.{has_action}
 use Rattle.lx_images.specs.Image.{Code}
 use Rattle.lx_image_code.specs.declared.line.Line.{Line}
 use Rattle.lx_image_code.specs.declared.line.Line.TheVariants as line
 use Rattle.lx_image_code.specs.Wrappers.{first_op, line_of, wrapper_lines}
+use Rattle.lx_image_steps.specs.Effects.{label_after}
 use Rattle.lx_image_steps.specs.Next.{IsNext}
 use Rattle.lx_image_steps.specs.Standing.{block_at, head_of, run_of}
 use Rattle.lx_image_steps.specs.declared.activation.Activation.{Activation as Running}
@@ -26,16 +27,23 @@ use Rattle.lx_interp.specs.declared.runner.Runner.{Runner}
 abbrev pub HasPhis : Activation → ℕ → Type 0
 HasPhis a k = IsSome (find is_phi (block_at a.blocks k).code)
 
--- the instruction takes the function to a block with phis
-abbrev pub GoesToPhis : Program → Activation → Op → Type 0
-GoesToPhis p a o = (k : ℕ) × (effect p a o ≡ arrival p a (slice_get a.blocks k)) × HasPhis a k
+-- so it is of a block that was looked for
+abbrev pub HasPhisIn : Option CodeBlock → Type 0
+HasPhisIn None = ⊥
+HasPhisIn (Some b) = IsSome (find is_phi b.code)
 
--- an instruction may want memory: a call for its arguments, an `alloca` for the place of its bytes, and a jump for the words of phis
+-- and of the block that a label names
+abbrev pub GoesToPhis : Activation → Option (List ℕ) → Type 0
+GoesToPhis a None = ⊥
+GoesToPhis a (Some label) = HasPhisIn (code_block_named a.blocks label)
+
+-- an instruction may want memory: a call for its arguments, an `alloca` for the place of its bytes, and a jump to a block with phis for
+-- their words
 abbrev pub OpLacks : Program → Activation → Option Op → Type 0
 OpLacks p a None = ⊥
 OpLacks p a (Some (op.Call to ret callee args)) = ⊤
 OpLacks p a (Some (op.Alloca to ty)) = ⊤
-OpLacks p a (Some o) = GoesToPhis p a o
+OpLacks p a (Some o) = GoesToPhis a (label_after p a o)
 
 -- a wrapper of this function, at this place and line, may want memory: for an action that the function has, and where it leaves and no
 -- number counts the line behind

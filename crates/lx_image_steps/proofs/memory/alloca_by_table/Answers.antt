@@ -34,6 +34,6 @@ returns-in-Some c =
     let ty = c.in-Alloca.ty in
     let room = c.in-Some.room in
     let is : layout room.size room.align ≡ layout_of (types_of p a) ty = c.in-Some.ensures c.in-Alloca.to ty (c.requires ∙ ap (λ (o : Op). Some o) c.in-Alloca.is) in
-    c.alloca_of.ensures c.args.code.now
+    ap Wants c.alloca_of.ensures
     ∙ ap (λ (l : Layout). Wants (what.Alloca (next_multiple_of a.high l.align) l.size)) is
     ∙ ap (effect p a) (sym c.in-Alloca.is)
