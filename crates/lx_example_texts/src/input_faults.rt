@@ -1,7 +1,7 @@
 //! Texts that do not go together, as the manual's tables show them.
 //! Written by `tools/example-texts` from `examples/` and `docs/MANUAL.md`.
 
-/// Texts that do not go together, as the manual's tables show them: what is run, over which files, and what it writes.
+/// Texts that do not go together, as the manual's tables show them: what is run, over which files beside those of `file_table`, and what it writes.
 pub fn input_faults_table() -> &'static str {
     r#"---- file x.case
 lxfi case 1

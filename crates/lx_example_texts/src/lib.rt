@@ -1,5 +1,6 @@
-//! Texts that worked cases run over: those of `examples/` and of the manual, modules of C files as clang printed them, and small ones; and the
-//! cases as tables, which `lx_worked_cases` cuts by the lines that begin with `----`.
+//! Texts that worked cases and traces run over: those of `examples/` and of the manual, modules of C files as clang printed them, and small ones;
+//! and the cases as tables, which `lx_worked_cases` cuts by the lines that begin with `----`. A file of `examples/` stands once: in a table of files
+//! (`file_table`), or in a function of its own (`named_file`).
 //!
 //! ```text
 //! ---- file examples/one.case
@@ -24,8 +25,10 @@ mod card_cases;
 mod checksum;
 mod driver;
 mod driver_cases;
+mod example_files;
 mod files;
 mod first_cases;
+mod further_manual_files;
 mod generated;
 mod hostile;
 mod image_calls;
@@ -35,14 +38,17 @@ mod image_wrappers;
 mod images;
 mod input_faults;
 mod kernel;
+mod last_manual_files;
 mod lesson_cases;
 mod limits;
 mod loan_cases;
 mod loan_users;
 mod loans;
 mod machine_cases;
+mod manual_files;
 mod many;
 mod module_faults;
+mod more_manual_files;
 mod more_refused;
 mod nic;
 mod nic_after;
@@ -55,6 +61,7 @@ mod refusal_cases;
 mod refused;
 mod replayed;
 mod ring;
+mod shelf;
 mod surfaces;
 mod text_faults;
 mod why_cases;
@@ -100,6 +107,7 @@ pub use refusal_cases::refusal_cases_table;
 pub use refused::refused_table;
 pub use replayed::replayed_cases;
 pub use ring::ring_text;
+pub use shelf::{FILE_TABLES, NAMED_FILES, file_table, named_file};
 pub use surfaces::surface_cases;
 pub use text_faults::text_faults_table;
 pub use why_cases::why_cases_table;

@@ -1,7 +1,7 @@
 //! Modules with a fault, as the manual's tables show them.
 //! Written by `tools/example-texts` from `examples/` and `docs/MANUAL.md`.
 
-/// Modules with a fault, as the manual's tables show them: what is run, over which files, and what it writes.
+/// Modules with a fault, as the manual's tables show them: what is run, over which files beside those of `file_table`, and what it writes.
 pub fn module_faults_table() -> &'static str {
     r#"---- file x.case
 lxfi case 1

@@ -1,7 +1,7 @@
 //! Further modules of C files that the profile refuses.
 //! Written by `tools/example-texts` from `examples/` and `docs/MANUAL.md`.
 
-/// Further modules of C files that the profile refuses: what is run, over which files, and what it writes.
+/// Further modules of C files that the profile refuses: what is run, over which files beside those of `file_table`, and what it writes.
 pub fn more_refused_table() -> &'static str {
     r#"---- file x.case
 lxfi case 1

@@ -1,7 +1,7 @@
 //! Modules of C files that the profile refuses, as clang printed them.
 //! Written by `tools/example-texts` from `examples/` and `docs/MANUAL.md`.
 
-/// Modules of C files that the profile refuses, as clang printed them: what is run, over which files, and what it writes.
+/// Modules of C files that the profile refuses, as clang printed them: what is run, over which files beside those of `file_table`, and what it writes.
 pub fn refused_table() -> &'static str {
     r#"---- file x.case
 lxfi case 1

@@ -1,7 +1,7 @@
 //! Cases, schedules and interfaces with a fault, as the manual's tables show them.
 //! Written by `tools/example-texts` from `examples/` and `docs/MANUAL.md`.
 
-/// Cases, schedules and interfaces with a fault, as the manual's tables show them: what is run, over which files, and what it writes.
+/// Cases, schedules and interfaces with a fault, as the manual's tables show them: what is run, over which files beside those of `file_table`, and what it writes.
 pub fn text_faults_table() -> &'static str {
     r#"---- file x.case
 lxfi case 1

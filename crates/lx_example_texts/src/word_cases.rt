@@ -1,25 +1,9 @@
 //! Schedules that are whole or not, and what statuses come with.
 //! Written by `tools/example-texts` from `examples/` and `docs/MANUAL.md`.
 
-/// Schedules that are whole or not, and what statuses come with: what is run, over which files, and what it writes.
+/// Schedules that are whole or not, and what statuses come with: what is run, over which files beside those of `file_table`, and what it writes.
 pub fn word_cases_table() -> &'static str {
-    r#"---- file examples/one.case
-lxfi case 1
-kernel none
-interface none
-module m examples/one.ll
-thread
-call m:main fuel 4
----- file examples/manual/whole.schedule
-0*2 0*3
----- file examples/one.ll
-@g = global i32 0
-define i32 @main() {
-store i32 7, ptr @g
-%v = load i32, ptr @g
-ret i32 %v
-}
----- words replay examples/one.case examples/manual/whole.schedule
+    r#"---- words replay examples/one.case examples/manual/whole.schedule
 ---- replay examples/one.case examples/manual/whole.schedule
 ---- whole
 status 0
@@ -28,22 +12,16 @@ call 0.0 m:main returned 7
 image m guards 1 checks 0 wrappers 0
 owns m.shared write 0x1000000+4
 owns m.shared call 0x10060
----- file examples/manual/short.schedule
-schedule 0*4
 ---- words replay examples/one.case examples/manual/short.schedule
 ---- replay examples/one.case examples/manual/short.schedule
 ---- whole
 status 7
 lxfi: schedule not whole at entry 4
----- file examples/manual/long.schedule
-schedule 0*6
 ---- words replay examples/one.case examples/manual/long.schedule
 ---- replay examples/one.case examples/manual/long.schedule
 ---- whole
 status 7
 lxfi: schedule not whole at entry 5
----- file examples/manual/nobody.schedule
-schedule 1*1
 ---- words replay examples/one.case examples/manual/nobody.schedule
 ---- replay examples/one.case examples/manual/nobody.schedule
 ---- whole
@@ -64,11 +42,6 @@ examples/one.case:0: case 3 n
 ---- whole
 status 4
 lxfi: cannot read examples/manual/absent.case
----- file examples/manual/missing.case
-lxfi case 1
-kernel none
-interface none
-module m examples/manual/absent.ll
 ---- words run examples/manual/missing.case
 ---- run examples/manual/missing.case
 ---- whole

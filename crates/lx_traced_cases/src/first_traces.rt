@@ -1,23 +1,9 @@
 //! The smallest cases, event by event.
 //! Written by `tools/example-texts` from `examples/` and `docs/MANUAL.md`.
 
-/// The smallest cases, event by event: what is run, over which files, and what it writes.
+/// The smallest cases, event by event: what is run, over which files beside those of `file_table`, and what it writes.
 pub fn first_traces_table() -> &'static str {
-    r#"---- file examples/one.case
-lxfi case 1
-kernel none
-interface none
-module m examples/one.ll
-thread
-call m:main fuel 4
----- file examples/one.ll
-@g = global i32 0
-define i32 @main() {
-store i32 7, ptr @g
-%v = load i32, ptr @g
-ret i32 %v
-}
----- file examples/one.schedule
+    r#"---- file examples/one.schedule
 schedule 0*5
 ---- words examples/one.case examples/one.schedule
 ---- trace examples/one.case
@@ -28,13 +14,6 @@ done 1 0.0 m.shared m:main:3: store i32 7 at 0x1000000 (m:@g+0)
 done 2 0.0 m.shared m:main:4: load i32 at 0x1000000 (m:@g+0) = 7
 done 3 0.0 m.shared m:main:5: leaves 0 at 0x3000000
 ends 4 0.0 kernel script: ends: returned 7
----- file examples/budget.case
-lxfi case 1
-kernel none
-interface none
-module m examples/one.ll
-thread
-call m:main fuel 3
 ---- file examples/budget.schedule
 schedule 0*4
 ---- words examples/budget.case examples/budget.schedule
@@ -45,20 +24,6 @@ done 0 0.0 kernel script: calls m:main() enters m:main as m.shared
 done 1 0.0 m.shared m:main:3: store i32 7 at 0x1000000 (m:@g+0)
 done 2 0.0 m.shared m:main:4: load i32 at 0x1000000 (m:@g+0) = 7
 ends 3 0.0 kernel m:main:5: ends: budget
----- file examples/past.case
-lxfi case 1
-kernel none
-interface none
-module m examples/past.ll
-thread
-call m:main fuel 4
----- file examples/past.ll
-@g = global i32 0
-define i32 @main() {
-  store i64 7, ptr @g
-  %v = load i32, ptr @g
-  ret i32 %v
-}
 ---- file examples/past.schedule
 schedule 0*2
 ---- words examples/past.case examples/past.schedule
@@ -67,53 +32,6 @@ schedule 0*2
 status 1
 done 0 0.0 kernel script: calls m:main() enters m:main as m.shared
 refused 1 0.0 m.shared m:main:3: store i64 0x7 at 0x1000000 (m:@g+0): refused 1 m.shared write 0x1000000+8
----- file examples/shared.case
-lxfi case 1
-kernel file examples/shared_kernel.ll
-interface file examples/shared.txt
-module m examples/shared.ll
-thread
-call m:make fuel 100
-call m:drop fuel 100
-thread
-call m:poke fuel 100
----- file examples/shared_kernel.ll
-declare ptr @k.alloc(i64)
-declare void @k.free(ptr)
-define ptr @get(i64 %n) {
-  %p = call ptr @k.alloc(i64 %n)
-  ret ptr %p
-}
-define void @put(ptr %p) {
-  call void @k.free(ptr %p)
-  ret void
-}
----- file examples/shared.txt
-interface 1
-export get : ptr (i64 n) post(transfer(write, return, n))
-export put : void (ptr p) pre(transfer(write, p, 8))
----- file examples/shared.ll
-@box = global ptr null
-declare ptr @get(i64)
-declare void @put(ptr)
-define void @make() {
-  %p = call ptr @get(i64 8)
-  store ptr %p, ptr @box
-  ret void
-}
-define void @drop() {
-  %p = load ptr, ptr @box
-  call void @put(ptr %p)
-  ret void
-}
-define void @poke() {
-  %p = load ptr, ptr @box
-  store i64 5, ptr %p
-  store i64 6, ptr %p
-  ret void
-}
----- file examples/shared.schedule
-schedule 0*8 1*3 0*4 1*1 0*4
 ---- words examples/shared.case examples/shared.schedule
 ---- trace examples/shared.case
 ---- whole
@@ -138,64 +56,6 @@ done 16 0.1 kernel kernel:put:8: calls k.free(0x2000000)
 done 17 0.1 kernel kernel:put:9: leaves 0 at 0x3000000
 done 18 0.1 m.shared m:drop:12: leaves 0 at 0x3000000
 ends 19 0.1 kernel script: ends: returned
----- file examples/letters.case
-lxfi case 1
-kernel file examples/letters_kernel.ll
-interface file examples/letters.txt
-module m examples/letters.ll
-thread
-call m:send 3 fuel 100
-call m:send 7 fuel 100
-call m:send_and_write 2 fuel 100
----- file examples/letters_kernel.ll
-declare ptr @k.alloc(i64)
-declare void @k.note(i64)
-define ptr @box_open(i64 %k) {
-  %b = inttoptr i64 %k to ptr
-  ret ptr %b
-}
-define ptr @letter_new(i64 %n) {
-  %l = call ptr @k.alloc(i64 16)
-  %t = call ptr @k.alloc(i64 %n)
-  store ptr %t, ptr %l
-  %s = getelementptr i8, ptr %l, i64 8
-  store i64 %n, ptr %s
-  ret ptr %l
-}
-define void @letter_send(ptr %b, ptr %l) {
-  %s = getelementptr i8, ptr %l, i64 8
-  %n = load i64, ptr %s
-  call void @k.note(i64 %n)
-  ret void
-}
----- file examples/letters.txt
-interface 1
-reftype box
-# a letter is its head of 16 bytes, and the text that the head points to
-iterator letter(p) { write p, 16; write load64(p), load64(p + 8) }
-export box_open : ptr (i64 k) post(if (k < 4) copy(ref(box), return))
-export letter_new : ptr (i64 n) post(if (return != 0) transfer(letter(return)))
-export letter_send : void (ptr b, ptr l) pre(check(ref(box), b)) pre(transfer(letter(l)))
----- file examples/letters.ll
-declare ptr @box_open(i64)
-declare ptr @letter_new(i64)
-declare void @letter_send(ptr, ptr)
-define void @send(i64 %k) {
-  %b = call ptr @box_open(i64 %k)
-  %l = call ptr @letter_new(i64 8)
-  %t = load ptr, ptr %l
-  store i64 7, ptr %t
-  call void @letter_send(ptr %b, ptr %l)
-  ret void
-}
-define void @send_and_write(i64 %k) {
-  %b = call ptr @box_open(i64 %k)
-  %l = call ptr @letter_new(i64 8)
-  %t = load ptr, ptr %l
-  call void @letter_send(ptr %b, ptr %l)
-  store i64 7, ptr %t
-  ret void
-}
 ---- file examples/letters.schedule
 schedule 0*55
 ---- words examples/letters.case examples/letters.schedule
@@ -257,35 +117,6 @@ done 51 0.2 kernel kernel:letter_send:17: load i64 at 0x2000048 (event 41+8) = 0
 done 52 0.2 kernel kernel:letter_send:18: calls k.note(0x8)
 done 53 0.2 kernel kernel:letter_send:19: leaves 0 at 0x3000000
 refused 54 0.2 m.shared m:send_and_write:17: store i64 0x7 at 0x2000050 (event 42+0): refused 1 m.shared write 0x2000050+8
----- file examples/manual/arguments.case
-lxfi case 1
-kernel builtin
-interface builtin
-module m examples/manual/arguments.ll
-thread
-call m:same -5 fuel 9
-call m:same 18446744073709551615 fuel 9
-call m:same 0xff fuel 9
-call m:byte 255 fuel 9
-call m:byte -128 fuel 9
-call m:truth 1 fuel 9
-call m:place &m:word fuel 9
-call m:place &m:same fuel 9
-call m:place &kernel:kmalloc fuel 9
----- file examples/manual/arguments.ll
-@word = global i64 0
-define i64 @same(i64 %n) {
-  ret i64 %n
-}
-define i8 @byte(i8 %n) {
-  ret i8 %n
-}
-define i1 @truth(i1 %t) {
-  ret i1 %t
-}
-define ptr @place(ptr %p) {
-  ret ptr %p
-}
 ---- file examples/manual/arguments.schedule
 schedule 0*27
 ---- words examples/manual/arguments.case examples/manual/arguments.schedule
@@ -319,20 +150,6 @@ ends 23 0.7 kernel script: ends: returned 0x10130
 done 24 0.8 kernel script: calls m:place(0x10060) enters m:place as m.shared
 done 25 0.8 m.shared m:place:12: leaves 0 at 0x3000000
 ends 26 0.8 kernel script: ends: returned 0x10060
----- file examples/manual/quiet.case
-lxfi case 1
-kernel none
-interface none
-module m examples/manual/quiet.ll
-thread
-call m:f 5 fuel 100
----- file examples/manual/quiet.ll
-define i32 @f(i32 %a) {
-  %s = alloca i32
-  store i32 %a, ptr %s
-  %v = load i32, ptr %s
-  ret i32 %v
-}
 ---- file examples/manual/quiet.schedule
 schedule 0*6
 ---- words examples/manual/quiet.case examples/manual/quiet.schedule

@@ -1,58 +1,9 @@
 //! What the manual teaches of loans, starts and what is let through, event by event.
 //! Written by `tools/example-texts` from `examples/` and `docs/MANUAL.md`.
 
-/// What the manual teaches of loans, starts and what is let through, event by event: what is run, over which files, and what it writes.
+/// What the manual teaches of loans, starts and what is let through, event by event: what is run, over which files beside those of `file_table`, and what it writes.
 pub fn lesson_traces_table() -> &'static str {
-    r#"---- file examples/manual/lend.case
-lxfi case 1
-kernel builtin
-interface file examples/manual/lend.txt
-module m examples/manual/lend.ll
-thread
-call m:init fuel 100
-call kernel:skb_new 8 fuel 100
-call kernel:do_xmit 0 0x2000010 fuel 100
-call kernel:do_probe 0 fuel 100
----- file examples/manual/lend.txt
-interface 2
-reftype device
-iterator skb_caps(p) { write p, 24; write load64(p), load64(p + 8) }
-slot probe : i32 (ptr dev) principal(dev) pre(copy(ref(device), dev)) post(if (return < 0) transfer(ref(device), dev))
-slot xmit : i32 (ptr skb, ptr dev) principal(dev) pre(lend(skb_caps(skb)))
-field %struct.dev_ops 0 : probe
-field %struct.dev_ops 1 : xmit
-export kmalloc : ptr (i64 n) post(if (return != 0) transfer(write, return, n))
-export kzalloc : ptr (i64 n) post(if (return != 0) transfer(write, return, n))
-export kfree : void (ptr p) pre(if (p != 0) transfer(write, p, load64(p - 16)))
-export dev_register : ptr (ptr ops)
-export dev_set_priv : void (ptr dev, ptr v) pre(check(ref(device), dev))
-export dev_zero : void (ptr p, i64 n) pre(check(write, p, n))
-export dev_wipe : void (ptr p, i64 n) pre(transfer(write, p, n)) post(transfer(write, p, n))
-export skb_new : ptr (i64 n) post(if (return != 0) transfer(write, return, 24)) post(if (return != 0) transfer(write, load64(return), n))
-export netif_rx : i32 (ptr skb) pre(transfer(skb_caps(skb)))
-export hook_get : ptr () post(copy(call, return))
-export hook_fn : i64 (i64 x)
----- file examples/manual/lend.ll
-%struct.dev_ops = type { ptr, ptr }
-@ops = global %struct.dev_ops { ptr @probe, ptr @xmit }
-@keep = global ptr null
-declare ptr @dev_register(ptr)
-define void @init() {
-  %d = call ptr @dev_register(ptr @ops)
-  ret void
-}
-define i32 @probe(ptr %d) {
-  %b = load ptr, ptr @keep
-  store i64 6, ptr %b
-  ret i32 0
-}
-define i32 @xmit(ptr %s, ptr %d) {
-  %b = load ptr, ptr %s
-  store i64 5, ptr %b
-  store ptr %b, ptr @keep
-  ret i32 0
-}
----- file examples/manual/lend.schedule
+    r#"---- file examples/manual/lend.schedule
 schedule 0*39
 ---- words examples/manual/lend.case examples/manual/lend.schedule
 ---- trace examples/manual/lend.case
@@ -97,31 +48,6 @@ done 35 0.3 kernel kernel:do_probe:132: calls slot probe at 0x10000e0(0x1000020)
 done 36 0.3 kernel kernel:do_probe:132: pre 0 of m:probe from kernel to m[0x1000020]
 done 37 0.3 m[0x1000020] m:probe:10: load i64 at 0x10000f0 (m:@keep+0) = 0x2000040
 refused 38 0.3 m[0x1000020] m:probe:11: store i64 0x6 at 0x2000040 (event 15+16): refused 1 m[0x1000020] write 0x2000040+8
----- file examples/manual/lend_on.case
-lxfi case 1
-kernel builtin
-interface file examples/manual/lend.txt
-module m examples/manual/lend_on.ll
-thread
-call m:init fuel 100
-call kernel:skb_new 8 fuel 100
-call kernel:do_xmit 0 0x2000010 fuel 100
----- file examples/manual/lend_on.ll
-%struct.dev_ops = type { ptr, ptr }
-@ops = global %struct.dev_ops { ptr @probe, ptr @xmit }
-declare ptr @dev_register(ptr)
-declare i32 @netif_rx(ptr)
-define void @init() {
-  %d = call ptr @dev_register(ptr @ops)
-  ret void
-}
-define i32 @probe(ptr %d) {
-  ret i32 0
-}
-define i32 @xmit(ptr %s, ptr %d) {
-  %r = call i32 @netif_rx(ptr %s)
-  ret i32 %r
-}
 ---- file examples/manual/lend_on.schedule
 schedule 0*28
 ---- words examples/manual/lend_on.case examples/manual/lend_on.schedule
@@ -156,45 +82,6 @@ done 24 0.2 kernel kernel:do_xmit:140: calls slot xmit at 0x10000e8(0x2000010, 0
 done 25 0.2 kernel kernel:do_xmit:140: pre 0 of m:xmit from kernel to m[0x1000020]
 done 26 0.2 m[0x1000020] m:xmit:13: calls kernel:netif_rx(0x2000010) enters kernel:netif_rx as kernel
 refused 27 0.2 m[0x1000020] m:xmit:13: pre 0 of kernel:netif_rx from m[0x1000020] to kernel: refused 10 m[0x1000020] write 0x2000010+24
----- file examples/manual/start.case
-lxfi case 1
-kernel file examples/manual/start_kernel.ll
-interface file examples/manual/timer.txt
-module t examples/manual/timer.ll
-thread
-call t:start fuel 100
-call kernel:open fuel 10
-thread
-call kernel:wait fuel 100000
-call kernel:do_tick 7 fuel 100
-call t:read_last fuel 100
----- file examples/manual/start_kernel.ll
-@timer = global ptr null
-@shut = global i32 1
-declare void @k.slot.tick(ptr, i64)
-define void @timer_set(ptr %fn) {
-  store ptr %fn, ptr @timer
-  ret void
-}
-define void @do_tick(i64 %now) {
-  call void @k.slot.tick(ptr @timer, i64 %now)
-  ret void
-}
-define void @open() {
-  store i32 0, ptr @shut
-  ret void
-}
-define void @wait() {
-  br label %look
-look:
-  %shut = load i32, ptr @shut
-  %again = icmp ne i32 %shut, 0
-  br i1 %again, label %look, label %on
-on:
-  ret void
-}
----- file examples/manual/start.schedule
-schedule 1*4 0*12 1*16
 ---- words examples/manual/start.case examples/manual/start.schedule
 ---- trace examples/manual/start.case
 ---- whole
@@ -231,18 +118,6 @@ done 28 1.2 kernel script: calls t:read_last() enters t:read_last as t.shared
 done 29 1.2 t.shared t:read_last:28: load i64 at 0x1000030 (t:@last+0) = 0x7
 done 30 1.2 t.shared t:read_last:29: leaves 0 at 0x3010000
 ends 31 1.2 kernel script: ends: returned 7
----- file examples/manual/start_early.case
-lxfi case 1
-kernel file examples/manual/start_kernel.ll
-interface file examples/manual/timer.txt
-module t examples/manual/timer.ll
-thread
-call t:start fuel 100
-thread
-call kernel:do_tick 7 fuel 100
-call t:read_last fuel 100
----- file examples/manual/start_early.schedule
-schedule 1*6 0*8
 ---- words examples/manual/start_early.case examples/manual/start_early.schedule
 ---- trace examples/manual/start_early.case
 ---- whole
@@ -261,85 +136,6 @@ done 10 0.0 kernel kernel:timer_set:5: store i64 0x100d0 at 0x1000000 (kernel:@t
 done 11 0.0 kernel kernel:timer_set:6: leaves 0 at 0x3000000
 done 12 0.0 t.shared t:start:15: leaves 0 at 0x3000000
 ends 13 0.0 kernel script: ends: returned
----- file examples/manual/held.case
-lxfi case 1
-kernel file examples/manual/held_kernel.ll
-interface file examples/manual/timer.txt
-module m examples/manual/held.ll
-thread
-call m:start fuel 100
-call kernel:locked_tick 7 fuel 100
-call kernel:locked_tick 8 fuel 100
-call kernel:counted_tick 9 fuel 100
-call kernel:count fuel 10
-call kernel:mend fuel 10
-call kernel:careful_tick 10 fuel 100
-call kernel:careful_tick 11 fuel 100
----- file examples/manual/held_kernel.ll
-@timer = global ptr null
-@lock = global i32 0
-@inside = global i64 0
-@asked = global i64 0
-declare i32 @k.try_lock(ptr)
-declare void @k.slot.tick(ptr, i64)
-define void @timer_set(ptr %fn) {
-  store ptr %fn, ptr @timer
-  ret void
-}
-define i32 @locked_tick(i64 %now) {
-  %got = call i32 @k.try_lock(ptr @lock)
-  %free = icmp ne i32 %got, 0
-  br i1 %free, label %go, label %busy
-go:
-  call void @k.slot.tick(ptr @timer, i64 %now)
-  store i32 0, ptr @lock
-  ret i32 0
-busy:
-  ret i32 -16
-}
-define void @counted_tick(i64 %now) {
-  %before = load i64, ptr @inside
-  %more = add i64 %before, 1
-  store i64 %more, ptr @inside
-  call void @k.slot.tick(ptr @timer, i64 %now)
-  store i64 %before, ptr @inside
-  ret void
-}
-define i32 @careful_tick(i64 %now) {
-  %got = call i32 @k.try_lock(ptr @lock)
-  %free = icmp ne i32 %got, 0
-  br i1 %free, label %go, label %busy
-go:
-  store i64 %now, ptr @asked
-  store i32 0, ptr @lock
-  call void @k.slot.tick(ptr @timer, i64 %now)
-  ret i32 0
-busy:
-  ret i32 -16
-}
-define i64 @count() {
-  %v = load i64, ptr @inside
-  ret i64 %v
-}
-define void @mend() {
-  store i32 0, ptr @lock
-  store i64 0, ptr @inside
-  ret void
-}
----- file examples/manual/held.ll
-%struct.timer = type { ptr }
-@table = global %struct.timer { ptr @on_tick }
-@last = global i32 0
-declare void @timer_set(ptr)
-define void @start() {
-  %fn = load ptr, ptr @table
-  call void @timer_set(ptr %fn)
-  ret void
-}
-define void @on_tick(i64 %now) {
-  store i64 %now, ptr @last
-  ret void
-}
 ---- file examples/manual/held.schedule
 schedule 0*42
 ---- words examples/manual/held.case examples/manual/held.schedule
@@ -388,60 +184,6 @@ done 38 0.7 kernel kernel:careful_tick:35: store i64 0xb at 0x1000030 (kernel:@a
 done 39 0.7 kernel kernel:careful_tick:36: store i32 0 at 0x1000010 (kernel:@lock+0)
 done 40 0.7 kernel kernel:careful_tick:37: calls slot tick at 0x1000000(0xb) enters m:on_tick as m.shared
 refused 41 0.7 m.shared m:on_tick:11: store i64 0xb at 0x1000050 (m:@last+0): refused 1 m.shared write 0x1000050+8
----- file examples/manual/uncaught.case
-lxfi case 1
-kernel file examples/manual/uncaught_kernel.ll
-interface file examples/manual/uncaught.txt
-module m examples/manual/uncaught.ll
-thread
-call m:inside fuel 100
-call m:neighbour fuel 100
-call m:look fuel 100
-call m:through fuel 100
----- file examples/manual/uncaught_kernel.ll
-@secret = global i64 42
-declare ptr @k.alloc(i64)
-define ptr @get(i64 %n) {
-  %p = call ptr @k.alloc(i64 %n)
-  ret ptr %p
-}
-define void @fill(ptr %p, i64 %v) {
-  store i64 %v, ptr %p
-  ret void
-}
----- file examples/manual/uncaught.txt
-interface 1
-export get : ptr (i64 n) post(if (return != 0) transfer(write, return, n))
-export fill : void (ptr p, i64 v)
----- file examples/manual/uncaught.ll
-%struct.record = type { [8 x i8], i64 }
-@record = global %struct.record zeroinitializer
-declare ptr @get(i64)
-declare void @fill(ptr, i64)
-define i64 @inside() {
-  %ninth = getelementptr %struct.record, ptr @record, i64 0, i32 0, i64 8
-  store i8 9, ptr %ninth
-  %size = getelementptr %struct.record, ptr @record, i64 0, i32 1
-  %v = load i64, ptr %size
-  ret i64 %v
-}
-define i64 @neighbour() {
-  %a = call ptr @get(i64 16)
-  %b = call ptr @get(i64 16)
-  %behind = getelementptr i8, ptr %a, i64 16
-  store i64 5, ptr %behind
-  %v = load i64, ptr %b
-  ret i64 %v
-}
-define i64 @look() {
-  %v = load i64, ptr inttoptr (i64 16777216 to ptr)
-  ret i64 %v
-}
-define i64 @through() {
-  call void @fill(ptr inttoptr (i64 16777216 to ptr), i64 7)
-  %v = load i64, ptr inttoptr (i64 16777216 to ptr)
-  ret i64 %v
-}
 ---- file examples/manual/uncaught.schedule
 schedule 0*29
 ---- words examples/manual/uncaught.case examples/manual/uncaught.schedule
@@ -477,20 +219,6 @@ done 25 0.3 kernel kernel:fill:9: leaves 0 at 0x3000000
 done 26 0.3 m.shared m:through:26: load i64 at 0x1000000 (kernel:@secret+0) = 0x7
 done 27 0.3 m.shared m:through:27: leaves 0 at 0x3000000
 ends 28 0.3 kernel script: ends: returned 7
----- file examples/manual/caught.case
-lxfi case 1
-kernel file examples/manual/uncaught_kernel.ll
-interface file examples/manual/caught.txt
-module m examples/manual/uncaught.ll
-thread
-call m:inside fuel 100
-call m:neighbour fuel 100
-call m:look fuel 100
-call m:through fuel 100
----- file examples/manual/caught.txt
-interface 1
-export get : ptr (i64 n) post(if (return != 0) transfer(write, return, n))
-export fill : void (ptr p, i64 v) pre(check(write, p, 8))
 ---- file examples/manual/caught.schedule
 schedule 0*25
 ---- words examples/manual/caught.case examples/manual/caught.schedule
@@ -522,19 +250,6 @@ ends 21 0.2 kernel script: ends: returned 42
 done 22 0.3 kernel script: calls m:through() enters m:through as m.shared
 done 23 0.3 m.shared m:through:25: calls kernel:fill(0x1000000, 0x7) enters kernel:fill as kernel
 refused 24 0.3 m.shared m:through:25: pre 0 of kernel:fill from m.shared to kernel: refused 1 m.shared write 0x1000000+8
----- file examples/manual/misspelt.case
-lxfi case 1
-kernel file examples/manual/timer_kernel.ll
-interface file examples/manual/misspelt.txt
-module t examples/manual/timer.ll
-thread
-call t:start fuel 100
-call kernel:do_tick 7 fuel 100
----- file examples/manual/misspelt.txt
-interface 1
-slot tick : void (i64 now)
-field %struct.timers 0 : tick
-export timer_set : void (ptr fn) pre(check(call, fn))
 ---- file examples/manual/misspelt.schedule
 schedule 0*10
 ---- words examples/manual/misspelt.case examples/manual/misspelt.schedule

@@ -1,7 +1,7 @@
 //! Traces of the examples: the tracing program is run over memory, and what it writes and its status are compared, byte for byte.
 //!
 //! ```text
-//! // `rt test` proves and runs them. A row of a table: the words, the files before them, and the status and the lines that are wanted.
+//! // `rt test` proves and runs them. A row of a table: its schedule, the words, and the status and the lines that are wanted.
 //! ---- file examples/past.schedule
 //! schedule 0*2
 //! ---- words examples/past.case examples/past.schedule
@@ -11,7 +11,7 @@
 //! ..
 //! ```
 //!
-//! `tools/example-texts` writes the tables `.._traces` from `examples/`. Nothing stands here but the tests.
+//! `tools/example-texts` writes the tables `.._traces` from `examples/`, whose files `lx_example_texts` has. Nothing stands here but the tests.
 #![tactic(auto)]
 
 #[cfg(test)]
@@ -27,23 +27,17 @@ mod driver_traces;
 #[cfg(test)]
 mod ends;
 #[cfg(test)]
+mod files;
+#[cfg(test)]
 mod first_traces;
 #[cfg(test)]
 mod further_long_traces;
-#[cfg(test)]
-mod last_long_traces;
 #[cfg(test)]
 mod lesson_traces;
 #[cfg(test)]
 mod long_traces;
 #[cfg(test)]
 mod machine_traces;
-#[cfg(test)]
-mod more_c_traces;
-#[cfg(test)]
-mod more_card_traces;
-#[cfg(test)]
-mod more_driver_traces;
 #[cfg(test)]
 mod more_long_traces;
 #[cfg(test)]

@@ -1,51 +1,9 @@
 //! Cases whose needs `why` tells, event by event.
 //! Written by `tools/example-texts` from `examples/` and `docs/MANUAL.md`.
 
-/// Cases whose needs `why` tells, event by event: what is run, over which files, and what it writes.
+/// Cases whose needs `why` tells, event by event: what is run, over which files beside those of `file_table`, and what it writes.
 pub fn need_traces_table() -> &'static str {
-    r#"---- file examples/manual/writers.case
-lxfi case 1
-kernel file examples/manual/writers_kernel.ll
-interface file examples/manual/writers.txt
-module m examples/manual/writers.ll
-module n examples/manual/writers.ll
-thread
-call m:take 0x2000000 &kernel:stop fuel 100
-call n:take 0x2000000 &kernel:stop fuel 100
-call kernel:go 0x2000000 fuel 100
-call n:take 0x2000000 &n:own fuel 100
-call kernel:go 0x2000000 fuel 100
----- file examples/manual/writers_kernel.ll
-declare void @k.slot.act(ptr)
-define void @open(ptr %s) {
-  ret void
-}
-define void @go(ptr %s) {
-  call void @k.slot.act(ptr %s)
-  ret void
-}
-define void @stop() {
-  ret void
-}
----- file examples/manual/writers.txt
-interface 1
-slot act : void ()
-export open : void (ptr s) post(copy(write, s, 8))
-export stop : void ()
----- file examples/manual/writers.ll
-declare void @open(ptr)
-declare void @stop()
-define void @take(ptr %s, ptr %f) {
-  call void @open(ptr %s)
-  store ptr %f, ptr %s
-  ret void
-}
-define void @own() {
-  ret void
-}
----- file examples/manual/writers.schedule
-schedule 0*28
----- words examples/manual/writers.case examples/manual/writers.schedule
+    r#"---- words examples/manual/writers.case examples/manual/writers.schedule
 ---- trace examples/manual/writers.case
 ---- whole
 status 1
@@ -77,17 +35,6 @@ done 24 0.3 n.shared n:take:6: leaves 0 at 0x3000000
 ends 25 0.3 kernel script: ends: returned
 done 26 0.4 kernel script: calls kernel:go(0x2000000) enters kernel:go as kernel
 refused 27 0.4 kernel kernel:go:6: calls slot act at 0x2000000(): refused 6 m.shared call 0x100c0 slot 0x2000000
----- file examples/manual/writers_back.case
-lxfi case 1
-kernel file examples/manual/writers_kernel.ll
-interface file examples/manual/writers.txt
-module m examples/manual/writers.ll
-module n examples/manual/writers.ll
-thread
-call m:take 0x2000000 &kernel:stop fuel 100
-call n:take 0x2000000 &kernel:stop fuel 100
-call m:take 0x2000000 &m:own fuel 100
-call kernel:go 0x2000000 fuel 100
 ---- file examples/manual/writers_back.schedule
 schedule 0*23
 ---- words examples/manual/writers_back.case examples/manual/writers_back.schedule
@@ -117,51 +64,6 @@ done 19 0.2 m.shared m:take:6: leaves 0 at 0x3000000
 ends 20 0.2 kernel script: ends: returned
 done 21 0.3 kernel script: calls kernel:go(0x2000000) enters kernel:go as kernel
 refused 22 0.3 kernel kernel:go:6: calls slot act at 0x2000000(): refused 6 n.shared call 0x100a0 slot 0x2000000
----- file examples/manual/items.case
-lxfi case 1
-kernel file examples/manual/items_kernel.ll
-interface file examples/manual/items.txt
-module m examples/manual/items.ll
-thread
-call m:second fuel 100
-call m:nothing fuel 100
-call m:turned fuel 100
----- file examples/manual/items_kernel.ll
-define void @look(ptr %p) {
-  ret void
-}
-define void @give(ptr %p, i64 %n) {
-  ret void
-}
-define void @turn(ptr %p) {
-  ret void
-}
----- file examples/manual/items.txt
-interface 1
-iterator three(p) { write p, 8; write p + 8, 8; write p, 4 }
-export look : void (ptr p) pre(check(three(p)))
-export give : void (ptr p, i64 n) pre(copy(write, p, n)) post(copy(write, p, n))
-export turn : void (ptr p) pre(transfer(write, p, 4)) post(transfer(write, p, 4))
----- file examples/manual/items.ll
-@g = global i64 0
-declare void @look(ptr)
-declare void @give(ptr, i64)
-declare void @turn(ptr)
-define void @second() {
-  call void @look(ptr @g)
-  ret void
-}
-define void @nothing() {
-  call void @give(ptr @g, i64 0)
-  ret void
-}
-define void @turned() {
-  call void @turn(ptr @g)
-  store i64 1, ptr @g
-  ret void
-}
----- file examples/manual/items.schedule
-schedule 0*18
 ---- words examples/manual/items.case examples/manual/items.schedule
 ---- trace examples/manual/items.case
 ---- whole
@@ -184,43 +86,6 @@ done 14 0.2 kernel m:turned:14: post 0 of kernel:turn from kernel to m.shared
 done 15 0.2 m.shared m:turned:15: store i64 0x1 at 0x1000000 (m:@g+0)
 done 16 0.2 m.shared m:turned:16: leaves 0 at 0x3000000
 ends 17 0.2 kernel script: ends: returned
----- file examples/manual/lent.case
-lxfi case 1
-kernel file examples/manual/lent_kernel.ll
-interface file examples/manual/lent.txt
-module m examples/manual/lent.ll
-thread
-call m:use 0x2000000 fuel 100
-call m:give 0x2000000 fuel 100
-call m:late 0x2000000 fuel 100
----- file examples/manual/lent_kernel.ll
-define void @pass(ptr %p) {
-  ret void
-}
----- file examples/manual/lent.txt
-interface 2
-slot borrow : void (ptr p) pre(lend(write, p, 8))
-field %struct.ops 0 : borrow
-field %struct.ops 1 : borrow
-export pass : void (ptr p) pre(copy(write, p, 8))
----- file examples/manual/lent.ll
-%struct.ops = type { ptr, ptr }
-@ops = global %struct.ops { ptr @use, ptr @give }
-declare void @pass(ptr)
-define void @use(ptr %p) {
-  store i64 1, ptr %p
-  ret void
-}
-define void @give(ptr %p) {
-  call void @pass(ptr %p)
-  ret void
-}
-define void @late(ptr %p) {
-  store i64 2, ptr %p
-  ret void
-}
----- file examples/manual/lent.schedule
-schedule 0*12
 ---- words examples/manual/lent.case examples/manual/lent.schedule
 ---- trace examples/manual/lent.case
 ---- whole
@@ -237,36 +102,6 @@ done 8 0.1 m.shared m:give:9: calls kernel:pass(0x2000000) enters kernel:pass as
 refused 9 0.1 m.shared m:give:9: pre 0 of kernel:pass from m.shared to kernel: refused 10 m.shared write 0x2000000+8
 done 10 0.2 kernel script: calls m:late(0x2000000) enters m:late as m.shared
 refused 11 0.2 m.shared m:late:13: store i64 0x2 at 0x2000000: refused 1 m.shared write 0x2000000+8
----- file examples/manual/further.case
-lxfi case 1
-kernel none
-interface file examples/manual/further.txt
-module m examples/manual/further.ll
-thread
-call m:first 1 0x2000000 fuel 100
-call m:later 2 0x2000000 fuel 100
-call m:later 3 0x2000000 fuel 100
----- file examples/manual/further.txt
-interface 1
-slot first : void (ptr d, ptr p) principal(d) pre(copy(write, p, 8))
-slot later : void (ptr d, ptr p) principal(d)
-field %struct.ops 0 : first
-field %struct.ops 1 : later
----- file examples/manual/further.ll
-%struct.ops = type { ptr, ptr }
-@ops = global %struct.ops { ptr @first, ptr @later }
-declare void @lxfi_princ_alias(ptr, ptr)
-define void @first(ptr %d, ptr %p) {
-  %e = getelementptr i8, ptr %d, i64 1
-  call void @lxfi_princ_alias(ptr %d, ptr %e)
-  ret void
-}
-define void @later(ptr %d, ptr %p) {
-  store i64 1, ptr %p
-  ret void
-}
----- file examples/manual/further.schedule
-schedule 0*11
 ---- words examples/manual/further.case examples/manual/further.schedule
 ---- trace examples/manual/further.case
 ---- whole

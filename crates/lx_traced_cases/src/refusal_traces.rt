@@ -1,30 +1,9 @@
 //! Refusals, event by event.
 //! Written by `tools/example-texts` from `examples/` and `docs/MANUAL.md`.
 
-/// Refusals, event by event: what is run, over which files, and what it writes.
+/// Refusals, event by event: what is run, over which files beside those of `file_table`, and what it writes.
 pub fn refusal_traces_table() -> &'static str {
-    r#"---- file examples/manual/hook.case
-lxfi case 1
-kernel builtin
-interface builtin
-module m examples/manual/hook.ll
-thread
-call m:wild fuel 100
-call m:main fuel 100
-call m:wild fuel 100
----- file examples/manual/hook.ll
-declare ptr @hook_get()
-define i64 @main() {
-  %f = call ptr @hook_get()
-  %r = call i64 %f(i64 41)
-  ret i64 %r
-}
-define i64 @wild() {
-  %f = inttoptr i64 65792 to ptr
-  %r = call i64 %f(i64 1)
-  ret i64 %r
-}
----- file examples/manual/hook.schedule
+    r#"---- file examples/manual/hook.schedule
 schedule 0*15
 ---- words examples/manual/hook.case examples/manual/hook.schedule
 ---- trace examples/manual/hook.case
@@ -45,49 +24,6 @@ done 11 0.2 m.shared m:wild:9: calls 0x10100 (kernel:hook_fn)(0x1) enters kernel
 done 12 0.2 kernel kernel:hook_fn:126: leaves 0 at 0x3000000
 done 13 0.2 m.shared m:wild:10: leaves 0 at 0x3000000
 ends 14 0.2 kernel script: ends: returned 2
----- file examples/manual/bad_swap.case
-lxfi case 1
-kernel builtin
-interface builtin
-module m examples/manual/bad.ll
-thread
-call m:init fuel 100
-call m:swap fuel 100
-call kernel:do_probe 0 fuel 100
----- file examples/manual/bad.ll
-%struct.dev_ops = type { ptr, ptr }
-@ops = global %struct.dev_ops { ptr @probe, ptr @xmit }
-declare ptr @dev_register(ptr)
-declare void @dev_zero(ptr, i64)
-define void @init() {
-  %d = call ptr @dev_register(ptr @ops)
-  ret void
-}
-define void @bend() {
-  store ptr inttoptr (i64 65792 to ptr), ptr @ops
-  ret void
-}
-define void @swap() {
-  %s = getelementptr %struct.dev_ops, ptr @ops, i64 0, i32 1
-  %f = load ptr, ptr %s
-  store ptr %f, ptr @ops
-  ret void
-}
-define void @again() {
-  call void @dev_zero(ptr @ops, i64 16)
-  store ptr inttoptr (i64 65792 to ptr), ptr @ops
-  ret void
-}
-define i32 @probe(ptr %d) {
-  ret i32 0
-}
-define i32 @xmit(ptr %s, ptr %d) {
-  ret i32 0
-}
-define void @cold() {
-  %d = call ptr @dev_register(ptr inttoptr (i64 33554432 to ptr))
-  ret void
-}
 ---- file examples/manual/bad_swap.schedule
 schedule 0*19
 ---- words examples/manual/bad_swap.case examples/manual/bad_swap.schedule
@@ -113,17 +49,6 @@ ends 15 0.1 kernel script: ends: returned
 done 16 0.2 kernel script: calls kernel:do_probe(0x0) enters kernel:do_probe as kernel
 done 17 0.2 kernel kernel:do_probe:131: load i64 at 0x1000020 (kernel:@devs+0) = 0x10000e0
 refused 18 0.2 kernel kernel:do_probe:132: calls slot probe at 0x10000e0(0x1000020): refused 5 kernel call 0x10180: principal($0) pre(copy(ref(device), $0)) post(if ((return < 0)) transfer(ref(device), $0)) | principal($1) pre(transfer(skb_caps($0))) post(if ((return < 0)) transfer(skb_caps($0)))
----- file examples/manual/bad_bend.case
-lxfi case 1
-kernel builtin
-interface builtin
-module m examples/manual/bad.ll
-thread
-call m:init fuel 100
-call m:bend fuel 100
-call kernel:do_probe 0 fuel 100
----- file examples/manual/bad_bend.schedule
-schedule 0*18
 ---- words examples/manual/bad_bend.case examples/manual/bad_bend.schedule
 ---- trace examples/manual/bad_bend.case
 ---- whole
@@ -146,15 +71,6 @@ ends 14 0.1 kernel script: ends: returned
 done 15 0.2 kernel script: calls kernel:do_probe(0x0) enters kernel:do_probe as kernel
 done 16 0.2 kernel kernel:do_probe:131: load i64 at 0x1000020 (kernel:@devs+0) = 0x10000e0
 refused 17 0.2 kernel kernel:do_probe:132: calls slot probe at 0x10000e0(0x1000020): refused 6 m.shared call 0x10100 slot 0x10000e0
----- file examples/manual/bad_again.case
-lxfi case 1
-kernel builtin
-interface builtin
-module m examples/manual/bad.ll
-thread
-call m:init fuel 100
-call m:again fuel 100
-call kernel:do_probe 0 fuel 100
 ---- file examples/manual/bad_again.schedule
 schedule 0*22
 ---- words examples/manual/bad_again.case examples/manual/bad_again.schedule
@@ -183,14 +99,6 @@ ends 18 0.1 kernel script: ends: returned
 done 19 0.2 kernel script: calls kernel:do_probe(0x0) enters kernel:do_probe as kernel
 done 20 0.2 kernel kernel:do_probe:131: load i64 at 0x1000020 (kernel:@devs+0) = 0x10000e0
 refused 21 0.2 kernel kernel:do_probe:132: calls slot probe at 0x10000e0(0x1000020): refused 6 m.shared call 0x10100 slot 0x10000e0
----- file examples/manual/bad_cold.case
-lxfi case 1
-kernel builtin
-interface builtin
-module m examples/manual/bad.ll
-thread
-call m:cold fuel 100
-call kernel:do_probe 0 fuel 100
 ---- file examples/manual/bad_cold.schedule
 schedule 0*14
 ---- words examples/manual/bad_cold.case examples/manual/bad_cold.schedule
@@ -211,22 +119,6 @@ ends 10 0.0 kernel script: ends: returned
 done 11 0.1 kernel script: calls kernel:do_probe(0x0) enters kernel:do_probe as kernel
 done 12 0.1 kernel kernel:do_probe:131: load i64 at 0x1000020 (kernel:@devs+0) = 0x2000000
 refused 13 0.1 kernel kernel:do_probe:132: calls slot probe at 0x2000000(0x1000020): refused 4 kernel call 0x0
----- file examples/manual/stack.case
-lxfi case 1
-kernel builtin
-interface builtin
-module m examples/manual/stack.ll
-thread
-call m:main fuel 100
----- file examples/manual/stack.ll
-declare void @dev_wipe(ptr, i64)
-declare void @dev_zero(ptr, i64)
-define void @main() {
-  %b = alloca i64
-  call void @dev_zero(ptr %b, i64 8)
-  call void @dev_wipe(ptr %b, i64 8)
-  ret void
-}
 ---- file examples/manual/stack.schedule
 schedule 0*8
 ---- words examples/manual/stack.case examples/manual/stack.schedule
@@ -241,21 +133,6 @@ done 4 0.0 kernel kernel:dev_zero:84: calls k.zero(0x3000000, 0x8)
 done 5 0.0 kernel kernel:dev_zero:85: leaves 0 at 0x3000008
 done 6 0.0 m.shared m:main:6: calls kernel:dev_wipe(0x3000000, 0x8) enters kernel:dev_wipe as kernel
 refused 7 0.0 m.shared m:main:6: pre 0 of kernel:dev_wipe from m.shared to kernel: refused 7 m.shared write 0x3000000+8
----- file examples/manual/edge.case
-lxfi case 1
-kernel builtin
-interface builtin
-module m examples/manual/edge.ll
-thread
-call m:main 0 0 fuel 100
-call m:main 0x10ffff8 16 fuel 100
-call m:main -8 16 fuel 100
----- file examples/manual/edge.ll
-declare void @dev_zero(ptr, i64)
-define void @main(ptr %p, i64 %n) {
-  call void @dev_zero(ptr %p, i64 %n)
-  ret void
-}
 ---- file examples/manual/edge.schedule
 schedule 0*13
 ---- words examples/manual/edge.case examples/manual/edge.schedule
@@ -275,50 +152,6 @@ refused 9 0.1 m.shared m:main:3: pre 0 of kernel:dev_zero from m.shared to kerne
 done 10 0.2 kernel script: calls m:main(0xfffffffffffffff8, 0x10) enters m:main as m.shared
 done 11 0.2 m.shared m:main:3: calls kernel:dev_zero(0xfffffffffffffff8, 0x10) enters kernel:dev_zero as kernel
 refused 12 0.2 m.shared m:main:3: pre 0 of kernel:dev_zero from m.shared to kernel: refused 8 m.shared write 0xfffffffffffffff8+16
----- file examples/manual/two.case
-lxfi case 1
-kernel builtin
-interface builtin
-module m examples/manual/two.ll
-thread
-call m:init fuel 100
-call kernel:do_probe 1 fuel 100
-call kernel:do_probe 0 fuel 100
----- file examples/manual/two.ll
-%struct.dev_ops = type { ptr, ptr }
-@oa = global %struct.dev_ops { ptr @probe_a, ptr null }
-@ob = global %struct.dev_ops { ptr @probe_b, ptr null }
-@box = global ptr null
-@flag = global i64 0
-declare ptr @dev_register(ptr)
-declare ptr @kmalloc(i64)
-declare void @lxfi_princ_alias(ptr, ptr)
-define void @init() {
-  %a = call ptr @dev_register(ptr @oa)
-  %b = call ptr @dev_register(ptr @ob)
-  ret void
-}
-define void @mode(i64 %v) {
-  store i64 %v, ptr @flag
-  ret void
-}
-define i32 @probe_a(ptr %d) {
-  %p = load ptr, ptr @box
-  store i64 9, ptr %p
-  ret i32 0
-}
-define i32 @probe_b(ptr %d) {
-  %p = call ptr @kmalloc(i64 8)
-  store ptr %p, ptr @box
-  %f = load i64, ptr @flag
-  %t = icmp ne i64 %f, 0
-  br i1 %t, label %y, label %n
-y:
-  call void @lxfi_princ_alias(ptr %d, ptr inttoptr (i64 16777248 to ptr))
-  br label %n
-n:
-  ret i32 0
-}
 ---- file examples/manual/two.schedule
 schedule 0*40
 ---- words examples/manual/two.case examples/manual/two.schedule
@@ -365,16 +198,6 @@ done 36 0.2 kernel kernel:do_probe:132: calls slot probe at 0x10000e0(0x1000020)
 done 37 0.2 kernel kernel:do_probe:132: pre 0 of m:probe_a from kernel to m[0x1000020]
 done 38 0.2 m[0x1000020] m:probe_a:19: load i64 at 0x1000100 (m:@box+0) = 0x2000010
 refused 39 0.2 m[0x1000020] m:probe_a:20: store i64 0x9 at 0x2000010 (event 24+16): refused 1 m[0x1000020] write 0x2000010+8
----- file examples/manual/alias.case
-lxfi case 1
-kernel builtin
-interface builtin
-module m examples/manual/two.ll
-thread
-call m:init fuel 100
-call m:mode 1 fuel 100
-call kernel:do_probe 1 fuel 100
-call kernel:do_probe 0 fuel 100
 ---- file examples/manual/alias.schedule
 schedule 0*49
 ---- words examples/manual/alias.case examples/manual/alias.schedule
@@ -430,16 +253,6 @@ done 45 0.3 m[0x1000038] m:probe_a:21: leaves 0 at 0x3000000
 done 46 0.3 m[0x1000038] kernel:do_probe:132: post 0 of m:probe_a from m[0x1000038] to kernel
 done 47 0.3 kernel kernel:do_probe:133: leaves 0 at 0x3000000
 ends 48 0.3 kernel script: ends: returned 0
----- file examples/manual/alias_taken.case
-lxfi case 1
-kernel builtin
-interface builtin
-module m examples/manual/two.ll
-thread
-call m:init fuel 100
-call m:mode 1 fuel 100
-call kernel:do_probe 0 fuel 100
-call kernel:do_probe 1 fuel 100
 ---- file examples/manual/alias_taken.schedule
 schedule 0*41
 ---- words examples/manual/alias_taken.case examples/manual/alias_taken.schedule

@@ -1,6 +1,7 @@
 //! The cases of all texts are traced, and what is written and the statuses are compared.
 
 use crate::bench::Bench;
+use crate::files::put_files;
 use crate::table::take_parts;
 use crate::texts::{CASES, TEXTS, text};
 use std::alloc::Global;
@@ -26,6 +27,7 @@ fn assert_texts<R: Threads + Wait + Sync + Abort>(
     alloc: Global,
     bench: &mut Bench,
 ) -> Result<(), Fail> {
+    put_files(rt, alloc, bench)?;
     for number in 0..TEXTS {
         assert_text(rt, alloc, bench, number)?;
     }

@@ -7,42 +7,34 @@ use crate::driver_traces::driver_traces_table;
 use crate::ends::ends;
 use crate::first_traces::first_traces_table;
 use crate::further_long_traces::further_long_traces_table;
-use crate::last_long_traces::last_long_traces_table;
 use crate::lesson_traces::lesson_traces_table;
 use crate::long_traces::long_traces_table;
 use crate::machine_traces::machine_traces_table;
-use crate::more_c_traces::more_c_traces_table;
-use crate::more_card_traces::more_card_traces_table;
-use crate::more_driver_traces::more_driver_traces_table;
 use crate::more_long_traces::more_long_traces_table;
 use crate::need_traces::need_traces_table;
 use crate::refusal_traces::refusal_traces_table;
 
 /// How many texts there are.
-pub const TEXTS: u32 = 17;
+pub const TEXTS: u32 = 13;
 
 /// How many cases are in them: 53 traces of examples, and 21 that `ends` has.
 pub const CASES: u32 = 74;
 
-/// A text by its number, in the order of `examples/RUNS`: the files of a row may stand in an earlier one.
+/// A text by its number, in the order of `examples/RUNS`: the schedule of a row may stand in an earlier one.
 pub fn text(number: u32) -> &'static str {
     match number {
         0 => first_traces_table(),
         1 => c_traces_table(),
-        2 => more_c_traces_table(),
-        3 => card_traces_table(),
-        4 => more_card_traces_table(),
-        5 => driver_traces_table(),
-        6 => more_driver_traces_table(),
-        7 => annotation_traces_table(),
-        8 => lesson_traces_table(),
-        9 => machine_traces_table(),
-        10 => refusal_traces_table(),
-        11 => need_traces_table(),
-        12 => long_traces_table(),
-        13 => more_long_traces_table(),
-        14 => further_long_traces_table(),
-        15 => last_long_traces_table(),
+        2 => card_traces_table(),
+        3 => driver_traces_table(),
+        4 => annotation_traces_table(),
+        5 => lesson_traces_table(),
+        6 => machine_traces_table(),
+        7 => refusal_traces_table(),
+        8 => need_traces_table(),
+        9 => long_traces_table(),
+        10 => more_long_traces_table(),
+        11 => further_long_traces_table(),
         _ => ends(),
     }
 }

@@ -4,7 +4,7 @@ use crate::between::{put_ends, put_scenes, scene_files};
 use crate::callbacks::callbacks;
 use crate::edges::{outputs, put_no_commands, put_past_limit, put_without_module};
 use crate::examples::examples;
-use crate::files::put_files;
+use crate::files::{put_example_files, put_files};
 use crate::fuels::put_fuels;
 use crate::long::{put_all_calls, put_long_reports};
 use crate::one_entry::{is_store, put_entries, store};
@@ -127,6 +127,9 @@ fn put_computed(text: &mut String, series: Series) -> Result<(), Fail> {
 pub fn put_series(text: &mut String, series: Series) -> Result<(), Fail> {
     if !matches!(series, Series::WithoutModule) {
         put_files(text)?;
+    }
+    if let Series::Example(_) = series {
+        put_example_files(text)?;
     }
     text.push_str(text_of(series))?;
     put_computed(text, series)
