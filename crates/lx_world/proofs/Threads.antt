@@ -5,6 +5,7 @@ use Rattle.std.specs.List.{list_all, list_any}
 use Rattle.std.proofs.lemmas.List.{map-append}
 use Rattle.std.proofs.lemmas.Bool.{not-false}
 use Rattle.std.proofs.lemmas.Option.{same_Some}
+use Rattle.lx_caps.proofs.Tests.{not_on, not_off}
 use Rattle.lx_caps.specs.History.{History}
 use Rattle.lx_model.specs.declared.request.Reply.{Reply}
 use Rattle.lx_model.specs.State.{State}
@@ -129,9 +130,19 @@ fault_stands stands old new c w t r after code runners is there stays st =
     (subst (λ (q : Code). AllStand q 0 old.runners.list.items w.threads) (sym st.code) st.threads))
 
 -- the runner is idle exactly where the thread cannot act
-pub idle_is : {C : Type 0} (stands : C → History → Type 0) (old : World C) (c : Code) (w : ImageWorld) (t : ℕ)
+idle_is : {C : Type 0} (stands : C → History → Type 0) (old : World C) (c : Code) (w : ImageWorld) (t : ℕ)
     → StandsForWorld stands c old w → is_idle_at old.runners.list.items t ≡ not (can_act (shown w) t)
 idle_is stands old c w t st = idle c 0 t old.runners.list.items w.threads st.threads
+
+-- the thread of an idle runner cannot act
+pub cannot_act : {C : Type 0} (stands : C → History → Type 0) (old : World C) (c : Code) (w : ImageWorld) (t : ℕ) (b : Bool)
+    → b ≡ is_idle_at old.runners.list.items t → b ≡ true → StandsForWorld stands c old w → can_act (shown w) t ≡ false
+cannot_act stands old c w t b idle on st = not_on b _ (idle ∙ idle_is stands old c w t st) on
+
+-- and that of another one can
+pub acts : {C : Type 0} (stands : C → History → Type 0) (old : World C) (c : Code) (w : ImageWorld) (t : ℕ) (b : Bool)
+    → b ≡ is_idle_at old.runners.list.items t → b ≡ false → StandsForWorld stands c old w → can_act (shown w) t ≡ false → ⊥
+acts stands old c w t b idle off st stopped = not_off b _ (idle ∙ idle_is stands old c w t st) off stopped
 
 idle_more : (x y : Bool) (z : Bool) → z ≡ not y → (not x && z) ≡ not (x || y)
 idle_more true y z e = refl

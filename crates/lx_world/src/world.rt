@@ -274,12 +274,10 @@ impl<C: CapStore + Drop> World<C> {
         ensures room { HasRoom self.old → HasRoom self.new }
         ensures ends { HasEndsRoom C.spare self.old → HasEndsRoom C.spare self.new }
     {
-        let place = thread as usize;
-        if self.is_idle(place) {
-            return Err(EventFault::NoWork { thread });
+        match self.local_from(thread) {
+            Ok(_) => Ok(()),
+            Err(why) => Err(why),
         }
-        self.runners.at(thread).local(&self.code)?;
-        Ok(())
     }
 
     /// Takes the register steps of a thread as [`World::local`] does, and tells where in the code of images the thread asks behind them: the

@@ -4,14 +4,13 @@ use Rattle.lx_serve.specs.Room.{journal_room, store_room}
 use Rattle.lx_world.proofs.Counted.{ends_behind, room_behind, room_still}
 use Rattle.lx_world.specs.Wants.{may_want}
 use Rattle.lx_world.proofs.Exact.{event_exact, reply_told}
-use Rattle.lx_world.proofs.Threads.{at_thread, busy, event_stands, fault_stands, idle_is}
+use Rattle.lx_world.proofs.Threads.{acts, at_thread, busy, cannot_act, event_stands, fault_stands}
 use Rattle.lx_world.proofs.Wanted.{asked_after, end_room, event_room}
 use Rattle.lx_world.proofs.world.World.answer.Goals as goal
-use Rattle.lx_caps.proofs.Tests.{not_on, not_off}
 
 pub returns-then-is_idle-clause-no_work : goal.returns-then-is_idle-clause-no_work
 returns-then-is_idle-clause-no_work g c = λ p w st.
-    let off = not_on c.is_idle.result _ (c.is_idle.ensures.idle ∙ idle_is g.C.CapStore.stands c.args.self.now p w c.args.thread st) c.if-is_idle.true in
+    let off = cannot_act g.C.CapStore.stands c.args.self.now p w c.args.thread c.is_idle.result c.is_idle.ensures.idle c.if-is_idle.true st in
     (λ _. off, λ _. refl)
 
 pub turn-requires-clause-work : goal.turn-requires-clause-work
@@ -37,10 +36,8 @@ returns-clause-reply g c = λ p w x st found.
     (λ s y part r. (c.in_ok-reply.ensures.turns s y part r).reply) st found
 
 pub returns-clause-no_work : goal.returns-clause-no_work
-returns-clause-no_work g c = λ p w st. (
-  λ e. absurd (cc),
-  λ off. absurd (not_off c.is_idle.result _ (c.is_idle.ensures.idle ∙ idle_is g.C.CapStore.stands c.args.self.now p w c.args.thread st) c.if-is_idle.false off),
-)
+returns-clause-no_work g c = λ p w st.
+    (λ e. absurd (cc), λ off. absurd (acts g.C.CapStore.stands c.args.self.now p w c.args.thread c.is_idle.result c.is_idle.ensures.idle c.if-is_idle.false st off))
 
 pub returns-in_err-reply-clause-fault : goal.returns-in_err-reply-clause-fault
 returns-in_err-reply-clause-fault g c =
@@ -54,10 +51,7 @@ pub returns-in_err-reply-clause-no_work : goal.returns-in_err-reply-clause-no_wo
 returns-in_err-reply-clause-no_work g c =
     let q = err_from_is_err_and c.from_residual.result c.from_residual.ensures.1 in
     rw (q.1, q.2)
-    (λ p w st. (
-      λ e. absurd (cc),
-      λ off. absurd (not_off c.is_idle.result _ (c.is_idle.ensures.idle ∙ idle_is g.C.CapStore.stands c.args.self.now p w c.args.thread st) c.if-is_idle.false off),
-    ))
+    (λ p w st. (λ e. absurd (cc), λ off. absurd (acts g.C.CapStore.stands c.args.self.now p w c.args.thread c.is_idle.result c.is_idle.ensures.idle c.if-is_idle.false st off)))
 
 pub returns-clause-room : goal.returns-clause-room
 returns-clause-room g c = λ room.

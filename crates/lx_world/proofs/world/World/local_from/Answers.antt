@@ -5,14 +5,13 @@ use Rattle.lx_interp.specs.Runner.{IsAsking}
 use Rattle.lx_model.specs.Thread.{has_call}
 use Rattle.lx_world.specs.Worlds.{StandsFor}
 use Rattle.lx_world.proofs.Exact.{but_for, exact_others, place_told}
-use Rattle.lx_world.proofs.Threads.{busy, fault_stands, idle_is}
+use Rattle.lx_world.proofs.Threads.{acts, busy, cannot_act, fault_stands}
 use Rattle.lx_world.proofs.Wanted.{asks_next}
 use Rattle.lx_world.proofs.world.World.local_from.Goals as goal
-use Rattle.lx_caps.proofs.Tests.{not_on, not_off}
 
 pub returns-then-is_idle-clause-no_work : goal.returns-then-is_idle-clause-no_work
 returns-then-is_idle-clause-no_work g c = λ p w st.
-    let off = not_on c.is_idle.result _ (c.is_idle.ensures.idle ∙ idle_is g.C.CapStore.stands c.args.self.now p w c.args.thread st) c.if-is_idle.true in
+    let off = cannot_act g.C.CapStore.stands c.args.self.now p w c.args.thread c.is_idle.result c.is_idle.ensures.idle c.if-is_idle.true st in
     (λ _. off, λ _. refl)
 
 pub returns-clause-stands : goal.returns-clause-stands
@@ -33,19 +32,14 @@ returns-clause-asks g c = λ p w st.
     (λ x r has. c.in_ok-from.ensures.asks c.args.thread x r.runs has))
 
 pub returns-clause-no_work : goal.returns-clause-no_work
-returns-clause-no_work g c = λ p w st. (
-  λ e. absurd (cc),
-  λ off. absurd (not_off c.is_idle.result _ (c.is_idle.ensures.idle ∙ idle_is g.C.CapStore.stands c.args.self.now p w c.args.thread st) c.if-is_idle.false off),
-)
+returns-clause-no_work g c = λ p w st.
+    (λ e. absurd (cc), λ off. absurd (acts g.C.CapStore.stands c.args.self.now p w c.args.thread c.is_idle.result c.is_idle.ensures.idle c.if-is_idle.false st off))
 
 pub returns-in_err-from-clause-no_work : goal.returns-in_err-from-clause-no_work
 returns-in_err-from-clause-no_work g c =
     let q = err_from_is_err_and c.from_residual.result c.from_residual.ensures.1 in
     rw (q.1, q.2)
-    (λ p w st. (
-      λ e. absurd (cc),
-      λ off. absurd (not_off c.is_idle.result _ (c.is_idle.ensures.idle ∙ idle_is g.C.CapStore.stands c.args.self.now p w c.args.thread st) c.if-is_idle.false off),
-    ))
+    (λ p w st. (λ e. absurd (cc), λ off. absurd (acts g.C.CapStore.stands c.args.self.now p w c.args.thread c.is_idle.result c.is_idle.ensures.idle c.if-is_idle.false st off)))
 
 pub returns-clause-from : goal.returns-clause-from
 returns-clause-from g c = λ p w x exact found.
