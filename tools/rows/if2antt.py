@@ -1,4 +1,4 @@
-"""Writes an interface text as an antt value of lx_annot's Interface."""
+"""Writes an interface text as an antt value of lx_annot's Interface, in the short forms of `InterfaceTexts`."""
 import re
 from ir2antt import lst, opt, codes
 TOK = re.compile(r'%?[A-Za-z_$.][A-Za-z0-9_$.]*|[0-9]+|<<|>>|==|!=|<=|>=|&&|\|\||[:(){},;+\-*&|^<>!]')
@@ -29,7 +29,7 @@ class I:
                 self.its.append(f'record {{ name = {codes(n)}; items = {lst(items)}; line = {self.line} }}'); self.itn.append(n)
             elif w == 'field':
                 n = self.eat()[1:]; i = self.eat(); self.want(':'); s = self.eat()
-                self.fields.append(f'record {{ name = {codes(n)}; index = {i}; slot = {self.slotn.index(s)}; line = {self.line} }}')
+                self.fields.append(f'field {codes(n)} {i} {self.slotn.index(s)} {self.line}')
             else:
                 n = self.eat(); self.want(':'); self.ret = self.eat(); self.want('('); self.params = []
                 while self.peek() != ')':
@@ -44,8 +44,8 @@ class I:
                     elif c == 'pre': pre.append(self.action())
                     else: post.append(self.action())
                     self.want(')')
-                ps = lst([f'record {{ name = {codes(a)}; ty = ty.{TY[b]} }}' for a, b in self.params])
-                r = f'record {{\n          name = {codes(n)}; params = {ps}; ret = ty.{TY[self.ret]};\n          annotation = record {{ principal = {opt(pr)}; pre = {lst(pre)}; post = {lst(post)} }};\n          line = {self.line};\n        }}'
+                ps = lst([f'parameter {codes(a)} ty.{TY[b]}' for a, b in self.params])
+                r = f'{w} {codes(n)} {ps} ty.{TY[self.ret]}\n          (annotated {opt(pr)} {lst(pre)} {lst(post)}) {self.line}'
                 if w == 'slot': self.slots.append(r); self.slotn.append(n)
                 else: self.exports.append(r)
     def eat(self): self.p += 1; return self.t[self.p-1]
@@ -80,11 +80,3 @@ class I:
     def record(self):
         j = lambda xs: '\n        ' + '\n        ∷ '.join(xs + ['[]'])
         return f'record {{\n      reftypes = {lst([codes(n) for n in self.refn])};\n      iterators ={j(self.its)};\n      slots ={j(self.slots)};\n      fields ={j(self.fields)};\n      exports ={j(self.exports)};\n    }}'
-IHEAD = '''use Rattle.lx_annot.specs.declared.expr.Ty.TheVariants as ty
-use Rattle.lx_annot.specs.declared.expr.Mark.TheVariants as mark
-use Rattle.lx_annot.specs.declared.action.CapSpec.TheVariants as spec
-use Rattle.lx_annot.specs.declared.action.Who.TheVariants as who
-use Rattle.lx_annot.specs.declared.interface.Interface.{Interface}
-use Rattle.lx_annot.specs.Action as action
-use Rattle.lx_annot.specs.Expr as expr
-'''

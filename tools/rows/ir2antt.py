@@ -12,6 +12,20 @@ TOK = re.compile(r'[%@][A-Za-z0-9$._-]+|c?"[^"]*"|-?[0-9]+(?![A-Za-z])|[A-Za-z0-
 def lst(xs): return '(' + ''.join(x + ' ∷ ' for x in xs) + '[])'
 def opt(x): return 'None' if x is None else f'(Some {x})'
 def codes(s): return f'(codes "{s}")'
+SHORT = [  # the short forms of RowTexts
+    (re.compile(r'\(value\.Constant \(constant\.Number \(word W(32|64) (\d+)\)\)\)'), r'(n\1 \2)'),
+    (re.compile(r'\(value\.Constant \(constant\.Pointer \(pointer\.Symbol \(symbol\.Global (\d+)\) 0\)\)\)'), r'(the_global \1)'),
+    (re.compile(r'\(value\.Constant \(constant\.Pointer \(pointer\.Symbol \(symbol\.Function (\d+)\) 0\)\)\)'), r'(the_function \1)'),
+    (re.compile(r'\(value\.Constant \(constant\.Pointer \(pointer\.Number (\d+)\)\)\)'), r'(address \1)'),
+    (re.compile(r'\(value\.Constant \(constant\.Pointer pointer\.Null\)\)'), 'null'),
+    (re.compile(r'\(constant\.Pointer \(pointer\.Symbol \(symbol\.Function (\d+)\) 0\)\)'), r'(to_function \1)'),
+    (re.compile(r'\(constant\.Pointer pointer\.Null\)'), 'to_nothing'),
+    (re.compile(r'line \(op\.Call (None|\(Some \d+\)) (None|\(Some \w+\)) \(callee\.Symbol \(symbol\.Function (\d+)\)\) '), r'(call \1 \2 \3 '),
+    (re.compile(r'\(\[\]\)'), '[]'),
+]
+def short(s):
+    for form, by in SHORT: s = form.sub(by, s)
+    return re.sub(r'\((call (?:[^()]|\((?:[^()]|\((?:[^()]|\([^()]*\))*\))*\))*)\)', r'\1', s)
 
 class M:
     def __init__(self, text):
@@ -185,24 +199,3 @@ class M:
         raise Exception(w)
     def record(self):
         return f'record {{\n      types = {lst(self.types)};\n      globals = {lst(self.globals)};\n      functions =\n        ' + '\n        ∷ '.join(self.imports + self.funcs + ['[]']) + ';\n    }'
-
-HEAD = '''use Rattle.std.specs.Prelude.{◌≡◌, ℕ, Bool, true, false, Option, Some, None, List, [], ◌∷◌, ◌++◌, codes, replicate}
-use Rattle.lx_words.specs.declared.word.Width.TheVariants.{W1, W8, W16, W32, W64}
-use Rattle.lx_words.specs.declared.word.BinOp.TheVariants as binop
-use Rattle.lx_words.specs.declared.word.Pred.TheVariants as pred
-use Rattle.lx_words.specs.Word.{word}
-use Rattle.lx_ir.specs.declared.types.Scalar.TheVariants.{Int, Ptr}
-use Rattle.lx_ir.specs.declared.module.Blank.TheVariants.{Zero}
-use Rattle.lx_ir.specs.declared.module.Brackets.TheVariants as brackets
-use Rattle.lx_ir.specs.declared.module.Symbol.TheVariants as symbol
-use Rattle.lx_ir.specs.declared.module.Pointer.TheVariants as pointer
-use Rattle.lx_ir.specs.declared.module.Constant.TheVariants as constant
-use Rattle.lx_ir.specs.declared.module.Value.TheVariants as value
-use Rattle.lx_ir.specs.declared.module.Module.{Module}
-use Rattle.lx_ir.specs.declared.instr.Conversion.TheVariants as convert
-use Rattle.lx_ir.specs.declared.instr.Callee.TheVariants as callee
-use Rattle.lx_ir.specs.declared.instr.Op.TheVariants as op
-use Rattle.lx_ir.specs.IrType.{One, Array, Struct, Packed, Named, none, also}
-use Rattle.lx_ir.specs.Init.{Plain, Empty, Bytes, Group, no_more, more}
-use Rattle.lx_generated_laws.specs.RowTexts.{i32, i64, reg, line, arg, block, define, declare, global, param}
-'''

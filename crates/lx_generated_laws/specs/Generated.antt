@@ -1,69 +1,59 @@
 -- Twenty generated calls on four threads.
-use Rattle.std.specs.Prelude.{◌≡◌, ℕ, true, Some, None, List, [], ◌∷◌, ◌++◌, codes, replicate}
-use Rattle.lx_words.specs.declared.word.Width.TheVariants.{W64}
-use Rattle.lx_words.specs.Word.{word}
-use Rattle.lx_ir.specs.declared.types.Scalar.TheVariants.{Ptr}
-use Rattle.lx_ir.specs.declared.module.Symbol.TheVariants as symbol
-use Rattle.lx_ir.specs.declared.module.Constant.TheVariants as constant
-use Rattle.lx_ir.specs.declared.module.Value.TheVariants as value
-use Rattle.lx_ir.specs.declared.module.Module.{Module}
-use Rattle.lx_ir.specs.declared.instr.Conversion.TheVariants as convert
-use Rattle.lx_ir.specs.declared.instr.Callee.TheVariants as callee
-use Rattle.lx_ir.specs.declared.instr.Op.TheVariants as op
-use Rattle.lx_generated_laws.specs.RowTexts.{i64, reg, line, arg, block, define, declare, param}
 use Rattle.lx_caps.specs.declared.Principal.TheVariants.{Shared}
-use Rattle.lx_caps.specs.declared.Cap.TheVariants as caps
-use Rattle.lx_model.specs.declared.program.Program.{Program}
-use Rattle.lx_model.specs.declared.program.ProgramFunction.TheVariants.{Of}
+use Rattle.lx_generated_laws.specs.Accounts.{GivesAccount, asked, events, ended, calls_at, image, plain_account}
+use Rattle.lx_generated_laws.specs.Programs.{built_in, over}
+use Rattle.lx_generated_laws.specs.RowTexts.{i64, reg, n64, line, arg, call, param, block, define, declare, of_functions}
+use Rattle.lx_ir.specs.declared.instr.Conversion.TheVariants as convert
+use Rattle.lx_ir.specs.declared.instr.Op.TheVariants as op
+use Rattle.lx_ir.specs.declared.module.Module.{Module}
+use Rattle.lx_ir.specs.declared.types.Scalar.TheVariants.{Ptr}
+use Rattle.lx_model.specs.declared.account.CallOutcome.{CallOutcome}
 use Rattle.lx_model.specs.declared.program.ScriptCall.{ScriptCall}
 use Rattle.lx_model.specs.declared.request.Outcome.TheVariants.{Returned, Refused}
 use Rattle.lx_model.specs.declared.request.Refusal.TheVariants as refusal
-use Rattle.lx_model.specs.declared.account.Account.{Account}
-use Rattle.lx_generated_laws.specs.ProgramRows.{natives}
-use Rattle.lx_model.specs.World.{opening, run, is_whole}
-use Rattle.lx_model.specs.Account.{account}
-use Rattle.lx_generated_laws.specs.Kernel.{kernel, interface}
+use Rattle.lx_words.specs.Word.{word}
+use Rattle.lx_words.specs.declared.word.Width.TheVariants.{W64}
+use Rattle.std.specs.Prelude.{ℕ, Some, None, List, [], ◌∷◌, ◌++◌, codes}
 
 abbrev pub the_module : Module
 the_module =
-    record {
-      types = ([]);
-      globals = ([]);
-      functions =
-          declare (codes "kmalloc") (param [] i64 ∷ []) (Some Ptr)
-          ∷ declare (codes "kfree") (param [] Ptr ∷ []) None
-          ∷ define (codes "work") (param (codes "n") i64 ∷ []) ((codes "p") ∷ (codes "v") ∷ []) (Some i64) (block (codes "0") (line (op.Call (Some 1) (Some Ptr) (callee.Symbol (symbol.Function 0)) (arg i64 (value.Constant (constant.Number (word W64 16))) ∷ [])) ∷ line (op.Store i64 (reg 0) (reg 1)) ∷ line (op.Load 2 i64 (reg 1)) ∷ line (op.Call None None (callee.Symbol (symbol.Function 1)) (arg Ptr (reg 1) ∷ [])) ∷ line (op.Ret (Some (arg i64 (reg 2)))) ∷ []) ∷ [])
-          ∷ define (codes "stray") (param (codes "n") i64 ∷ []) ((codes "p") ∷ []) (Some i64) (block (codes "0") (line (op.Convert 1 convert.IntToPtr i64 (value.Constant (constant.Number (word W64 16777216))) Ptr) ∷ line (op.Store i64 (reg 0) (reg 1)) ∷ line (op.Ret (Some (arg i64 (reg 0)))) ∷ []) ∷ [])
-          ∷ [];
-    }
+    of_functions
+    (declare (codes "kmalloc") (param [] i64 ∷ []) (Some Ptr)
+    ∷ declare (codes "kfree") (param [] Ptr ∷ []) None
+    ∷ define (codes "work") (param (codes "n") i64 ∷ []) (codes "p" ∷ codes "v" ∷ []) (Some i64)
+    (block (codes "0") (call (Some 1) (Some Ptr) 0 (arg i64 (n64 16) ∷ []) ∷ line (op.Store i64 (reg 0) (reg 1)) ∷ line (op.Load 2 i64 (reg 1)) ∷ call None None 1 (arg Ptr (reg 1) ∷ []) ∷ line (op.Ret (Some (arg i64 (reg 2)))) ∷ []) ∷ [])
+    ∷ define (codes "stray") (param (codes "n") i64 ∷ []) (codes "p" ∷ []) (Some i64)
+    (block (codes "0") (line (op.Convert 1 convert.IntToPtr i64 (n64 16777216) Ptr) ∷ line (op.Store i64 (reg 0) (reg 1)) ∷ line (op.Ret (Some (arg i64 (reg 0)))) ∷ []) ∷ [])
+    ∷ [])
 
-abbrev pub program : Program
-program =
-    record {
-      kernel = kernel;
-      modules = record { name = codes "m"; «module» = the_module } ∷ [];
-      functions = natives ++ (Of None 7 ∷ Of None 8 ∷ Of None 9 ∷ Of None 10 ∷ Of None 11 ∷ Of None 12 ∷ Of None 13 ∷ Of None 14 ∷ Of None 15 ∷ Of None 16 ∷ Of None 17 ∷ Of None 18 ∷ Of None 19 ∷ Of (Some 0) 2 ∷ Of (Some 0) 3 ∷ []);
-      globals = (record { «module» = None; global = 0; at = 0x1000000 } ∷ record { «module» = None; global = 1; at = 0x1000010 } ∷ record { «module» = None; global = 2; at = 0x1000020 } ∷ []);
-      interface = interface;
-    }
+-- calls of `@work` and of `@stray` with this number, and how they end
+abbrev pub works : ℕ → ScriptCall
+works n = asked 19 (word W64 n ∷ [])
+
+abbrev pub strays : ℕ → ScriptCall
+strays n = asked 20 (word W64 n ∷ [])
+
+abbrev pub worked : ℕ → ℕ → CallOutcome
+worked t n = ended t 19 (Returned (Some (word W64 n)))
+
+abbrev pub strayed : ℕ → CallOutcome
+strayed t = ended t 20 (Refused (refusal.Write (Shared 0) 0x1000000 8))
 
 abbrev pub script : List (List ScriptCall)
-script = ((record { function = 19; args = ((word W64 20) ∷ []); fuel = 100 } ∷ record { function = 19; args = ((word W64 32) ∷ []); fuel = 100 } ∷ record { function = 19; args = ((word W64 44) ∷ []); fuel = 100 } ∷ record { function = 19; args = ((word W64 56) ∷ []); fuel = 100 } ∷ record { function = 19; args = ((word W64 68) ∷ []); fuel = 100 } ∷ []) ∷ (record { function = 19; args = ((word W64 23) ∷ []); fuel = 100 } ∷ record { function = 19; args = ((word W64 35) ∷ []); fuel = 100 } ∷ record { function = 20; args = ((word W64 47) ∷ []); fuel = 100 } ∷ record { function = 19; args = ((word W64 59) ∷ []); fuel = 100 } ∷ record { function = 19; args = ((word W64 71) ∷ []); fuel = 100 } ∷ []) ∷ (record { function = 19; args = ((word W64 26) ∷ []); fuel = 100 } ∷ record { function = 19; args = ((word W64 38) ∷ []); fuel = 100 } ∷ record { function = 19; args = ((word W64 50) ∷ []); fuel = 100 } ∷ record { function = 19; args = ((word W64 62) ∷ []); fuel = 100 } ∷ record { function = 19; args = ((word W64 74) ∷ []); fuel = 100 } ∷ []) ∷ (record { function = 19; args = ((word W64 29) ∷ []); fuel = 100 } ∷ record { function = 19; args = ((word W64 41) ∷ []); fuel = 100 } ∷ record { function = 19; args = ((word W64 53) ∷ []); fuel = 100 } ∷ record { function = 19; args = ((word W64 65) ∷ []); fuel = 100 } ∷ record { function = 20; args = ((word W64 77) ∷ []); fuel = 100 } ∷ []) ∷ [])
+script =
+    (works 20 ∷ works 32 ∷ works 44 ∷ works 56 ∷ works 68 ∷ [])
+    ∷ (works 23 ∷ works 35 ∷ strays 47 ∷ works 59 ∷ works 71 ∷ [])
+    ∷ (works 26 ∷ works 38 ∷ works 50 ∷ works 62 ∷ works 74 ∷ [])
+    ∷ (works 29 ∷ works 41 ∷ works 53 ∷ works 65 ∷ strays 77 ∷ []) ∷ []
 
-abbrev pub schedule : List ℕ
-schedule = replicate 70 0 ++ replicate 58 1 ++ replicate 70 2 ++ replicate 58 3
+abbrev pub outcomes : List CallOutcome
+outcomes =
+    worked 0 20 ∷ worked 0 32 ∷ worked 0 44 ∷ worked 0 56 ∷ worked 0 68
+    ∷ worked 1 23 ∷ worked 1 35 ∷ strayed 1 ∷ worked 1 59 ∷ worked 1 71
+    ∷ worked 2 26 ∷ worked 2 38 ∷ worked 2 50 ∷ worked 2 62 ∷ worked 2 74
+    ∷ worked 3 29 ∷ worked 3 41 ∷ worked 3 53 ∷ worked 3 65 ∷ strayed 3 ∷ []
 
-abbrev pub told : Account
-told =
-    record {
-      schedule = schedule;
-      outcomes = (record { thread = 0; function = 19; outcome = Returned (Some (word W64 20)) } ∷ record { thread = 0; function = 19; outcome = Returned (Some (word W64 32)) } ∷ record { thread = 0; function = 19; outcome = Returned (Some (word W64 44)) } ∷ record { thread = 0; function = 19; outcome = Returned (Some (word W64 56)) } ∷ record { thread = 0; function = 19; outcome = Returned (Some (word W64 68)) } ∷ record { thread = 1; function = 19; outcome = Returned (Some (word W64 23)) } ∷ record { thread = 1; function = 19; outcome = Returned (Some (word W64 35)) } ∷ record { thread = 1; function = 20; outcome = Refused (refusal.Write (Shared 0) 0x1000000 8) } ∷ record { thread = 1; function = 19; outcome = Returned (Some (word W64 59)) } ∷ record { thread = 1; function = 19; outcome = Returned (Some (word W64 71)) } ∷ record { thread = 2; function = 19; outcome = Returned (Some (word W64 26)) } ∷ record { thread = 2; function = 19; outcome = Returned (Some (word W64 38)) } ∷ record { thread = 2; function = 19; outcome = Returned (Some (word W64 50)) } ∷ record { thread = 2; function = 19; outcome = Returned (Some (word W64 62)) } ∷ record { thread = 2; function = 19; outcome = Returned (Some (word W64 74)) } ∷ record { thread = 3; function = 19; outcome = Returned (Some (word W64 29)) } ∷ record { thread = 3; function = 19; outcome = Returned (Some (word W64 41)) } ∷ record { thread = 3; function = 19; outcome = Returned (Some (word W64 53)) } ∷ record { thread = 3; function = 19; outcome = Returned (Some (word W64 65)) } ∷ record { thread = 3; function = 20; outcome = Refused (refusal.Write (Shared 0) 0x1000000 8) } ∷ []);
-      notes = ([]);
-      images = record { guards = 2; checks = 0; wrappers = 2 } ∷ [];
-      owners = (record { who = Shared 0; cap = caps.Call 0x10060 } ∷ record { who = Shared 0; cap = caps.Call 0x10080 } ∷ record { who = Shared 0; cap = caps.Call 0x10130 } ∷ record { who = Shared 0; cap = caps.Call 0x10140 } ∷ []);
-      names = ([]);
-    }
-
-pub record Generated : Type 0 where
-  pub account_is : account program (run program schedule (opening program script)) ≡ told
-  pub is_whole_is : is_whole program schedule (opening program script) ≡ true
+abbrev pub Generated : Type 0
+Generated =
+    GivesAccount (over built_in the_module (2 ∷ 3 ∷ []) []) script
+    (plain_account (events 0 70 ++ events 1 58 ++ events 2 70 ++ events 3 58) outcomes (image 2 0 2) (calls_at (0x10060 ∷ 0x10080 ∷ 0x10130 ∷ 0x10140 ∷ [])))

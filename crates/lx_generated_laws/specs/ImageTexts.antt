@@ -19,7 +19,8 @@ use Rattle.lx_annot.specs.Expr.{Return}
 use Rattle.lx_annot.specs.declared.action.CapSpec.TheVariants as spec
 use Rattle.lx_annot.specs.declared.expr.Ty.TheVariants as ty
 use Rattle.lx_annot.specs.declared.interface.Interface.{Interface}
-use Rattle.lx_generated_laws.specs.RowTexts.{i32, i64, reg, n32, n64, the_global, arg, block}
+use Rattle.lx_generated_laws.specs.RowTexts.{i32, i64, reg, n32, n64, the_global, arg, block, no_interface}
+use Rattle.lx_generated_laws.specs.InterfaceTexts.{annotated, export}
 
 -- an instruction at its line
 abbrev pub at : ℕ → Op → Instr
@@ -58,14 +59,7 @@ one_image = one_with (at 4 (guard_of 4) ∷ at 5 store ∷ load_and_ret 6) []
 
 -- `export hook_get : ptr () post(copy(call, return))`
 abbrev pub hook_interface : Interface
-hook_interface =
-    record {
-      reftypes = [];
-      iterators = [];
-      slots = [];
-      fields = [];
-      exports = record { name = codes "hook_get"; params = []; ret = ty.Ptr; annotation = record { principal = None; pre = []; post = Copy (spec.Call (Return ty.Ptr)) ∷ [] }; line = 2 } ∷ [];
-    }
+hook_interface = record no_interface { exports = export (codes "hook_get") [] ty.Ptr (annotated None [] (Copy (spec.Call (Return ty.Ptr)) ∷ [])) 2 ∷ [] }
 
 abbrev pub hook_get : Function
 hook_get = record { name = codes "hook_get"; params = []; locals = []; ret = Some Ptr; blocks = None; line = 1 }

@@ -16,6 +16,7 @@ use Rattle.lx_ir.specs.declared.instr.Op.TheVariants as op
 use Rattle.lx_ir.specs.IrType.{One, Array, Struct, Named, none, also}
 use Rattle.lx_ir.specs.Init.{Plain, Empty}
 use Rattle.lx_generated_laws.specs.RowTexts.{i32, i64, reg, line, arg, block, define, declare, global, param}
+use Rattle.lx_generated_laws.specs.InterfaceTexts.{parameter, annotated, slot, export, field}
 use Rattle.lx_annot.specs.declared.expr.Ty.TheVariants as ty
 use Rattle.lx_annot.specs.declared.expr.Mark.TheVariants as mark
 use Rattle.lx_annot.specs.declared.action.CapSpec.TheVariants as spec
@@ -56,107 +57,42 @@ kernel =
 abbrev pub interface : Interface
 interface =
     record {
-      reftypes = ((codes "device") ∷ []);
+      reftypes = (codes "device" ∷ []);
       iterators =
           record { name = (codes "skb_caps"); items = (record { cond = None; cap = spec.Write (expr.Param 0 ty.Ptr) (expr.Number 24) } ∷ record { cond = None; cap = spec.Write (expr.Load64 (expr.Param 0 ty.Ptr)) (expr.Load64 (expr.Binary mark.Add (expr.Param 0 ty.Ptr) (expr.Number 8))) } ∷ []); line = 3 }
           ∷ [];
       slots =
-          record {
-            name = (codes "probe");
-            params = (record { name = (codes "dev"); ty = ty.Ptr } ∷ []);
-            ret = ty.I32;
-            annotation = record { principal = (Some (who.Value (expr.Param 0 ty.Ptr))); pre = (action.Copy (spec.Ref 0 (expr.Param 0 ty.Ptr)) ∷ []); post = (action.If (expr.Binary mark.Less (expr.Return ty.I32) (expr.Number 0)) (action.Transfer (spec.Ref 0 (expr.Param 0 ty.Ptr))) ∷ []) };
-            line = 4;
-          }
-          ∷ record {
-            name = (codes "xmit");
-            params = (record { name = (codes "skb"); ty = ty.Ptr } ∷ record { name = (codes "dev"); ty = ty.Ptr } ∷ []);
-            ret = ty.I32;
-            annotation = record { principal = (Some (who.Value (expr.Param 1 ty.Ptr))); pre = (action.Transfer (spec.Each 0 (expr.Param 0 ty.Ptr)) ∷ []); post = (action.If (expr.Binary mark.Less (expr.Return ty.I32) (expr.Number 0)) (action.Transfer (spec.Each 0 (expr.Param 0 ty.Ptr))) ∷ []) };
-            line = 5;
-          }
+          slot (codes "probe") (parameter (codes "dev") ty.Ptr ∷ []) ty.I32
+          (annotated (Some (who.Value (expr.Param 0 ty.Ptr))) (action.Copy (spec.Ref 0 (expr.Param 0 ty.Ptr)) ∷ []) (action.If (expr.Binary mark.Less (expr.Return ty.I32) (expr.Number 0)) (action.Transfer (spec.Ref 0 (expr.Param 0 ty.Ptr))) ∷ [])) 4
+          ∷ slot (codes "xmit") (parameter (codes "skb") ty.Ptr ∷ parameter (codes "dev") ty.Ptr ∷ []) ty.I32
+          (annotated (Some (who.Value (expr.Param 1 ty.Ptr))) (action.Transfer (spec.Each 0 (expr.Param 0 ty.Ptr)) ∷ []) (action.If (expr.Binary mark.Less (expr.Return ty.I32) (expr.Number 0)) (action.Transfer (spec.Each 0 (expr.Param 0 ty.Ptr))) ∷ [])) 5
           ∷ [];
       fields =
-          record { name = (codes "struct.dev_ops"); index = 0; slot = 0; line = 6 }
-          ∷ record { name = (codes "struct.dev_ops"); index = 1; slot = 1; line = 7 }
+          field (codes "struct.dev_ops") 0 0 6
+          ∷ field (codes "struct.dev_ops") 1 1 7
           ∷ [];
       exports =
-          record {
-            name = (codes "kmalloc");
-            params = (record { name = (codes "n"); ty = ty.I64 } ∷ []);
-            ret = ty.Ptr;
-            annotation = record { principal = None; pre = ([]); post = (action.If (expr.Binary mark.Differs (expr.Return ty.Ptr) (expr.Number 0)) (action.Transfer (spec.Write (expr.Return ty.Ptr) (expr.Param 0 ty.I64))) ∷ []) };
-            line = 8;
-          }
-          ∷ record {
-            name = (codes "kzalloc");
-            params = (record { name = (codes "n"); ty = ty.I64 } ∷ []);
-            ret = ty.Ptr;
-            annotation = record { principal = None; pre = ([]); post = (action.If (expr.Binary mark.Differs (expr.Return ty.Ptr) (expr.Number 0)) (action.Transfer (spec.Write (expr.Return ty.Ptr) (expr.Param 0 ty.I64))) ∷ []) };
-            line = 9;
-          }
-          ∷ record {
-            name = (codes "kfree");
-            params = (record { name = (codes "p"); ty = ty.Ptr } ∷ []);
-            ret = ty.Void;
-            annotation = record { principal = None; pre = (action.If (expr.Binary mark.Differs (expr.Param 0 ty.Ptr) (expr.Number 0)) (action.Transfer (spec.Write (expr.Param 0 ty.Ptr) (expr.Load64 (expr.Binary mark.Sub (expr.Param 0 ty.Ptr) (expr.Number 16))))) ∷ []); post = ([]) };
-            line = 10;
-          }
-          ∷ record {
-            name = (codes "dev_register");
-            params = (record { name = (codes "ops"); ty = ty.Ptr } ∷ []);
-            ret = ty.Ptr;
-            annotation = record { principal = None; pre = ([]); post = ([]) };
-            line = 11;
-          }
-          ∷ record {
-            name = (codes "dev_set_priv");
-            params = (record { name = (codes "dev"); ty = ty.Ptr } ∷ record { name = (codes "v"); ty = ty.Ptr } ∷ []);
-            ret = ty.Void;
-            annotation = record { principal = None; pre = (action.Check (spec.Ref 0 (expr.Param 0 ty.Ptr)) ∷ []); post = ([]) };
-            line = 12;
-          }
-          ∷ record {
-            name = (codes "dev_zero");
-            params = (record { name = (codes "p"); ty = ty.Ptr } ∷ record { name = (codes "n"); ty = ty.I64 } ∷ []);
-            ret = ty.Void;
-            annotation = record { principal = None; pre = (action.Check (spec.Write (expr.Param 0 ty.Ptr) (expr.Param 1 ty.I64)) ∷ []); post = ([]) };
-            line = 13;
-          }
-          ∷ record {
-            name = (codes "dev_wipe");
-            params = (record { name = (codes "p"); ty = ty.Ptr } ∷ record { name = (codes "n"); ty = ty.I64 } ∷ []);
-            ret = ty.Void;
-            annotation = record { principal = None; pre = (action.Transfer (spec.Write (expr.Param 0 ty.Ptr) (expr.Param 1 ty.I64)) ∷ []); post = (action.Transfer (spec.Write (expr.Param 0 ty.Ptr) (expr.Param 1 ty.I64)) ∷ []) };
-            line = 14;
-          }
-          ∷ record {
-            name = (codes "skb_new");
-            params = (record { name = (codes "n"); ty = ty.I64 } ∷ []);
-            ret = ty.Ptr;
-            annotation = record { principal = None; pre = ([]); post = (action.If (expr.Binary mark.Differs (expr.Return ty.Ptr) (expr.Number 0)) (action.Transfer (spec.Write (expr.Return ty.Ptr) (expr.Number 24))) ∷ action.If (expr.Binary mark.Differs (expr.Return ty.Ptr) (expr.Number 0)) (action.Transfer (spec.Write (expr.Load64 (expr.Return ty.Ptr)) (expr.Param 0 ty.I64))) ∷ []) };
-            line = 15;
-          }
-          ∷ record {
-            name = (codes "netif_rx");
-            params = (record { name = (codes "skb"); ty = ty.Ptr } ∷ []);
-            ret = ty.I32;
-            annotation = record { principal = None; pre = (action.Transfer (spec.Each 0 (expr.Param 0 ty.Ptr)) ∷ []); post = ([]) };
-            line = 16;
-          }
-          ∷ record {
-            name = (codes "hook_get");
-            params = ([]);
-            ret = ty.Ptr;
-            annotation = record { principal = None; pre = ([]); post = (action.Copy (spec.Call (expr.Return ty.Ptr)) ∷ []) };
-            line = 17;
-          }
-          ∷ record {
-            name = (codes "hook_fn");
-            params = (record { name = (codes "x"); ty = ty.I64 } ∷ []);
-            ret = ty.I64;
-            annotation = record { principal = None; pre = ([]); post = ([]) };
-            line = 18;
-          }
+          export (codes "kmalloc") (parameter (codes "n") ty.I64 ∷ []) ty.Ptr
+          (annotated None [] (action.If (expr.Binary mark.Differs (expr.Return ty.Ptr) (expr.Number 0)) (action.Transfer (spec.Write (expr.Return ty.Ptr) (expr.Param 0 ty.I64))) ∷ [])) 8
+          ∷ export (codes "kzalloc") (parameter (codes "n") ty.I64 ∷ []) ty.Ptr
+          (annotated None [] (action.If (expr.Binary mark.Differs (expr.Return ty.Ptr) (expr.Number 0)) (action.Transfer (spec.Write (expr.Return ty.Ptr) (expr.Param 0 ty.I64))) ∷ [])) 9
+          ∷ export (codes "kfree") (parameter (codes "p") ty.Ptr ∷ []) ty.Void
+          (annotated None (action.If (expr.Binary mark.Differs (expr.Param 0 ty.Ptr) (expr.Number 0)) (action.Transfer (spec.Write (expr.Param 0 ty.Ptr) (expr.Load64 (expr.Binary mark.Sub (expr.Param 0 ty.Ptr) (expr.Number 16))))) ∷ []) []) 10
+          ∷ export (codes "dev_register") (parameter (codes "ops") ty.Ptr ∷ []) ty.Ptr
+          (annotated None [] []) 11
+          ∷ export (codes "dev_set_priv") (parameter (codes "dev") ty.Ptr ∷ parameter (codes "v") ty.Ptr ∷ []) ty.Void
+          (annotated None (action.Check (spec.Ref 0 (expr.Param 0 ty.Ptr)) ∷ []) []) 12
+          ∷ export (codes "dev_zero") (parameter (codes "p") ty.Ptr ∷ parameter (codes "n") ty.I64 ∷ []) ty.Void
+          (annotated None (action.Check (spec.Write (expr.Param 0 ty.Ptr) (expr.Param 1 ty.I64)) ∷ []) []) 13
+          ∷ export (codes "dev_wipe") (parameter (codes "p") ty.Ptr ∷ parameter (codes "n") ty.I64 ∷ []) ty.Void
+          (annotated None (action.Transfer (spec.Write (expr.Param 0 ty.Ptr) (expr.Param 1 ty.I64)) ∷ []) (action.Transfer (spec.Write (expr.Param 0 ty.Ptr) (expr.Param 1 ty.I64)) ∷ [])) 14
+          ∷ export (codes "skb_new") (parameter (codes "n") ty.I64 ∷ []) ty.Ptr
+          (annotated None [] (action.If (expr.Binary mark.Differs (expr.Return ty.Ptr) (expr.Number 0)) (action.Transfer (spec.Write (expr.Return ty.Ptr) (expr.Number 24))) ∷ action.If (expr.Binary mark.Differs (expr.Return ty.Ptr) (expr.Number 0)) (action.Transfer (spec.Write (expr.Load64 (expr.Return ty.Ptr)) (expr.Param 0 ty.I64))) ∷ [])) 15
+          ∷ export (codes "netif_rx") (parameter (codes "skb") ty.Ptr ∷ []) ty.I32
+          (annotated None (action.Transfer (spec.Each 0 (expr.Param 0 ty.Ptr)) ∷ []) []) 16
+          ∷ export (codes "hook_get") [] ty.Ptr
+          (annotated None [] (action.Copy (spec.Call (expr.Return ty.Ptr)) ∷ [])) 17
+          ∷ export (codes "hook_fn") (parameter (codes "x") ty.I64 ∷ []) ty.I64
+          (annotated None [] []) 18
           ∷ [];
     }

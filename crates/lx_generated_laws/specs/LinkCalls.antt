@@ -1,12 +1,12 @@
 -- The first fault of small scripts, and faults as they are answered.
-use Rattle.std.specs.Prelude.{◌≡◌, ℕ, Option, Some, None, List, [], ◌∷◌, ℤ, pos, negsuc, codes}
+use Rattle.std.specs.Prelude.{◌≡◌, ℕ, Option, Some, None, List, [], ◌∷◌, pos, negsuc, codes}
 use Rattle.lx_words.specs.declared.word.Width.TheVariants.{W8, W64}
 use Rattle.lx_words.specs.Word.{word}
 use Rattle.lx_ir.specs.declared.types.Scalar.{Scalar}
 use Rattle.lx_ir.specs.declared.types.Scalar.TheVariants.{Int, Ptr}
 use Rattle.lx_ir.specs.declared.module.Module.{Module}
 use Rattle.lx_ir.specs.declared.instr.Op.TheVariants as op
-use Rattle.lx_generated_laws.specs.RowTexts.{i64, line, block, define, declare, param}
+use Rattle.lx_generated_laws.specs.RowTexts.{i64, line, block, define, declare, param, of_functions}
 use Rattle.lx_script.specs.declared.case.Origin.TheVariants as origin
 use Rattle.lx_script.specs.declared.case.CaseArg.{CaseArg}
 use Rattle.lx_script.specs.declared.case.CaseArg.TheVariants.{Number, Address}
@@ -21,7 +21,6 @@ use Rattle.lx_link.specs.declared.fault.LinkFault.TheVariants as answer
 use Rattle.lx_link.specs.Calls.{script_fault, calls_of}
 use Rattle.lx_link.specs.Answers.{answered}
 use Rattle.lx_generated_laws.specs.LinkedPrograms.{lone, hosted}
-use Rattle.lx_generated_laws.specs.LinkFaults.{of_functions}
 
 -- a call of a function of the module with this number, or of the kernel, with 100 units of fuel
 abbrev pub called : ℕ → Option ℕ → List ℕ → List CaseArg → CaseCall

@@ -1,9 +1,8 @@
 -- The first fault of small texts.
-use Rattle.std.specs.Prelude.{◌≡◌, ℕ, Option, Some, None, List, [], ◌∷◌, ◌++◌, codes}
+use Rattle.std.specs.Prelude.{◌≡◌, ℕ, Some, None, List, [], ◌∷◌, codes}
 use Rattle.lx_words.specs.declared.word.Width.TheVariants.{W8}
 use Rattle.lx_ir.specs.declared.types.Scalar.TheVariants.{Int, Ptr}
 use Rattle.lx_ir.specs.declared.module.Blank.TheVariants.{Zero}
-use Rattle.lx_ir.specs.declared.module.GlobalVar.{GlobalVar}
 use Rattle.lx_ir.specs.declared.module.Function.{Function}
 use Rattle.lx_ir.specs.declared.module.Module.{Module}
 use Rattle.lx_ir.specs.declared.instr.Callee.TheVariants as callee
@@ -11,21 +10,17 @@ use Rattle.lx_ir.specs.declared.instr.Op.TheVariants as op
 use Rattle.lx_ir.specs.IrType.{One, Array}
 use Rattle.lx_ir.specs.Init.{Empty}
 use Rattle.lx_annot.specs.declared.interface.Interface.{Interface}
-use Rattle.lx_generated_laws.specs.RowTexts.{i32, i64, reg, line, block, define, declare, global, param, no_interface}
+use Rattle.lx_generated_laws.specs.RowTexts.{i32, i64, line, block, define, declare, global, param, of_functions, no_interface}
 use Rattle.lx_generated_laws.specs.Kernel.{kernel, interface}
-use Rattle.lx_generated_laws.specs.AliasRefused as alias_refused
-use Rattle.lx_generated_laws.specs.BentSlot as bent_slot
-use Rattle.lx_model.specs.Program.{empty_module}
+use Rattle.lx_generated_laws.specs.Instances as instances
+use Rattle.lx_generated_laws.specs.Slots as slots
 use Rattle.lx_link_texts.specs.declared.sources.Sources.{Sources}
 use Rattle.lx_link_texts.specs.declared.fault.FaultKind.TheVariants.{Missing, Unannotated, SignatureDiffers, TooLarge, KernelIndirect}
 use Rattle.lx_link_texts.specs.declared.fault.Source.TheVariants as source
-use Rattle.lx_link_texts.specs.Faults.{fault, text_fault, globals_fault, limit_fault}
+use Rattle.lx_link_texts.specs.Faults.{fault, text_fault, globals_fault}
 use Rattle.lx_generated_laws.specs.LinkedPrograms.{lone, hosted}
 
--- a module of functions alone, and one of one global of bytes
-abbrev pub of_functions : List Function → Module
-of_functions fs = record { types = []; globals = []; functions = fs }
-
+-- a module of one global of bytes
 abbrev pub of_bytes : ℕ → Module
 of_bytes n = record { types = []; globals = global (codes "g") (Array n (One (Int W8))) (Empty Zero) ∷ []; functions = [] }
 
@@ -41,8 +36,8 @@ calls_parameter =
 
 pub record WorkedFaults : Type 0 where
   -- the modules of worked runs have none
-  pub aliased : text_fault (hosted alias_refused.the_module) ≡ None
-  pub bent : text_fault (hosted bent_slot.the_module) ≡ None
+  pub aliased : text_fault (hosted instances.the_module) ≡ None
+  pub bent : text_fault (hosted slots.the_module) ≡ None
   -- an import that the interface does not export, one that the kernel lacks, and the kernel's own
   pub not_exported : text_fault (hosted (of_functions (declare (codes "do_probe") (param [] i64 ∷ []) (Some i32) ∷ []))) ≡ Some (fault Unannotated (source.Module 0) 0 (codes "do_probe"))
   pub missing : text_fault (hosted (of_functions (declare (codes "f") [] None ∷ []))) ≡ Some (fault Missing (source.Module 0) 0 (codes "f"))

@@ -1,19 +1,16 @@
 -- The first of two faults: the order of the passes, and what is first in a pass.
 use Rattle.std.specs.Prelude.{◌≡◌, Some, None, List, [], ◌∷◌, codes, length}
 use Rattle.lx_words.specs.declared.word.Width.TheVariants.{W8}
-use Rattle.lx_ir.specs.declared.types.Scalar.TheVariants.{Int, Ptr}
-use Rattle.lx_ir.specs.declared.module.Brackets.TheVariants as brackets
+use Rattle.lx_ir.specs.declared.types.Scalar.TheVariants.{Int}
 use Rattle.lx_ir.specs.declared.module.Blank.TheVariants.{Zero}
-use Rattle.lx_ir.specs.declared.module.Symbol.TheVariants as symbol
-use Rattle.lx_ir.specs.declared.module.Pointer.TheVariants as pointer
-use Rattle.lx_ir.specs.declared.module.Constant.TheVariants as constant
 use Rattle.lx_ir.specs.declared.module.Function.{Function}
 use Rattle.lx_ir.specs.declared.module.GlobalVar.{GlobalVar}
 use Rattle.lx_ir.specs.declared.module.Module.{Module}
 use Rattle.lx_ir.specs.declared.instr.Op.TheVariants as op
-use Rattle.lx_ir.specs.IrType.{One, Named, Array, Struct, none, also}
-use Rattle.lx_ir.specs.Init.{Plain, Empty, Group, no_more, more}
-use Rattle.lx_generated_laws.specs.RowTexts.{i32, n32, arg, line, block, define, declare, global, no_interface}
+use Rattle.lx_ir.specs.IrType.{One, Array}
+use Rattle.lx_ir.specs.Init.{Empty}
+use Rattle.lx_generated_laws.specs.RowTexts.{i32, n32, to_function, to_nothing, arg, line, block, define, declare, global, of_functions, no_interface}
+use Rattle.lx_generated_laws.specs.Devices.{device_module, ops}
 use Rattle.lx_generated_laws.specs.Kernel.{kernel, interface}
 use Rattle.lx_link_texts.specs.declared.sources.Sources.{Sources}
 use Rattle.lx_link_texts.specs.declared.fault.FaultKind.TheVariants.{Missing, SignatureDiffers, TooLarge, KernelIndirect}
@@ -22,7 +19,7 @@ use Rattle.lx_link_texts.specs.Placing.{functions_of}
 use Rattle.lx_link_texts.specs.Faults.{fault, text_fault, limit_fault, globals_fault, last_source}
 use Rattle.lx_link.specs.Answers.{link_fault}
 use Rattle.lx_generated_laws.specs.LinkedPrograms.{lone, hosted}
-use Rattle.lx_generated_laws.specs.LinkFaults.{calls_parameter, kernel_of, of_bytes, of_functions}
+use Rattle.lx_generated_laws.specs.LinkFaults.{calls_parameter, kernel_of, of_bytes}
 use Rattle.lx_generated_laws.specs.LinkCalls.{called, case_of}
 
 -- an import that no kernel here defines
@@ -33,19 +30,9 @@ unknown = declare (codes "f") [] None
 abbrev pub takes_nothing : Function
 takes_nothing = define (codes "probe") [] [] (Some i32) (block (codes "0") (line (op.Ret (Some (arg i32 (n32 0)))) ∷ []) ∷ [])
 
-abbrev pub ops : GlobalVar
-ops =
-    global (codes "ops") (Named 0)
-    (Group brackets.Struct (One Ptr ∷ One Ptr ∷ []) (more (Plain (constant.Pointer (pointer.Symbol (symbol.Function 0) 0))) (more (Plain (constant.Pointer pointer.Null)) no_more)))
-
 -- a module whose `@probe` differs, with more globals and functions
 abbrev pub differing : List GlobalVar → List Function → Module
-differing gs fs =
-    record {
-      types = record { name = codes "struct.dev_ops"; ty = Struct (also (One Ptr) (also (One Ptr) none)) } ∷ [];
-      globals = ops ∷ gs;
-      functions = takes_nothing ∷ fs;
-    }
+differing gs fs = device_module (ops (codes "ops") (to_function 0) to_nothing ∷ gs) (takes_nothing ∷ fs)
 
 -- one byte more than the region of globals has
 abbrev pub too_large : GlobalVar

@@ -1,17 +1,17 @@
 -- The programs of the worked runs, as linking gives them.
-use Rattle.std.specs.Prelude.{◌≡◌, ℕ, Option, Some, None, List, [], ◌∷◌, codes, option_map, slice_get, length}
+use Rattle.std.specs.Prelude.{◌≡◌, ℕ, Option, Some, List, [], ◌∷◌, codes, option_map, length}
 use Rattle.lx_ir.specs.declared.module.Module.{Module}
 use Rattle.lx_model.specs.declared.program.Program.{Program}
 use Rattle.lx_model.specs.Program.{empty_module, kernel_function, address_of, global_address}
 use Rattle.lx_generated_laws.specs.RowTexts.{no_interface}
 use Rattle.lx_generated_laws.specs.Kernel.{kernel, interface}
 use Rattle.lx_generated_laws.specs.ProgramRows.{one_module, past_module, alone}
-use Rattle.lx_generated_laws.specs.AliasRefused as alias_refused
-use Rattle.lx_generated_laws.specs.BentSlot as bent_slot
 use Rattle.lx_generated_laws.specs.Hooked as hooked
+use Rattle.lx_generated_laws.specs.Instances as instances
+use Rattle.lx_generated_laws.specs.Slots as slots
 use Rattle.lx_generated_laws.specs.Spanned as spanned
 use Rattle.lx_link_texts.specs.declared.sources.Sources.{Sources}
-use Rattle.lx_link_texts.specs.Placing.{program_of, globals_end}
+use Rattle.lx_link_texts.specs.Placing.{program_of}
 
 -- one module `m`, without a kernel and an interface
 abbrev pub lone : Module → Sources
@@ -29,8 +29,8 @@ pub record WorkedPrograms : Type 0 where
   pub stored : program_of (lone one_module) ≡ alone one_module
   pub past : program_of (lone past_module) ≡ alone past_module
   pub spans : program_of (hosted spanned.the_module) ≡ spanned.program
-  pub aliases : program_of (hosted alias_refused.the_module) ≡ alias_refused.program
-  pub bends : program_of (hosted bent_slot.the_module) ≡ bent_slot.program
+  pub aliases : program_of (hosted instances.the_module) ≡ instances.program
+  pub bends : program_of (hosted slots.the_module) ≡ slots.program
   pub hooks : program_of (hosted hooked.the_module) ≡ hooked.program
   -- the kernel's first function and its last, the first of a module, and a module's first global
   pub first : kernel_address (program_of (hosted spanned.the_module)) (codes "kmalloc") ≡ Some 0x10060

@@ -1,72 +1,40 @@
 -- A store over bytes of the shared principal and of an instance.
-use Rattle.std.specs.Prelude.{◌≡◌, ℕ, true, Some, None, List, [], ◌∷◌, ◌++◌, codes, replicate}
-use Rattle.lx_words.specs.declared.word.Width.TheVariants.{W8, W32, W64}
-use Rattle.lx_words.specs.Word.{word}
-use Rattle.lx_ir.specs.declared.types.Scalar.TheVariants.{Int, Ptr}
-use Rattle.lx_ir.specs.declared.module.Blank.TheVariants.{Zero}
-use Rattle.lx_ir.specs.declared.module.Brackets.TheVariants as brackets
-use Rattle.lx_ir.specs.declared.module.Symbol.TheVariants as symbol
-use Rattle.lx_ir.specs.declared.module.Pointer.TheVariants as pointer
-use Rattle.lx_ir.specs.declared.module.Constant.TheVariants as constant
-use Rattle.lx_ir.specs.declared.module.Value.TheVariants as value
-use Rattle.lx_ir.specs.declared.module.Module.{Module}
-use Rattle.lx_ir.specs.declared.instr.Callee.TheVariants as callee
-use Rattle.lx_ir.specs.declared.instr.Op.TheVariants as op
-use Rattle.lx_ir.specs.IrType.{One, Array, Struct, Named, none, also}
-use Rattle.lx_ir.specs.Init.{Plain, Empty, Group, no_more, more}
-use Rattle.lx_generated_laws.specs.RowTexts.{i32, i64, reg, line, arg, block, define, declare, global, param}
-use Rattle.lx_caps.specs.declared.Principal.TheVariants.{Shared, Inst}
 use Rattle.lx_caps.specs.declared.Cap.TheVariants as caps
+use Rattle.lx_generated_laws.specs.Accounts.{GivesAccount, asked, events, ended, shared, of_instance, calls_at, named, image, plain_account}
+use Rattle.lx_generated_laws.specs.Devices.{device_module, ops, dev_register, init}
+use Rattle.lx_generated_laws.specs.Programs.{built_in, over}
+use Rattle.lx_generated_laws.specs.RowTexts.{i32, i64, reg, n32, n64, the_global, to_function, to_nothing, line, arg, call, param, block, define, declare, global}
+use Rattle.lx_ir.specs.Init.{Empty}
+use Rattle.lx_ir.specs.IrType.{One, Array}
+use Rattle.lx_ir.specs.declared.instr.Op.TheVariants as op
+use Rattle.lx_ir.specs.declared.module.Blank.TheVariants.{Zero}
+use Rattle.lx_ir.specs.declared.module.Module.{Module}
+use Rattle.lx_ir.specs.declared.types.Scalar.TheVariants.{Int, Ptr}
+use Rattle.lx_model.specs.declared.account.Owned.{Owned}
 use Rattle.lx_model.specs.declared.program.Program.{Program}
-use Rattle.lx_model.specs.declared.program.ProgramFunction.TheVariants.{Of}
-use Rattle.lx_model.specs.declared.program.ScriptCall.{ScriptCall}
 use Rattle.lx_model.specs.declared.request.Outcome.TheVariants.{Returned}
-use Rattle.lx_model.specs.declared.account.Account.{Account}
-use Rattle.lx_generated_laws.specs.ProgramRows.{natives}
-use Rattle.lx_model.specs.World.{opening, run, is_whole}
-use Rattle.lx_model.specs.Account.{account}
-use Rattle.lx_generated_laws.specs.Kernel.{kernel, interface}
+use Rattle.lx_words.specs.Word.{word}
+use Rattle.lx_words.specs.declared.word.Width.TheVariants.{W8, W32, W64}
+use Rattle.std.specs.Prelude.{Some, None, List, [], ◌∷◌, ◌++◌, codes}
 
 abbrev pub the_module : Module
 the_module =
-    record {
-      types = (record { name = (codes "struct.dev_ops"); ty = (Struct (also (One Ptr) (also (One Ptr) none))) } ∷ []);
-      globals = (global (codes "ops") (Named 0) (Group brackets.Struct ((One Ptr) ∷ (One Ptr) ∷ []) (more (Plain (constant.Pointer (pointer.Symbol (symbol.Function 3) 0))) (more (Plain (constant.Pointer pointer.Null)) no_more))) ∷ global (codes "buf") (Array 16 (One (Int W8))) (Empty Zero) ∷ []);
-      functions =
-          declare (codes "dev_register") (param [] Ptr ∷ []) (Some Ptr)
-          ∷ declare (codes "dev_wipe") (param [] Ptr ∷ param [] i64 ∷ []) None
-          ∷ define (codes "init") ([]) ((codes "d") ∷ []) None (block (codes "0") (line (op.Call (Some 0) (Some Ptr) (callee.Symbol (symbol.Function 0)) (arg Ptr (value.Constant (constant.Pointer (pointer.Symbol (symbol.Global 0) 0))) ∷ [])) ∷ line (op.Ret None) ∷ []) ∷ [])
-          ∷ define (codes "probe") (param (codes "d") Ptr ∷ []) ((codes "h") ∷ (codes "q") ∷ []) (Some i32) (block (codes "0") (line (op.GetElementPtr 1 (One (Int W8)) (value.Constant (constant.Pointer (pointer.Symbol (symbol.Global 1) 0))) (arg i64 (value.Constant (constant.Number (word W64 8))) ∷ [])) ∷ line (op.Call None None (callee.Symbol (symbol.Function 1)) (arg Ptr (reg 1) ∷ arg i64 (value.Constant (constant.Number (word W64 8))) ∷ [])) ∷ line (op.GetElementPtr 2 (One (Int W8)) (value.Constant (constant.Pointer (pointer.Symbol (symbol.Global 1) 0))) (arg i64 (value.Constant (constant.Number (word W64 4))) ∷ [])) ∷ line (op.Store i64 (value.Constant (constant.Number (word W64 18446744073709551615))) (reg 2)) ∷ line (op.Ret (Some (arg i32 (value.Constant (constant.Number (word W32 0)))))) ∷ []) ∷ [])
-          ∷ [];
-    }
+    device_module
+    (ops (codes "ops") (to_function 3) to_nothing ∷ global (codes "buf") (Array 16 (One (Int W8))) (Empty Zero) ∷ [])
+    (dev_register
+    ∷ declare (codes "dev_wipe") (param [] Ptr ∷ param [] i64 ∷ []) None
+    ∷ init
+    ∷ define (codes "probe") (param (codes "d") Ptr ∷ []) (codes "h" ∷ codes "q" ∷ []) (Some i32)
+    (block (codes "0") (line (op.GetElementPtr 1 (One (Int W8)) (the_global 1) (arg i64 (n64 8) ∷ [])) ∷ call None None 1 (arg Ptr (reg 1) ∷ arg i64 (n64 8) ∷ []) ∷ line (op.GetElementPtr 2 (One (Int W8)) (the_global 1) (arg i64 (n64 4) ∷ [])) ∷ line (op.Store i64 (n64 18446744073709551615) (reg 2)) ∷ line (op.Ret (Some (arg i32 (n32 0)))) ∷ []) ∷ [])
+    ∷ [])
 
 abbrev pub program : Program
-program =
-    record {
-      kernel = kernel;
-      modules = record { name = codes "m"; «module» = the_module } ∷ [];
-      functions = natives ++ (Of None 7 ∷ Of None 8 ∷ Of None 9 ∷ Of None 10 ∷ Of None 11 ∷ Of None 12 ∷ Of None 13 ∷ Of None 14 ∷ Of None 15 ∷ Of None 16 ∷ Of None 17 ∷ Of None 18 ∷ Of None 19 ∷ Of (Some 0) 2 ∷ Of (Some 0) 3 ∷ []);
-      globals = (record { «module» = None; global = 0; at = 0x1000000 } ∷ record { «module» = None; global = 1; at = 0x1000010 } ∷ record { «module» = None; global = 2; at = 0x1000020 } ∷ record { «module» = Some 0; global = 0; at = 0x10000e0 } ∷ record { «module» = Some 0; global = 1; at = 0x10000f0 } ∷ []);
-      interface = interface;
-    }
+program = over built_in the_module (2 ∷ 3 ∷ []) (0x10000e0 ∷ 0x10000f0 ∷ [])
 
-abbrev pub script : List (List ScriptCall)
-script = ((record { function = 19; args = ([]); fuel = 100 } ∷ record { function = 17; args = ((word W64 0) ∷ []); fuel = 100 } ∷ []) ∷ [])
+abbrev pub owners : List Owned
+owners = shared (caps.Write 0x10000e0 24) ∷ calls_at (0x10090 ∷ 0x100c0 ∷ 0x10130 ∷ 0x10140 ∷ []) ++ of_instance 0 (caps.Write 0x10000f8 8) ∷ of_instance 0 (caps.Ref 0 0x1000020) ∷ []
 
-abbrev pub schedule : List ℕ
-schedule = replicate 25 0
-
-abbrev pub told : Account
-told =
-    record {
-      schedule = schedule;
-      outcomes = (record { thread = 0; function = 19; outcome = Returned None } ∷ record { thread = 0; function = 17; outcome = Returned (Some (word W32 0)) } ∷ []);
-      notes = ([]);
-      images = record { guards = 1; checks = 0; wrappers = 3 } ∷ [];
-      owners = (record { who = Shared 0; cap = caps.Write 0x10000e0 24 } ∷ record { who = Shared 0; cap = caps.Call 0x10090 } ∷ record { who = Shared 0; cap = caps.Call 0x100c0 } ∷ record { who = Shared 0; cap = caps.Call 0x10130 } ∷ record { who = Shared 0; cap = caps.Call 0x10140 } ∷ record { who = Inst 0 0; cap = caps.Write 0x10000f8 8 } ∷ record { who = Inst 0 0; cap = caps.Ref 0 0x1000020 } ∷ []);
-      names = (record { «module» = 0; instance = 0; value = 0x1000020 } ∷ []);
-    }
-
-pub record Spanned : Type 0 where
-  pub account_is : account program (run program schedule (opening program script)) ≡ told
-  pub is_whole_is : is_whole program schedule (opening program script) ≡ true
+abbrev pub Spanned : Type 0
+Spanned =
+    GivesAccount program ((asked 19 [] ∷ asked 17 (word W64 0 ∷ []) ∷ []) ∷ [])
+    (record (plain_account (events 0 25) (ended 0 19 (Returned None) ∷ ended 0 17 (Returned (Some (word W32 0))) ∷ []) (image 1 0 3) owners) { names = named 0 0x1000020 ∷ [] })

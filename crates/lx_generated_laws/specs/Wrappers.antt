@@ -3,8 +3,6 @@ use Rattle.std.specs.Prelude.{◌≡◌, ℕ, false, Option, Some, None, List, [
 use Rattle.lx_ir.specs.declared.types.Scalar.TheVariants.{Ptr}
 use Rattle.lx_ir.specs.declared.module.Brackets.TheVariants as brackets
 use Rattle.lx_ir.specs.declared.module.Symbol.TheVariants as symbol
-use Rattle.lx_ir.specs.declared.module.Pointer.TheVariants as pointer
-use Rattle.lx_ir.specs.declared.module.Constant.TheVariants as constant
 use Rattle.lx_ir.specs.declared.module.Function.{Function}
 use Rattle.lx_ir.specs.declared.module.Module.{Module}
 use Rattle.lx_ir.specs.declared.instr.Callee.TheVariants as callee
@@ -17,7 +15,8 @@ use Rattle.lx_annot.specs.Expr.{Param}
 use Rattle.lx_annot.specs.declared.action.CapSpec.TheVariants as spec
 use Rattle.lx_annot.specs.declared.expr.Ty.TheVariants as ty
 use Rattle.lx_annot.specs.declared.interface.Interface.{Interface}
-use Rattle.lx_generated_laws.specs.RowTexts.{i32, i64, reg, n32, n64, arg, param, block}
+use Rattle.lx_generated_laws.specs.RowTexts.{i32, i64, reg, n32, n64, arg, param, block, to_function}
+use Rattle.lx_generated_laws.specs.InterfaceTexts.{parameter, annotated, slot, export, field}
 use Rattle.lx_image_texts.specs.ImageFaults.{WrapperDiffers, BodyReached, ImageFault, first_image_fault}
 use Rattle.lx_image_texts.specs.Guards.{function_text, Guards}
 use Rattle.lx_image_texts.specs.Instrumented.{leaves_spared, GuardsBut}
@@ -32,31 +31,17 @@ device_interface =
     record {
       reftypes = codes "device" ∷ [];
       iterators = [];
-      slots =
-          record {
-            name = codes "probe";
-            params = record { name = codes "d"; ty = ty.Ptr } ∷ [];
-            ret = ty.I32;
-            annotation = record { principal = None; pre = Copy (spec.Ref 0 (Param 0 ty.Ptr)) ∷ []; post = Check (spec.Ref 0 (Param 0 ty.Ptr)) ∷ [] };
-            line = 3;
-          }
-          ∷ [];
-      fields = record { name = codes "struct.dev_ops"; index = 0; slot = 0; line = 4 } ∷ [];
+      slots = slot (codes "probe") (parameter (codes "d") ty.Ptr ∷ []) ty.I32 (annotated None (Copy (spec.Ref 0 (Param 0 ty.Ptr)) ∷ []) (Check (spec.Ref 0 (Param 0 ty.Ptr)) ∷ [])) 3 ∷ [];
+      fields = field (codes "struct.dev_ops") 0 0 4 ∷ [];
       exports =
-          record {
-            name = codes "put";
-            params = record { name = codes "p"; ty = ty.Ptr } ∷ record { name = codes "n"; ty = ty.I64 } ∷ [];
-            ret = ty.Void;
-            annotation = record { principal = None; pre = Check (spec.Write (Param 0 ty.Ptr) (Param 1 ty.I64)) ∷ []; post = [] };
-            line = 5;
-          }
+          export (codes "put") (parameter (codes "p") ty.Ptr ∷ parameter (codes "n") ty.I64 ∷ []) ty.Void
+          (annotated None (Check (spec.Write (Param 0 ty.Ptr) (Param 1 ty.I64)) ∷ []) []) 5
           ∷ [];
     }
 
--- `@ops = global %struct.dev_ops { ptr @F }` with the function F of this number, `declare void @put(ptr, i64)`, and `@probe`, which calls
--- the function with this number with 8 for the length; then further functions
-abbrev pub device_with : ℕ → ℕ → List Function → Module
-device_with there called others =
+-- `@ops = global %struct.dev_ops { ptr @F }` with the function F of this number, and these functions
+abbrev pub ops_with : ℕ → List Function → Module
+ops_with there functions =
     record {
       types = record { name = codes "struct.dev_ops"; ty = Struct (also (One Ptr) none) } ∷ [];
       globals =
@@ -64,23 +49,27 @@ device_with there called others =
             name = codes "ops";
             constant = false;
             ty = Named 0;
-            init = Group brackets.Struct (One Ptr ∷ []) (more (Plain (constant.Pointer (pointer.Symbol (symbol.Function there) 0))) no_more);
+            init = Group brackets.Struct (One Ptr ∷ []) (more (Plain (to_function there)) no_more);
             line = 2;
           }
           ∷ [];
-      functions =
-          record { name = codes "put"; params = param [] Ptr ∷ param [] i64 ∷ []; locals = []; ret = None; blocks = None; line = 3 }
-          ∷ record {
-            name = codes "probe";
-            params = param (codes "d") Ptr ∷ [];
-            locals = [];
-            ret = Some i32;
-            blocks =
-                Some (block (codes "0") (at 6 (op.Call None None (callee.Symbol (symbol.Function called)) (arg Ptr (reg 0) ∷ arg i64 (n64 8) ∷ [])) ∷ at 7 (op.Ret (Some (arg i32 (n32 0)))) ∷ []) ∷ []);
-            line = 4;
-          }
-          ∷ others;
+      functions = functions;
     }
+
+-- with `declare void @put(ptr, i64)`, and `@probe`, which calls the function with this number with 8 for the length; then further functions
+abbrev pub device_with : ℕ → ℕ → List Function → Module
+device_with there called others =
+    ops_with there
+    (record { name = codes "put"; params = param [] Ptr ∷ param [] i64 ∷ []; locals = []; ret = None; blocks = None; line = 3 }
+    ∷ record {
+      name = codes "probe";
+      params = param (codes "d") Ptr ∷ [];
+      locals = [];
+      ret = Some i32;
+      blocks = Some (block (codes "0") (at 6 (op.Call None None (callee.Symbol (symbol.Function called)) (arg Ptr (reg 0) ∷ arg i64 (n64 8) ∷ [])) ∷ at 7 (op.Ret (Some (arg i32 (n32 0)))) ∷ []) ∷ []);
+      line = 4;
+    }
+    ∷ others)
 
 abbrev pub device_module : Module
 device_module = device_with 1 0 []
@@ -128,28 +117,16 @@ first x = first_image_fault device_interface x
 -- and a wrapper could not call it: a text that calls the name says a block write
 abbrev pub memset_module : Module
 memset_module =
-    record {
-      types = record { name = codes "struct.dev_ops"; ty = Struct (also (One Ptr) none) } ∷ [];
-      globals =
-          record {
-            name = codes "ops";
-            constant = false;
-            ty = Named 0;
-            init = Group brackets.Struct (One Ptr ∷ []) (more (Plain (constant.Pointer (pointer.Symbol (symbol.Function 0) 0))) no_more);
-            line = 2;
-          }
-          ∷ [];
-      functions =
-          record {
-            name = codes "llvm.memset.p0.i64";
-            params = param (codes "d") Ptr ∷ [];
-            locals = [];
-            ret = Some i32;
-            blocks = Some (block (codes "0") (at 4 (op.Ret (Some (arg i32 (n32 0)))) ∷ []) ∷ []);
-            line = 3;
-          }
-          ∷ [];
+    ops_with 0
+    (record {
+      name = codes "llvm.memset.p0.i64";
+      params = param (codes "d") Ptr ∷ [];
+      locals = [];
+      ret = Some i32;
+      blocks = Some (block (codes "0") (at 4 (op.Ret (Some (arg i32 (n32 0)))) ∷ []) ∷ []);
+      line = 3;
     }
+    ∷ [])
 
 pub record WorkedWrappers : Type 0 where
   -- the module with both wrappers is its image, and the one that is made

@@ -1,32 +1,17 @@
 //! Worked rows: programs written out, and the accounts that the monitor gives of their runs.
 ghost use Rattle.lx_generated_laws.specs.ProgramRows.{WorkedRows};
 ghost use Rattle.lx_generated_laws.specs.RowsOfThreads.{WorkedThreads};
-ghost use Rattle.lx_generated_laws.specs.Freed.{Freed};
+ghost use Rattle.lx_generated_laws.specs.Mains.{Freed, BentPacket, StackBytes, Edges};
 ghost use Rattle.lx_generated_laws.specs.Spanned.{Spanned};
-ghost use Rattle.lx_generated_laws.specs.BentSlot.{BentSlot};
-ghost use Rattle.lx_generated_laws.specs.SwappedSlot.{SwappedSlot};
-ghost use Rattle.lx_generated_laws.specs.ZeroedSlot.{ZeroedSlot};
-ghost use Rattle.lx_generated_laws.specs.BentPacket.{BentPacket};
-ghost use Rattle.lx_generated_laws.specs.StackBytes.{StackBytes};
+ghost use Rattle.lx_generated_laws.specs.Slots.{BentSlot, SwappedSlot, ZeroedSlot, ColdSlot};
 ghost use Rattle.lx_generated_laws.specs.Hooked.{Hooked};
-ghost use Rattle.lx_generated_laws.specs.Raced.{Raced};
-ghost use Rattle.lx_generated_laws.specs.HalfGiven.{HalfGiven};
-ghost use Rattle.lx_generated_laws.specs.RacedBefore.{RacedBefore};
-ghost use Rattle.lx_generated_laws.specs.AllGiven.{AllGiven};
+ghost use Rattle.lx_generated_laws.specs.SentPackets.{Raced, HalfGiven, RacedBefore, AllGiven};
 ghost use Rattle.lx_generated_laws.specs.GivenBack.{GivenBack};
-ghost use Rattle.lx_generated_laws.specs.TwoInstances.{TwoInstances};
-ghost use Rattle.lx_generated_laws.specs.Aliased.{Aliased};
-ghost use Rattle.lx_generated_laws.specs.ColdSlot.{ColdSlot};
-ghost use Rattle.lx_generated_laws.specs.Edges.{Edges};
-ghost use Rattle.lx_generated_laws.specs.Divisions.{Divisions};
-ghost use Rattle.lx_generated_laws.specs.Compiled.{Compiled};
+ghost use Rattle.lx_generated_laws.specs.Instances.{TwoInstances, Aliased, AliasRefused};
+ghost use Rattle.lx_generated_laws.specs.Lone.{Divisions, Compiled, TooDeep, StackFull};
 ghost use Rattle.lx_generated_laws.specs.References.{References};
-ghost use Rattle.lx_generated_laws.specs.AliasRefused.{AliasRefused};
-ghost use Rattle.lx_generated_laws.specs.TooDeep.{TooDeep};
-ghost use Rattle.lx_generated_laws.specs.StackFull.{StackFull};
 ghost use Rattle.lx_generated_laws.specs.Generated.{Generated};
-ghost use Rattle.lx_generated_laws.specs.LentPacket.{LentPacket};
-ghost use Rattle.lx_generated_laws.specs.BorrowedPacket.{BorrowedPacket};
+ghost use Rattle.lx_generated_laws.specs.LentPackets.{LentPacket, BorrowedPacket};
 
 /// One function: with enough fuel, with too little, and a store past the end of a global.
 pub fn worked_rows()
