@@ -1,5 +1,5 @@
 //! Cases that are generated, and the summary of their run.
-ghost use Rattle.std.specs.Prelude.{◌≡◌, ◌++◌, List, ℕ, IfOk, IfSome, OnOk};
+ghost use Rattle.std.specs.Prelude.{◌≡◌, ◌+◌, ◌++◌, List, ℕ, IfOk, IfSome, OnOk};
 ghost use Rattle.lx_cli.specs.Answer.{IsSummary, count_refused, count_returned, counted, number_returned, one_refused, one_returned, sum_returned, summary_counts, summary_end, summary_head, summary_text};
 ghost use Rattle.lx_generated_laws.specs.Inputs.{generated_files};
 ghost use Rattle.lx_input.specs.Laws.{IsReady};
@@ -94,37 +94,42 @@ fn number_returned(outcome: Outcome) -> u64
     }
 }
 
-/// How many calls returned, if a number can tell it.
-fn count_returned(calls: &[CallOutcome]) -> Option<u64>
-    ensures { IfSome result (λ n. n ≡ count_returned calls.now) }
-{
-    let mut count = 0u64;
-    for call in calls {
-        count = count.checked_add(one_returned(call.outcome))?;
-    }
-    Some(count)
+/// What a summary counts of calls.
+#[derive(Clone, Copy)]
+struct Counts {
+    returned: u64,
+    refused: u64,
+    sum: u64,
 }
 
-/// How many calls were refused, if a number can tell it.
-fn count_refused(calls: &[CallOutcome]) -> Option<u64>
-    ensures { IfSome result (λ n. n ≡ count_refused calls.now) }
+/// The same with one call more, if numbers can tell it.
+fn with_call(counts: Counts, outcome: Outcome) -> Option<Counts>
+    ensures returned { IfSome result (λ c. c.returned ≡ counts.returned + one_returned outcome) }
+    ensures refused { IfSome result (λ c. c.refused ≡ counts.refused + one_refused outcome) }
+    ensures sum { IfSome result (λ c. c.sum ≡ counts.sum + number_returned outcome) }
 {
-    let mut count = 0u64;
-    for call in calls {
-        count = count.checked_add(one_refused(call.outcome))?;
-    }
-    Some(count)
+    Some(Counts {
+        returned: counts.returned.checked_add(one_returned(outcome))?,
+        refused: counts.refused.checked_add(one_refused(outcome))?,
+        sum: counts.sum.checked_add(number_returned(outcome))?,
+    })
 }
 
-/// The sum of what calls returned, if a number can tell it.
-fn sum_returned(calls: &[CallOutcome]) -> Option<u64>
-    ensures { IfSome result (λ n. n ≡ sum_returned calls.now) }
+/// How many of the calls returned and were refused, and the sum of what they returned, if numbers can tell it.
+fn counts_of(calls: &[CallOutcome]) -> Option<Counts>
+    ensures returned { IfSome result (λ c. c.returned ≡ count_returned calls.now) }
+    ensures refused { IfSome result (λ c. c.refused ≡ count_refused calls.now) }
+    ensures sum { IfSome result (λ c. c.sum ≡ sum_returned calls.now) }
 {
-    let mut sum = 0u64;
+    let mut counts = Counts {
+        returned: 0,
+        refused: 0,
+        sum: 0,
+    };
     for call in calls {
-        sum = sum.checked_add(number_returned(call.outcome))?;
+        counts = with_call(counts, call.outcome)?;
     }
-    Some(sum)
+    Some(counts)
 }
 
 /// Adds words and a number behind them.
@@ -134,26 +139,6 @@ fn put_counted(text: &mut Vec<u8>, label: &str, number: u64) -> Result<(), Memor
 {
     text.extend_from_slice(label.as_bytes())?;
     put_decimal(text, i128::from(number))
-}
-
-/// What a summary counts of the calls.
-#[derive(Clone, Copy)]
-struct Counts {
-    returned: u64,
-    refused: u64,
-    sum: u64,
-}
-
-fn counts_of(calls: &[CallOutcome]) -> Option<Counts>
-    ensures returned { IfSome result (λ c. c.returned ≡ count_returned calls.now) }
-    ensures refused { IfSome result (λ c. c.refused ≡ count_refused calls.now) }
-    ensures sum { IfSome result (λ c. c.sum ≡ sum_returned calls.now) }
-{
-    Some(Counts {
-        returned: count_returned(calls)?,
-        refused: count_refused(calls)?,
-        sum: sum_returned(calls)?,
-    })
 }
 
 #[tactic(auto, unfolding(crate::specs::Answer::summary_head))]
