@@ -8,27 +8,39 @@ use Rattle.clap.specs.declared.builder.command.Command.TheViews.{out-Command as 
 abbrev pub word_rule : Text → Rule
 word_rule name = record (new_rule name) { required = true }
 
+-- a command with one, two and three words behind its name
+
+abbrev pub one_word : Text → Text → App
+one_word name first = with_rule (new_app name) (word_rule first)
+
+abbrev pub two_words : Text → Text → Text → App
+two_words name first second = with_rule (one_word name first) (word_rule second)
+
+abbrev pub three_words : Text → Text → Text → Text → App
+three_words name first second third = with_rule (two_words name first second) (word_rule third)
+
+-- the seven commands
+
 abbrev pub run_app : App
-run_app = with_rule (new_app (codes "run")) (word_rule (codes "case"))
+run_app = one_word (codes "run") (codes "case")
 
 abbrev pub replay_app : App
-replay_app = with_rule (with_rule (new_app (codes "replay")) (word_rule (codes "case"))) (word_rule (codes "schedule"))
+replay_app = two_words (codes "replay") (codes "case") (codes "schedule")
 
 abbrev pub instrument_app : App
-instrument_app = with_rule (with_rule (new_app (codes "instrument")) (word_rule (codes "case"))) (word_rule (codes "module"))
+instrument_app = two_words (codes "instrument") (codes "case") (codes "module")
 
 abbrev pub check_app : App
-check_app =
-    with_rule (with_rule (with_rule (new_app (codes "check")) (word_rule (codes "case"))) (word_rule (codes "module"))) (word_rule (codes "image"))
+check_app = three_words (codes "check") (codes "case") (codes "module") (codes "image")
 
 abbrev pub generate_app : App
-generate_app = with_rule (new_app (codes "generate")) (word_rule (codes "count"))
+generate_app = one_word (codes "generate") (codes "count")
 
 abbrev pub surface_app : App
-surface_app = with_rule (new_app (codes "surface")) (word_rule (codes "case"))
+surface_app = one_word (codes "surface") (codes "case")
 
 abbrev pub why_app : App
-why_app = with_rule (with_rule (new_app (codes "why")) (word_rule (codes "case"))) (word_rule (codes "schedule"))
+why_app = two_words (codes "why") (codes "case") (codes "schedule")
 
 -- the program without its commands: it has no word of its own, no help and no version
 abbrev pub top_app : App

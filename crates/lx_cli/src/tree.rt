@@ -1,7 +1,7 @@
 //! The commands as `clap` knows them.
 ghost use Rattle.std.specs.Prelude.{◌≡◌, IfOk, false};
 ghost use Rattle.clap.specs.Words.{app_of, rule_of};
-ghost use Rattle.lx_cli.specs.Tree.{IsLeaf, check_app, generate_app, instrument_app, replay_app, run_app, surface_app, top_app, tree_app, why_app, word_rule};
+ghost use Rattle.lx_cli.specs.Tree.{IsLeaf, one_word, three_words, top_app, tree_app, two_words, word_rule};
 
 use clap::Arg;
 use std::alloc::{AllocError, Global};
@@ -14,62 +14,40 @@ fn word<'a>(alloc: Global, name: &'a str) -> Arg<'a>
     Arg::new(alloc, name).required(true)
 }
 
-/// `run CASE`.
-fn run<'a>(alloc: Global) -> Result<clap::Command<'a>, AllocError>
-    ensures { IfOk result (IsLeaf run_app) }
+/// A command with one word behind its name.
+fn with_one<'a>(
+    alloc: Global,
+    name: &'a str,
+    first: &'a str,
+) -> Result<clap::Command<'a>, AllocError>
+    ensures { IfOk result (IsLeaf (one_word name.entry.now first.entry.now)) }
 {
-    clap::Command::new(alloc, "run").arg(word(alloc, "case"))
+    clap::Command::new(alloc, name).arg(word(alloc, first))
 }
 
-/// `replay CASE SCHEDULE`.
-fn replay<'a>(alloc: Global) -> Result<clap::Command<'a>, AllocError>
-    ensures { IfOk result (IsLeaf replay_app) }
+/// With two words.
+fn with_two<'a>(
+    alloc: Global,
+    name: &'a str,
+    first: &'a str,
+    second: &'a str,
+) -> Result<clap::Command<'a>, AllocError>
+    ensures { IfOk result (IsLeaf (two_words name.entry.now first.entry.now second.entry.now)) }
 {
-    clap::Command::new(alloc, "replay")
-        .arg(word(alloc, "case"))?
-        .arg(word(alloc, "schedule"))
+    with_one(alloc, name, first)?.arg(word(alloc, second))
 }
 
-/// `instrument CASE MODULE`.
-fn instrument<'a>(alloc: Global) -> Result<clap::Command<'a>, AllocError>
-    ensures { IfOk result (IsLeaf instrument_app) }
+/// And with three.
+fn with_three<'a>(
+    alloc: Global,
+    name: &'a str,
+    first: &'a str,
+    second: &'a str,
+    third: &'a str,
+) -> Result<clap::Command<'a>, AllocError>
+    ensures { IfOk result (IsLeaf (three_words name.entry.now first.entry.now second.entry.now third.entry.now)) }
 {
-    clap::Command::new(alloc, "instrument")
-        .arg(word(alloc, "case"))?
-        .arg(word(alloc, "module"))
-}
-
-/// `check CASE MODULE IMAGE`.
-fn check<'a>(alloc: Global) -> Result<clap::Command<'a>, AllocError>
-    ensures { IfOk result (IsLeaf check_app) }
-{
-    clap::Command::new(alloc, "check")
-        .arg(word(alloc, "case"))?
-        .arg(word(alloc, "module"))?
-        .arg(word(alloc, "image"))
-}
-
-/// `generate N`.
-fn generate<'a>(alloc: Global) -> Result<clap::Command<'a>, AllocError>
-    ensures { IfOk result (IsLeaf generate_app) }
-{
-    clap::Command::new(alloc, "generate").arg(word(alloc, "count"))
-}
-
-/// `surface CASE`.
-fn surface<'a>(alloc: Global) -> Result<clap::Command<'a>, AllocError>
-    ensures { IfOk result (IsLeaf surface_app) }
-{
-    clap::Command::new(alloc, "surface").arg(word(alloc, "case"))
-}
-
-/// `why CASE SCHEDULE`.
-fn why<'a>(alloc: Global) -> Result<clap::Command<'a>, AllocError>
-    ensures { IfOk result (IsLeaf why_app) }
-{
-    clap::Command::new(alloc, "why")
-        .arg(word(alloc, "case"))?
-        .arg(word(alloc, "schedule"))
+    with_two(alloc, name, first, second)?.arg(word(alloc, third))
 }
 
 /// The program without its commands: it has no word of its own, and `clap` adds no help and no version.
@@ -89,11 +67,11 @@ pub(crate) fn tree<'a>(alloc: Global) -> Result<clap::Command<'a>, AllocError>
     ensures { IfOk result (λ c. app_of c ≡ tree_app) }
 {
     top(alloc)
-        .subcommand(run(alloc)?)?
-        .subcommand(replay(alloc)?)?
-        .subcommand(instrument(alloc)?)?
-        .subcommand(check(alloc)?)?
-        .subcommand(generate(alloc)?)?
-        .subcommand(surface(alloc)?)?
-        .subcommand(why(alloc)?)
+        .subcommand(with_one(alloc, "run", "case")?)?
+        .subcommand(with_two(alloc, "replay", "case", "schedule")?)?
+        .subcommand(with_two(alloc, "instrument", "case", "module")?)?
+        .subcommand(with_three(alloc, "check", "case", "module", "image")?)?
+        .subcommand(with_one(alloc, "generate", "count")?)?
+        .subcommand(with_one(alloc, "surface", "case")?)?
+        .subcommand(with_two(alloc, "why", "case", "schedule")?)
 }
