@@ -1,15 +1,16 @@
 -- What the parser makes of the words behind the name of a command.
-use Rattle.std.proofs.Common.{◌≡◌, ◌⊎◌, inl, inr, ◌∙◌, Bool, true, false, ◌&&◌, List, [], ◌∷◌, codes, Option, Some, None, if◌then◌else◌, refl, sym, ap, ap₂}
+use Rattle.std.proofs.Common.{◌≡◌, ◌⊎◌, inl, inr, ◌∙◌, ℕ, Bool, true, false, ◌&&◌, List, [], ◌∷◌, codes, Option, Some, None, if◌then◌else◌, refl, sym, ap, ap₂}
 use Rattle.std.specs.List.{list_all}
+use Rattle.std.specs.Str.{bytes_eq}
 use Rattle.std.proofs.lemmas.Bool.{and_parts, and_from}
-use Rattle.clap.specs.Walk.{Held, Row, Text, Walk, value, arg_by_index, to_positional, nothing_held, walk_from, walk, finished, settled, rows_after}
+use Rattle.clap.specs.Walk.{Held, Row, Text, Walk, value, arg_by_index, to_positional, nothing_held, walk_from, walk, walked, finished, settled, rows_after}
 use Rattle.clap.specs.Simple.{App, Shape, built_leaf, inherited}
 use Rattle.clap.specs.Kinds.{Kinds, or_else}
 use Rattle.clap.specs.Faults.{step_fault, walk_fault, settle_fault, defaults_fault, check_fault, level_fault}
 use Rattle.clap.specs.declared.error.kind.ErrorKind.{ErrorKind}
 use Rattle.clap.specs.declared.error.kind.ErrorKind.TheVariants as kind
 use Rattle.clap.proofs.OnLiterals.{clap_on_literals}
-use Rattle.lx_cli.specs.Words.{Command, Run, Replay, Instrument, Check, Surface, Why, is_name, command_of}
+use Rattle.lx_cli.specs.Words.{Command, Run, Check, Surface, is_name, if_words, one_name, two_names, command_of}
 use Rattle.lx_cli.specs.Matched.{command_by}
 use Rattle.lx_cli.specs.Tree.{check_app, generate_app, instrument_app, replay_app, run_app, surface_app, top_app, why_app}
 use Rattle.lx_cli.proofs.Named.{Walks, at, fault_more, stray, walks_end, walks_more}
@@ -104,7 +105,7 @@ module _ (s : Shape) where
       walks_1 first a (b ∷ c ∷ []) (at 4 (held_3 a b c)) na (walks_2 second a b (c ∷ []) (at 4 (held_3 a b c)) nb
       (walks_3 third a b c [] (at 4 (held_3 a b c)) nc (walks_end s (at 4 (held_3 a b c)))))
 
--- ---- the seven commands
+-- ---- what is read of the words
 
 abbrev pub Reads : Text → Shape → List Text → Type 0
 Reads name s rest = ((level_fault s [] nothing_held rest false [] ≡ []) × (command_of (name ∷ rest) ≡ command_by name (rows_after s.rules [] rest)))
@@ -121,64 +122,75 @@ if_named false x is = absurd (cc)
 abbrev missing : ErrorKind
 missing = kind.MissingRequiredArgument
 
-run_more : (a b : Text) (rest : List Text) → command_of (codes "run" ∷ a ∷ b ∷ rest) ≡ None
-run_more a b [] = same_if (is_name a && is_name b)
-run_more a b (c ∷ []) = refl
-run_more a b (c ∷ d ∷ rest) = refl
+-- ---- by the number of words that it takes
+
+module _ (name : Text) (s : Shape) (none : after s nothing_held ≡ missing ∷ []) (first : First s) where
+  abbrev unknown : Kinds
+  unknown = kind.UnknownArgument ∷ []
+
+  -- where no word more has a place
+  one_over : (h : Held) (position : ℕ) (words rest : List Text) (b : Text) → is_name b ≡ true → walk_fault s [] (walk_from nothing_held) words ≡ walk_fault s [] (at position h) (b ∷ rest)
+      → step_fault s position h value ≡ unknown → Fails s words
+  one_over h position words rest b named comes over =
+      level_fails s words kind.UnknownArgument []
+      (comes ∙ stray s [] position h b rest named refl ∙ ap (λ (kinds : Kinds). or_else kinds (walk_fault s [] (walked s.rules [] (at position h) b) rest)) over)
+
+  -- a command of one word
+  pub one_reads : ((a : Text) → after s (held_1 s a) ≡ []) → ((a : Text) → step_fault s 2 (held_1 s a) value ≡ unknown)
+      → ((a : Text) → is_name a ≡ true → command_of (name ∷ a ∷ []) ≡ command_by name (finished s.rules (held_1 s a)))
+      → ((a b : Text) → two_names name a b ≡ None) → bytes_eq name (codes "check") ≡ false
+      → (rest : List Text) → list_all is_name rest ≡ true → Reads name s rest
+  one_reads free over said two three [] named = inr (none_given s missing none, refl)
+  one_reads free over said two three (a ∷ []) named =
+      let na = and_parts (is_name a) (list_all is_name []) named in
+      let taken = takes s (a ∷ []) (at 2 (held_1 s a)) (finished s.rules (held_1 s a)) (one_given s first a na.0) (free a) refl in
+      inl (taken.0, said a na.0 ∙ sym (ap (command_by name) taken.1))
+  one_reads free over said two three (a ∷ b ∷ rest) named =
+      let na = and_parts (is_name a) (list_all is_name (b ∷ rest)) named in
+      let nb = and_parts (is_name b) (list_all is_name rest) na.1 in
+      inr (one_over (held_1 s a) 2 (a ∷ b ∷ rest) rest b nb.0 (fault_1 s first a (b ∷ rest) na.0) (over a), more rest)
+    where
+      more : (behind : List Text) → command_of (name ∷ a ∷ b ∷ behind) ≡ None
+      more [] = ap (λ (o : Option Command). if is_name a && is_name b then o else None) (two a b) ∙ same_if (is_name a && is_name b)
+      more (c ∷ []) = ap (λ (k : Bool). if_words (k && (is_name a && (is_name b && is_name c))) (Check a b c)) three
+      more (c ∷ d ∷ rest) = refl
+
+  -- and one of two
+  pub two_reads : Second s → ((a : Text) → after s (held_1 s a) ≡ missing ∷ []) → ((a : Text) → one_name name a ≡ None) → ((a b : Text) → after s (held_2 s a b) ≡ []) → ((a b : Text) → step_fault s 3 (held_2 s a b) value ≡ unknown)
+      → ((a b : Text) → two_names name a b ≡ command_by name (finished s.rules (held_2 s a b))) → bytes_eq name (codes "check") ≡ false
+      → (rest : List Text) → list_all is_name rest ≡ true → Reads name s rest
+  two_reads second lone no_one free over said three [] named = inr (none_given s missing none, refl)
+  two_reads second lone no_one free over said three (a ∷ []) named =
+      let na = and_parts (is_name a) (list_all is_name []) named in
+      inr (lacks s (a ∷ []) (at 2 (held_1 s a)) missing [] (one_given s first a na.0) (lone a), no_one a)
+  two_reads second lone no_one free over said three (a ∷ b ∷ []) named =
+      let na = and_parts (is_name a) (list_all is_name (b ∷ [])) named in
+      let nb = and_parts (is_name b) (list_all is_name []) na.1 in
+      let taken = takes s (a ∷ b ∷ []) (at 3 (held_2 s a b)) (finished s.rules (held_2 s a b)) (two_given s first second a b na.0 nb.0) (free a b) refl in
+      inl (taken.0, if_named (is_name a && is_name b) (two_names name a b) (and_from (is_name a) (is_name b) na.0 nb.0) ∙ said a b ∙ sym (ap (command_by name) taken.1))
+  two_reads second lone no_one free over said three (a ∷ b ∷ c ∷ rest) named =
+      let na = and_parts (is_name a) (list_all is_name (b ∷ c ∷ rest)) named in
+      let nb = and_parts (is_name b) (list_all is_name (c ∷ rest)) na.1 in
+      let nc = and_parts (is_name c) (list_all is_name rest) nb.1 in
+      inr (one_over (held_2 s a b) 3 (a ∷ b ∷ c ∷ rest) rest c nc.0 (fault_1 s first a (b ∷ c ∷ rest) na.0 ∙ fault_2 s second a b (c ∷ rest) nb.0) (over a b), more rest)
+    where
+      more : (behind : List Text) → command_of (name ∷ a ∷ b ∷ c ∷ behind) ≡ None
+      more [] = ap (λ (k : Bool). if_words (k && (is_name a && (is_name b && is_name c))) (Check a b c)) three
+      more (d ∷ rest) = refl
+
+-- ---- the seven commands
 
 pub run_reads : (rest : List Text) → list_all is_name rest ≡ true → Reads (codes "run") (leaf run_app) rest
 unfolding clap_on_literals
-run_reads [] named = inr (none_given (leaf run_app) missing refl, refl)
-run_reads (a ∷ []) named =
-    let na = and_parts (is_name a) (list_all is_name ([])) named in
-    let taken = (takes (leaf run_app) (a ∷ []) (at 2 (held_1 (leaf run_app) a)) (finished (leaf run_app).rules (held_1 (leaf run_app) a)) (one_given (leaf run_app) (refl, λ a. refl) a na.0) refl refl) in
-    inl (taken.0, if_named (is_name a) (Some (Run a)) na.0 ∙ sym (ap (command_by (codes "run")) taken.1))
-run_reads (a ∷ b ∷ rest) named =
-    let na = and_parts (is_name a) (list_all is_name (b ∷ rest)) named in
-    let nb = and_parts (is_name b) (list_all is_name (rest)) na.1 in
-    inr (level_fails (leaf run_app) (a ∷ b ∷ rest) kind.UnknownArgument [] (fault_1 (leaf run_app) (refl, λ a. refl) a (b ∷ rest) na.0 ∙ stray (leaf run_app) [] 2 (held_1 (leaf run_app) a) b rest nb.0 refl), run_more a b rest)
-
-replay_more : (a b c : Text) (rest : List Text) → command_of (codes "replay" ∷ a ∷ b ∷ c ∷ rest) ≡ None
-replay_more a b c [] = refl
-replay_more a b c (d ∷ rest) = refl
+run_reads = one_reads (codes "run") (leaf run_app) refl (refl, λ a. refl) (λ a. refl) (λ a. refl) (λ a named. if_named (is_name a) (Some (Run a)) named) (λ a b. refl) refl
 
 pub replay_reads : (rest : List Text) → list_all is_name rest ≡ true → Reads (codes "replay") (leaf replay_app) rest
 unfolding clap_on_literals
-replay_reads [] named = inr (none_given (leaf replay_app) missing refl, refl)
-replay_reads (a ∷ []) named =
-    let na = and_parts (is_name a) (list_all is_name ([])) named in
-    inr (lacks (leaf replay_app) (a ∷ []) (at 2 (held_1 (leaf replay_app) a)) missing [] (one_given (leaf replay_app) (refl, λ a. refl) a na.0) refl, refl)
-replay_reads (a ∷ b ∷ []) named =
-    let na = and_parts (is_name a) (list_all is_name (b ∷ [])) named in
-    let nb = and_parts (is_name b) (list_all is_name ([])) na.1 in
-    let taken = (takes (leaf replay_app) (a ∷ b ∷ []) (at 3 (held_2 (leaf replay_app) a b)) (finished (leaf replay_app).rules (held_2 (leaf replay_app) a b)) (two_given (leaf replay_app) (refl, λ a. refl) (λ a. (refl, λ b. refl)) a b na.0 nb.0) refl refl) in
-    inl (taken.0, if_named (is_name a && is_name b) (Some (Replay a b)) (and_from (is_name a) (is_name b) na.0 nb.0) ∙ sym (ap (command_by (codes "replay")) taken.1))
-replay_reads (a ∷ b ∷ c ∷ rest) named =
-    let na = and_parts (is_name a) (list_all is_name (b ∷ c ∷ rest)) named in
-    let nb = and_parts (is_name b) (list_all is_name (c ∷ rest)) na.1 in
-    let nc = and_parts (is_name c) (list_all is_name (rest)) nb.1 in
-    inr (level_fails (leaf replay_app) (a ∷ b ∷ c ∷ rest) kind.UnknownArgument [] (fault_1 (leaf replay_app) (refl, λ a. refl) a (b ∷ c ∷ rest) na.0 ∙ fault_2 (leaf replay_app) (λ a. (refl, λ b. refl)) a b (c ∷ rest) nb.0 ∙ stray (leaf replay_app) [] 3 (held_2 (leaf replay_app) a b) c rest nc.0 refl), replay_more a b c rest)
-
-instrument_more : (a b c : Text) (rest : List Text) → command_of (codes "instrument" ∷ a ∷ b ∷ c ∷ rest) ≡ None
-instrument_more a b c [] = refl
-instrument_more a b c (d ∷ rest) = refl
+replay_reads = two_reads (codes "replay") (leaf replay_app) refl (refl, λ a. refl) (λ a. (refl, λ b. refl)) (λ a. refl) (λ a. refl) (λ a b. refl) (λ a b. refl) (λ a b. refl) refl
 
 pub instrument_reads : (rest : List Text) → list_all is_name rest ≡ true → Reads (codes "instrument") (leaf instrument_app) rest
 unfolding clap_on_literals
-instrument_reads [] named = inr (none_given (leaf instrument_app) missing refl, refl)
-instrument_reads (a ∷ []) named =
-    let na = and_parts (is_name a) (list_all is_name ([])) named in
-    inr (lacks (leaf instrument_app) (a ∷ []) (at 2 (held_1 (leaf instrument_app) a)) missing [] (one_given (leaf instrument_app) (refl, λ a. refl) a na.0) refl, refl)
-instrument_reads (a ∷ b ∷ []) named =
-    let na = and_parts (is_name a) (list_all is_name (b ∷ [])) named in
-    let nb = and_parts (is_name b) (list_all is_name ([])) na.1 in
-    let taken = (takes (leaf instrument_app) (a ∷ b ∷ []) (at 3 (held_2 (leaf instrument_app) a b)) (finished (leaf instrument_app).rules (held_2 (leaf instrument_app) a b)) (two_given (leaf instrument_app) (refl, λ a. refl) (λ a. (refl, λ b. refl)) a b na.0 nb.0) refl refl) in
-    inl (taken.0, if_named (is_name a && is_name b) (Some (Instrument a b)) (and_from (is_name a) (is_name b) na.0 nb.0) ∙ sym (ap (command_by (codes "instrument")) taken.1))
-instrument_reads (a ∷ b ∷ c ∷ rest) named =
-    let na = and_parts (is_name a) (list_all is_name (b ∷ c ∷ rest)) named in
-    let nb = and_parts (is_name b) (list_all is_name (c ∷ rest)) na.1 in
-    let nc = and_parts (is_name c) (list_all is_name (rest)) nb.1 in
-    inr (level_fails (leaf instrument_app) (a ∷ b ∷ c ∷ rest) kind.UnknownArgument [] (fault_1 (leaf instrument_app) (refl, λ a. refl) a (b ∷ c ∷ rest) na.0 ∙ fault_2 (leaf instrument_app) (λ a. (refl, λ b. refl)) a b (c ∷ rest) nb.0 ∙ stray (leaf instrument_app) [] 3 (held_2 (leaf instrument_app) a b) c rest nc.0 refl), instrument_more a b c rest)
+instrument_reads = two_reads (codes "instrument") (leaf instrument_app) refl (refl, λ a. refl) (λ a. (refl, λ b. refl)) (λ a. refl) (λ a. refl) (λ a b. refl) (λ a b. refl) (λ a b. refl) refl
 
 check_more : (a b c d : Text) (rest : List Text) → command_of (codes "check" ∷ a ∷ b ∷ c ∷ d ∷ rest) ≡ None
 check_more a b c d rest = refl
@@ -206,57 +218,14 @@ check_reads (a ∷ b ∷ c ∷ d ∷ rest) named =
     let nd = and_parts (is_name d) (list_all is_name (rest)) nc.1 in
     inr (level_fails (leaf check_app) (a ∷ b ∷ c ∷ d ∷ rest) kind.UnknownArgument [] (fault_1 (leaf check_app) (refl, λ a. refl) a (b ∷ c ∷ d ∷ rest) na.0 ∙ fault_2 (leaf check_app) (λ a. (refl, λ b. refl)) a b (c ∷ d ∷ rest) nb.0 ∙ fault_3 (leaf check_app) (λ a b. (refl, λ c. refl)) a b c (d ∷ rest) nc.0 ∙ stray (leaf check_app) [] 4 (held_3 (leaf check_app) a b c) d rest nd.0 refl), check_more a b c d rest)
 
-generate_more : (a b : Text) (rest : List Text) → command_of (codes "generate" ∷ a ∷ b ∷ rest) ≡ None
-generate_more a b [] = same_if (is_name a && is_name b)
-generate_more a b (c ∷ []) = refl
-generate_more a b (c ∷ d ∷ rest) = refl
-
 pub generate_reads : (rest : List Text) → list_all is_name rest ≡ true → Reads (codes "generate") (leaf generate_app) rest
 unfolding clap_on_literals
-generate_reads [] named = inr (none_given (leaf generate_app) missing refl, refl)
-generate_reads (a ∷ []) named =
-    let na = and_parts (is_name a) (list_all is_name ([])) named in
-    let taken = (takes (leaf generate_app) (a ∷ []) (at 2 (held_1 (leaf generate_app) a)) (finished (leaf generate_app).rules (held_1 (leaf generate_app) a)) (one_given (leaf generate_app) (refl, λ a. refl) a na.0) refl refl) in
-    inl (taken.0, refl ∙ sym (ap (command_by (codes "generate")) taken.1))
-generate_reads (a ∷ b ∷ rest) named =
-    let na = and_parts (is_name a) (list_all is_name (b ∷ rest)) named in
-    let nb = and_parts (is_name b) (list_all is_name (rest)) na.1 in
-    inr (level_fails (leaf generate_app) (a ∷ b ∷ rest) kind.UnknownArgument [] (fault_1 (leaf generate_app) (refl, λ a. refl) a (b ∷ rest) na.0 ∙ stray (leaf generate_app) [] 2 (held_1 (leaf generate_app) a) b rest nb.0 refl), generate_more a b rest)
-
-surface_more : (a b : Text) (rest : List Text) → command_of (codes "surface" ∷ a ∷ b ∷ rest) ≡ None
-surface_more a b [] = same_if (is_name a && is_name b)
-surface_more a b (c ∷ []) = refl
-surface_more a b (c ∷ d ∷ rest) = refl
+generate_reads = one_reads (codes "generate") (leaf generate_app) refl (refl, λ a. refl) (λ a. refl) (λ a. refl) (λ a named. refl) (λ a b. refl) refl
 
 pub surface_reads : (rest : List Text) → list_all is_name rest ≡ true → Reads (codes "surface") (leaf surface_app) rest
 unfolding clap_on_literals
-surface_reads [] named = inr (none_given (leaf surface_app) missing refl, refl)
-surface_reads (a ∷ []) named =
-    let na = and_parts (is_name a) (list_all is_name ([])) named in
-    let taken = (takes (leaf surface_app) (a ∷ []) (at 2 (held_1 (leaf surface_app) a)) (finished (leaf surface_app).rules (held_1 (leaf surface_app) a)) (one_given (leaf surface_app) (refl, λ a. refl) a na.0) refl refl) in
-    inl (taken.0, if_named (is_name a) (Some (Surface a)) na.0 ∙ sym (ap (command_by (codes "surface")) taken.1))
-surface_reads (a ∷ b ∷ rest) named =
-    let na = and_parts (is_name a) (list_all is_name (b ∷ rest)) named in
-    let nb = and_parts (is_name b) (list_all is_name (rest)) na.1 in
-    inr (level_fails (leaf surface_app) (a ∷ b ∷ rest) kind.UnknownArgument [] (fault_1 (leaf surface_app) (refl, λ a. refl) a (b ∷ rest) na.0 ∙ stray (leaf surface_app) [] 2 (held_1 (leaf surface_app) a) b rest nb.0 refl), surface_more a b rest)
-
-why_more : (a b c : Text) (rest : List Text) → command_of (codes "why" ∷ a ∷ b ∷ c ∷ rest) ≡ None
-why_more a b c [] = refl
-why_more a b c (d ∷ rest) = refl
+surface_reads = one_reads (codes "surface") (leaf surface_app) refl (refl, λ a. refl) (λ a. refl) (λ a. refl) (λ a named. if_named (is_name a) (Some (Surface a)) named) (λ a b. refl) refl
 
 pub why_reads : (rest : List Text) → list_all is_name rest ≡ true → Reads (codes "why") (leaf why_app) rest
 unfolding clap_on_literals
-why_reads [] named = inr (none_given (leaf why_app) missing refl, refl)
-why_reads (a ∷ []) named =
-    let na = and_parts (is_name a) (list_all is_name ([])) named in
-    inr (lacks (leaf why_app) (a ∷ []) (at 2 (held_1 (leaf why_app) a)) missing [] (one_given (leaf why_app) (refl, λ a. refl) a na.0) refl, refl)
-why_reads (a ∷ b ∷ []) named =
-    let na = and_parts (is_name a) (list_all is_name (b ∷ [])) named in
-    let nb = and_parts (is_name b) (list_all is_name ([])) na.1 in
-    let taken = (takes (leaf why_app) (a ∷ b ∷ []) (at 3 (held_2 (leaf why_app) a b)) (finished (leaf why_app).rules (held_2 (leaf why_app) a b)) (two_given (leaf why_app) (refl, λ a. refl) (λ a. (refl, λ b. refl)) a b na.0 nb.0) refl refl) in
-    inl (taken.0, if_named (is_name a && is_name b) (Some (Why a b)) (and_from (is_name a) (is_name b) na.0 nb.0) ∙ sym (ap (command_by (codes "why")) taken.1))
-why_reads (a ∷ b ∷ c ∷ rest) named =
-    let na = and_parts (is_name a) (list_all is_name (b ∷ c ∷ rest)) named in
-    let nb = and_parts (is_name b) (list_all is_name (c ∷ rest)) na.1 in
-    let nc = and_parts (is_name c) (list_all is_name (rest)) nb.1 in
-    inr (level_fails (leaf why_app) (a ∷ b ∷ c ∷ rest) kind.UnknownArgument [] (fault_1 (leaf why_app) (refl, λ a. refl) a (b ∷ c ∷ rest) na.0 ∙ fault_2 (leaf why_app) (λ a. (refl, λ b. refl)) a b (c ∷ rest) nb.0 ∙ stray (leaf why_app) [] 3 (held_2 (leaf why_app) a b) c rest nc.0 refl), why_more a b c rest)
+why_reads = two_reads (codes "why") (leaf why_app) refl (refl, λ a. refl) (λ a. (refl, λ b. refl)) (λ a. refl) (λ a. refl) (λ a b. refl) (λ a b. refl) (λ a b. refl) refl

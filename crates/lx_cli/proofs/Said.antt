@@ -1,12 +1,12 @@
 -- What the parser makes of the words is the command that they say.
-use Rattle.std.proofs.Common.{◌≡◌, ◌⊎◌, inl, inr, ◌∙◌, Bool, true, false, ◌&&◌, ◌||◌, List, [], ◌∷◌, codes, Option, Some, None, is_some, option_map, find, if◌then◌else◌, subst, refl, sym, ap, ap₂}
+use Rattle.std.proofs.Common.{◌≡◌, ◌⊎◌, inl, inr, ◌∙◌, Bool, true, false, ◌&&◌, ◌||◌, List, [], ◌∷◌, codes, Option, Some, None, is_some, option_map, find, fold, if◌then◌else◌, subst, refl, sym, ap, ap₂}
 use Rattle.std.specs.List.{list_all}
 use Rattle.std.specs.Str.{bytes_eq}
 use Rattle.std.proofs.lemmas.Slice.Eq.{bytes_eq-Decides}
 use Rattle.std.proofs.lemmas.Bool.{and_parts}
 use Rattle.clap.specs.Values.{kind_of}
-use Rattle.clap.specs.Walk.{Names, Text, Walk, idle, answers_to, subcommand_met, nothing_held, walk_from, walk, finished, settled, rows_after}
-use Rattle.clap.specs.Simple.{Shape, built, entered, is_simple, names_of, subcommand_of}
+use Rattle.clap.specs.Walk.{Names, Text, Walk, idle, answers_to, subcommand_met, nothing_held, walk_from, walk, walked, finished, settled, rows_after}
+use Rattle.clap.specs.Simple.{App, Shape, built, entered, is_simple, names_of, subcommand_of}
 use Rattle.clap.specs.Kinds.{HasKind, Kinds, or_else}
 use Rattle.clap.specs.Faults.{walk_fault, settle_fault, defaults_fault, check_fault, level_fault, entered_fault, fault_of, is_simple_and_free}
 use Rattle.clap.specs.declared.error.Error.{Error}
@@ -40,60 +40,20 @@ abbrev Enters : Text → Shape → List Text → Type 0
 Enters name s rest = (fault_of tree_app (name ∷ rest) ≡ or_else (level_fault s [] nothing_held rest false []) [])
     × (subcommand_of tree_app (name ∷ rest) ≡ Some (name, rows_after s.rules [] rest))
 
-run_enters : (rest : List Text) → Enters (codes "run") (leaf run_app) rest
-unfolding clap_on_literals
-run_enters rest =
-    let stops = walk_stopped top.rules names (walk_from nothing_held) (codes "run") [] rest in (
-      ap₂ whole (sym stops) (stopped_fault top names (walk_from nothing_held) (codes "run", []) rest),
-      ap (λ (w : Walk). entered (built tree_app) w.stopped) (sym stops),
-    )
+-- where the walk stands behind a name, with these words of its command
+abbrev stopped : Text → List Text → Walk
+stopped name seen = record (walk_from nothing_held) { stopped = Some (name, seen) }
 
-replay_enters : (rest : List Text) → Enters (codes "replay") (leaf replay_app) rest
-unfolding clap_on_literals
-replay_enters rest =
-    let stops = walk_stopped top.rules names (walk_from nothing_held) (codes "replay") [] rest in (
-      ap₂ whole (sym stops) (stopped_fault top names (walk_from nothing_held) (codes "replay", []) rest),
-      ap (λ (w : Walk). entered (built tree_app) w.stopped) (sym stops),
-    )
-
-instrument_enters : (rest : List Text) → Enters (codes "instrument") (leaf instrument_app) rest
-unfolding clap_on_literals
-instrument_enters rest =
-    let stops = walk_stopped top.rules names (walk_from nothing_held) (codes "instrument") [] rest in (
-      ap₂ whole (sym stops) (stopped_fault top names (walk_from nothing_held) (codes "instrument", []) rest),
-      ap (λ (w : Walk). entered (built tree_app) w.stopped) (sym stops),
-    )
-
-check_enters : (rest : List Text) → Enters (codes "check") (leaf check_app) rest
-unfolding clap_on_literals
-check_enters rest =
-    let stops = walk_stopped top.rules names (walk_from nothing_held) (codes "check") [] rest in (
-      ap₂ whole (sym stops) (stopped_fault top names (walk_from nothing_held) (codes "check", []) rest),
-      ap (λ (w : Walk). entered (built tree_app) w.stopped) (sym stops),
-    )
-
-generate_enters : (rest : List Text) → Enters (codes "generate") (leaf generate_app) rest
-unfolding clap_on_literals
-generate_enters rest =
-    let stops = walk_stopped top.rules names (walk_from nothing_held) (codes "generate") [] rest in (
-      ap₂ whole (sym stops) (stopped_fault top names (walk_from nothing_held) (codes "generate", []) rest),
-      ap (λ (w : Walk). entered (built tree_app) w.stopped) (sym stops),
-    )
-
-surface_enters : (rest : List Text) → Enters (codes "surface") (leaf surface_app) rest
-unfolding clap_on_literals
-surface_enters rest =
-    let stops = walk_stopped top.rules names (walk_from nothing_held) (codes "surface") [] rest in (
-      ap₂ whole (sym stops) (stopped_fault top names (walk_from nothing_held) (codes "surface", []) rest),
-      ap (λ (w : Walk). entered (built tree_app) w.stopped) (sym stops),
-    )
-
-why_enters : (rest : List Text) → Enters (codes "why") (leaf why_app) rest
-unfolding clap_on_literals
-why_enters rest =
-    let stops = walk_stopped top.rules names (walk_from nothing_held) (codes "why") [] rest in (
-      ap₂ whole (sym stops) (stopped_fault top names (walk_from nothing_held) (codes "why", []) rest),
-      ap (λ (w : Walk). entered (built tree_app) w.stopped) (sym stops),
+-- it leaves the words behind the name to the command
+enters : (name : Text) (s : Shape) (rest : List Text)
+    → fault_of tree_app (name ∷ rest) ≡ whole (fold (walked top.rules names) (stopped name []) rest) (walk_fault top names (stopped name []) rest)
+    → whole (stopped name rest) [] ≡ or_else (level_fault s [] nothing_held rest false []) []
+    → subcommand_of tree_app (name ∷ rest) ≡ entered (built tree_app) (fold (walked top.rules names) (stopped name []) rest).stopped
+    → entered (built tree_app) (Some (name, rest)) ≡ Some (name, rows_after s.rules [] rest) → Enters name s rest
+enters name s rest begins leaves goes finds =
+    let stops = walk_stopped top.rules names (walk_from nothing_held) name [] rest in (
+      begins ∙ ap₂ whole (sym stops) (stopped_fault top names (walk_from nothing_held) (name, []) rest) ∙ leaves,
+      goes ∙ ap (λ (w : Walk). entered (built tree_app) w.stopped) (sym stops) ∙ finds,
     )
 
 -- the parser takes the words, and they are the command that it finds; or it refuses them, and they are none
@@ -162,45 +122,28 @@ unnamed word rest named un =
 
 -- ---- all words
 
-module _ (word : Text) (rest : List Text) (named : list_all is_name (word ∷ rest) ≡ true) where
-  behind : list_all is_name rest ≡ true
-  behind = (and_parts (is_name word) (list_all is_name rest) named).1
-
-  moved : (name : Text) → bytes_eq word name ≡ true → IsRead (name ∷ rest) → IsRead (word ∷ rest)
-  moved name is read = subst (λ (w : Text). IsRead (w ∷ rest)) (sym ((bytes_eq-Decides word name).0 is)) read
-
-  by_why : bytes_eq word (codes "run") ≡ false → bytes_eq word (codes "replay") ≡ false → bytes_eq word (codes "instrument") ≡ false → bytes_eq word (codes "check") ≡ false → bytes_eq word (codes "generate") ≡ false → bytes_eq word (codes "surface") ≡ false → (b : Bool) → bytes_eq word (codes "why") ≡ b → IsRead (word ∷ rest)
-  by_why no_run no_replay no_instrument no_check no_generate no_surface true is = moved (codes "why") is (read_by (codes "why") (leaf why_app) rest (why_enters rest) (why_reads rest behind))
-  by_why no_run no_replay no_instrument no_check no_generate no_surface false is = unnamed word rest named (record { run = no_run; replay = no_replay; instrument = no_instrument; check = no_check; generate = no_generate; surface = no_surface; why = is })
-
-  by_surface : bytes_eq word (codes "run") ≡ false → bytes_eq word (codes "replay") ≡ false → bytes_eq word (codes "instrument") ≡ false → bytes_eq word (codes "check") ≡ false → bytes_eq word (codes "generate") ≡ false → (b : Bool) → bytes_eq word (codes "surface") ≡ b → IsRead (word ∷ rest)
-  by_surface no_run no_replay no_instrument no_check no_generate true is = moved (codes "surface") is (read_by (codes "surface") (leaf surface_app) rest (surface_enters rest) (surface_reads rest behind))
-  by_surface no_run no_replay no_instrument no_check no_generate false is = by_why no_run no_replay no_instrument no_check no_generate is (bytes_eq word (codes "why")) refl
-
-  by_generate : bytes_eq word (codes "run") ≡ false → bytes_eq word (codes "replay") ≡ false → bytes_eq word (codes "instrument") ≡ false → bytes_eq word (codes "check") ≡ false → (b : Bool) → bytes_eq word (codes "generate") ≡ b → IsRead (word ∷ rest)
-  by_generate no_run no_replay no_instrument no_check true is = moved (codes "generate") is (read_by (codes "generate") (leaf generate_app) rest (generate_enters rest) (generate_reads rest behind))
-  by_generate no_run no_replay no_instrument no_check false is = by_surface no_run no_replay no_instrument no_check is (bytes_eq word (codes "surface")) refl
-
-  by_check : bytes_eq word (codes "run") ≡ false → bytes_eq word (codes "replay") ≡ false → bytes_eq word (codes "instrument") ≡ false → (b : Bool) → bytes_eq word (codes "check") ≡ b → IsRead (word ∷ rest)
-  by_check no_run no_replay no_instrument true is = moved (codes "check") is (read_by (codes "check") (leaf check_app) rest (check_enters rest) (check_reads rest behind))
-  by_check no_run no_replay no_instrument false is = by_generate no_run no_replay no_instrument is (bytes_eq word (codes "generate")) refl
-
-  by_instrument : bytes_eq word (codes "run") ≡ false → bytes_eq word (codes "replay") ≡ false → (b : Bool) → bytes_eq word (codes "instrument") ≡ b → IsRead (word ∷ rest)
-  by_instrument no_run no_replay true is = moved (codes "instrument") is (read_by (codes "instrument") (leaf instrument_app) rest (instrument_enters rest) (instrument_reads rest behind))
-  by_instrument no_run no_replay false is = by_check no_run no_replay is (bytes_eq word (codes "check")) refl
-
-  by_replay : bytes_eq word (codes "run") ≡ false → (b : Bool) → bytes_eq word (codes "replay") ≡ b → IsRead (word ∷ rest)
-  by_replay no_run true is = moved (codes "replay") is (read_by (codes "replay") (leaf replay_app) rest (replay_enters rest) (replay_reads rest behind))
-  by_replay no_run false is = by_instrument no_run is (bytes_eq word (codes "instrument")) refl
-
-  by_run : (b : Bool) → bytes_eq word (codes "run") ≡ b → IsRead (word ∷ rest)
-  by_run true is = moved (codes "run") is (read_by (codes "run") (leaf run_app) rest (run_enters rest) (run_reads rest behind))
-  by_run false is = by_replay is (bytes_eq word (codes "replay")) refl
+-- a word is a command's name, or it is not
+known : (word : Text) (rest : List Text) → list_all is_name (word ∷ rest) ≡ true → (name : Text) (a : App) → Enters name (leaf a) rest → (list_all is_name rest ≡ true → Reads name (leaf a) rest)
+    → (bytes_eq word name ≡ false → IsRead (word ∷ rest)) → IsRead (word ∷ rest)
+known word rest named name a enters reads otherwise = on (bytes_eq word name) refl where
+  on : (b : Bool) → bytes_eq word name ≡ b → IsRead (word ∷ rest)
+  on true is =
+      let read = read_by name (leaf a) rest enters (reads (and_parts (is_name word) (list_all is_name rest) named).1) in
+      subst (λ (w : Text). IsRead (w ∷ rest)) (sym ((bytes_eq-Decides word name).0 is)) read
+  on false is = otherwise is
 
 pub is_read : (words : List Text) → list_all is_name words ≡ true → IsRead words
 unfolding clap_on_literals
 is_read [] named = inr ((kind.MissingSubcommand, [], refl), refl)
-is_read (word ∷ rest) named = by_run word rest named (bytes_eq word (codes "run")) refl
+is_read (word ∷ rest) named =
+    known word rest named (codes "run") run_app (enters (codes "run") (leaf run_app) rest refl refl refl refl) (run_reads rest) (λ run.
+    known word rest named (codes "replay") replay_app (enters (codes "replay") (leaf replay_app) rest refl refl refl refl) (replay_reads rest) (λ replay.
+    known word rest named (codes "instrument") instrument_app (enters (codes "instrument") (leaf instrument_app) rest refl refl refl refl) (instrument_reads rest) (λ instrument.
+    known word rest named (codes "check") check_app (enters (codes "check") (leaf check_app) rest refl refl refl refl) (check_reads rest) (λ check.
+    known word rest named (codes "generate") generate_app (enters (codes "generate") (leaf generate_app) rest refl refl refl refl) (generate_reads rest) (λ generate.
+    known word rest named (codes "surface") surface_app (enters (codes "surface") (leaf surface_app) rest refl refl refl refl) (surface_reads rest) (λ surface.
+    known word rest named (codes "why") why_app (enters (codes "why") (leaf why_app) rest refl refl refl refl) (why_reads rest) (λ why.
+    unnamed word rest named (record { run = run; replay = replay; instrument = instrument; check = check; generate = generate; surface = surface; why = why }))))))))
 
 -- ---- both outcomes of the parser
 
