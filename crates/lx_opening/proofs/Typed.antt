@@ -3,9 +3,8 @@ use Rattle.std.proofs.Common.{◌≡◌, ℕ, suc, ◌+◌, ◌*◌, ◌≤◌, 
 use Rattle.std.specs.List.{list_all}
 use Rattle.std.proofs.lemmas.Bool.{and_parts, and_from}
 use Rattle.std.proofs.lemmas.Bool.Decides.{nat_tests}
-use Rattle.lx_words.specs.declared.word.Width.{Width}
 use Rattle.lx_words.specs.declared.word.Width.TheVariants.{W1, W8, W16, W32, W64}
-use Rattle.lx_words.specs.Width.{byte_count, same_width}
+use Rattle.lx_words.specs.Width.{byte_count}
 use Rattle.lx_words.proofs.Tests.{next_above}
 use Rattle.lx_caps.specs.Regions.{mapped, globals_start}
 use Rattle.lx_ir.specs.declared.types.Scalar.{Scalar}
@@ -17,10 +16,11 @@ use Rattle.lx_ir.specs.declared.module.Constant.{Constant}
 use Rattle.lx_ir.specs.declared.module.Constant.TheVariants as constant
 use Rattle.lx_ir.specs.IrType.{IrType, One, Array, Struct, Packed, Named, IrTypes, none, also}
 use Rattle.lx_ir.specs.Init.{Init, Plain, Empty, Bytes, Group, Inits, no_more, more}
-use Rattle.lx_ir.specs.Layout.{Layout, layout, beside, padded, layout_in, fields_in, named_layouts, layout_of, size_of, scalar_size, unnamed, is_lawful_type}
-use Rattle.lx_ir.specs.Lawful.{same_scalar, is_lawful_init, are_lawful_inits}
-use Rattle.lx_ir.specs.Faults.{same_type, same_types, are_types, type_of_constant, has_items, holds_bytes, init_fits, inits_fit}
+use Rattle.lx_ir.specs.Layout.{Layout, layout, beside, layout_in, fields_in, named_layouts, layout_of, size_of, scalar_size, unnamed, is_lawful_type}
+use Rattle.lx_ir.specs.Lawful.{is_lawful_init, are_lawful_inits}
+use Rattle.lx_ir.specs.Faults.{same_type, are_types, type_of_constant, has_items, holds_bytes, init_fits, inits_fit}
 use Rattle.lx_ir.proofs.Layouts.{name_layout}
+use Rattle.lx_same_texts.proofs.Parts.{type_is}
 use Rattle.lx_model.specs.declared.program.Program.{Program}
 use Rattle.lx_model.specs.Program.{Home, module_of, constant_word}
 use Rattle.lx_model.specs.Opening.{is_packed, item_start}
@@ -32,80 +32,8 @@ pub in_globals : (at size : ℕ) → globals_start ≤ at → at + size ≤ last
 in_globals at size low high = grind (arith, nat_tests)
 
 -- types that are the same lie alike
-
-same_sizes : (v w : Width) → same_width v w ≡ true → byte_count v ≡ byte_count w
-same_sizes W1 W1 h = refl
-same_sizes W1 W8 h = refl
-same_sizes W1 W16 h = absurd (cc)
-same_sizes W1 W32 h = absurd (cc)
-same_sizes W1 W64 h = absurd (cc)
-same_sizes W8 W1 h = refl
-same_sizes W8 W8 h = refl
-same_sizes W8 W16 h = absurd (cc)
-same_sizes W8 W32 h = absurd (cc)
-same_sizes W8 W64 h = absurd (cc)
-same_sizes W16 W1 h = absurd (cc)
-same_sizes W16 W8 h = absurd (cc)
-same_sizes W16 W16 h = refl
-same_sizes W16 W32 h = absurd (cc)
-same_sizes W16 W64 h = absurd (cc)
-same_sizes W32 W1 h = absurd (cc)
-same_sizes W32 W8 h = absurd (cc)
-same_sizes W32 W16 h = absurd (cc)
-same_sizes W32 W32 h = refl
-same_sizes W32 W64 h = absurd (cc)
-same_sizes W64 W1 h = absurd (cc)
-same_sizes W64 W8 h = absurd (cc)
-same_sizes W64 W16 h = absurd (cc)
-same_sizes W64 W32 h = absurd (cc)
-same_sizes W64 W64 h = refl
-
-same_scalars : (s t : Scalar) → same_scalar s t ≡ true → scalar_size s ≡ scalar_size t
-same_scalars (Int v) (Int w) h = same_sizes v w h
-same_scalars (Int v) Ptr h = absurd (cc)
-same_scalars Ptr (Int w) h = absurd (cc)
-same_scalars Ptr Ptr h = refl
-
-mutual
-  pub alike : (named : ℕ → Layout) (s t : IrType) → same_type s t ≡ true → layout_in named s ≡ layout_in named t
-  alike named (One s) (One t) h = ap (λ n. layout n n) (same_scalars s t h)
-  alike named (One s) (Array n t) h = absurd (cc)
-  alike named (One s) (Struct ts) h = absurd (cc)
-  alike named (One s) (Packed ts) h = absurd (cc)
-  alike named (One s) (Named k) h = absurd (cc)
-  alike named (Array m s) (One t) h = absurd (cc)
-  alike named (Array m s) (Array n t) h =
-      let a = and_parts (nat_eq m n) (same_type s t) h in
-      let e : m ≡ n = eqb-true m n a.0 in
-      let l : layout_in named s ≡ layout_in named t = alike named s t a.1 in
-      λ j. layout (e j * (l j).size) (l j).align
-  alike named (Array m s) (Struct ts) h = absurd (cc)
-  alike named (Array m s) (Packed ts) h = absurd (cc)
-  alike named (Array m s) (Named k) h = absurd (cc)
-  alike named (Struct ss) (One t) h = absurd (cc)
-  alike named (Struct ss) (Array n t) h = absurd (cc)
-  alike named (Struct ss) (Struct ts) h = ap padded (all_alike named false ss ts (layout 0 1) h)
-  alike named (Struct ss) (Packed ts) h = absurd (cc)
-  alike named (Struct ss) (Named k) h = absurd (cc)
-  alike named (Packed ss) (One t) h = absurd (cc)
-  alike named (Packed ss) (Array n t) h = absurd (cc)
-  alike named (Packed ss) (Struct ts) h = absurd (cc)
-  alike named (Packed ss) (Packed ts) h = all_alike named true ss ts (layout 0 1) h
-  alike named (Packed ss) (Named k) h = absurd (cc)
-  alike named (Named j) (One t) h = absurd (cc)
-  alike named (Named j) (Array n t) h = absurd (cc)
-  alike named (Named j) (Struct ts) h = absurd (cc)
-  alike named (Named j) (Packed ts) h = absurd (cc)
-  alike named (Named j) (Named k) h = ap named (eqb-true j k h)
-
-  all_alike : (named : ℕ → Layout) (packed : Bool) (ss ts : IrTypes) (laid : Layout) → same_types ss ts ≡ true → fields_in named packed ss laid ≡ fields_in named packed ts laid
-  all_alike named packed none none laid h = refl
-  all_alike named packed none (also t ts) laid h = absurd (cc)
-  all_alike named packed (also s ss) none laid h = absurd (cc)
-  all_alike named packed (also s ss) (also t ts) laid h =
-      let a = and_parts (same_type s t) (same_types ss ts) h in
-      let l : layout_in named s ≡ layout_in named t = alike named s t a.0 in
-      all_alike named packed ss ts (beside packed laid (layout_in named s)) a.1 ∙ ap (λ x. fields_in named packed ts (beside packed laid x)) l
+alike : (named : ℕ → Layout) (s t : IrType) → same_type s t ≡ true → layout_in named s ≡ layout_in named t
+alike named s t h = ap (layout_in named) (type_is s t h)
 
 -- how far items reach, behind items that take so many bytes
 abbrev pub reach : List NamedType → Bool → ℕ → List IrType → ℕ
