@@ -81,27 +81,34 @@ pub fn is_refused(alloc: Global, input: Input, text: &str, words: &str) -> Resul
     refused
 }
 
-/// The module owns seven bytes of eight. The call's start, and the store that is refused, are the two events.
-const REFUSED: Wanted = Wanted::Run(Told {
-    schedule: &[0, 0],
-    report: "schedule 0*2
-call 0.0 m:main refused 1 m.shared write 0x1000000+8
+/// What a call that stores to the module's global comes to: its events, how many bytes that has, and the call's end.
+macro_rules! stores {
+    ($count:literal in $schedule:expr, owns $size:literal => $end:literal) => {
+        Wanted::Run(Told { schedule: &$schedule, report: concat!("schedule 0*", $count, "
+call 0.0 m:main ", $end, "
 image m guards 1 checks 0 wrappers 0
-owns m.shared write 0x1000000+7
+owns m.shared write 0x1000000+", $size, "
 owns m.shared call 0x10060
-",
-});
+") })
+    };
+}
+
+/// What a call that calls what it is given comes to: its events and its end.
+macro_rules! calls {
+    ($count:literal in $schedule:expr => $end:literal) => {
+        Wanted::Run(Told { schedule: &$schedule, report: concat!("schedule 0*", $count, "
+call 0.0 m:main ", $end, "
+image m guards 0 checks 1 wrappers 0
+owns m.shared call 0x10070
+") })
+    };
+}
+
+/// The module owns seven bytes of eight. The call's start, and the store that is refused, are the two events.
+const REFUSED: Wanted = stores!(2 in [0, 0], owns 7 => "refused 1 m.shared write 0x1000000+8");
 
 /// The kernel may write all eight bytes. The call's start, the store, the return and the call's end are the four events.
-const STORED: Wanted = Wanted::Run(Told {
-    schedule: &[0, 0, 0, 0],
-    report: "schedule 0*4
-call 0.0 m:main returned
-image m guards 1 checks 0 wrappers 0
-owns m.shared write 0x1000000+7
-owns m.shared call 0x10060
-",
-});
+const STORED: Wanted = stores!(4 in [0, 0, 0, 0], owns 7 => "returned");
 
 /// The guard of the store of eight bytes to a global of seven.
 const PAST_GUARD: &str = "  call void @lxfi.guard(ptr @g, i64 8)\n";
@@ -134,37 +141,13 @@ fn a_store_is_refused_behind_its_guard_alone(rt: HostRuntime) -> Result<(), Fail
 }
 
 /// The call's start, the store, the load, the return and the call's end are the five events.
-const SEVEN: Wanted = Wanted::Run(Told {
-    schedule: &[0, 0, 0, 0, 0],
-    report: "schedule 0*5
-call 0.0 m:main returned 7
-image m guards 1 checks 0 wrappers 0
-owns m.shared write 0x1000000+4
-owns m.shared call 0x10060
-",
-});
+const SEVEN: Wanted = stores!(5 in [0, 0, 0, 0, 0], owns 4 => "returned 7");
 
 /// The image stores an 8. What is counted, and who owns what, is the program's.
-const EIGHT: Wanted = Wanted::Run(Told {
-    schedule: &[0, 0, 0, 0, 0],
-    report: "schedule 0*5
-call 0.0 m:main returned 8
-image m guards 1 checks 0 wrappers 0
-owns m.shared write 0x1000000+4
-owns m.shared call 0x10060
-",
-});
+const EIGHT: Wanted = stores!(5 in [0, 0, 0, 0, 0], owns 4 => "returned 8");
 
 /// The image stores nothing: the global still holds what it began with, and there is an event less.
-const NOTHING: Wanted = Wanted::Run(Told {
-    schedule: &[0, 0, 0, 0],
-    report: "schedule 0*4
-call 0.0 m:main returned 0
-image m guards 1 checks 0 wrappers 0
-owns m.shared write 0x1000000+4
-owns m.shared call 0x10060
-",
-});
+const NOTHING: Wanted = stores!(4 in [0, 0, 0, 0], owns 4 => "returned 0");
 
 /// The store of a 7 in an image.
 const STORE: &str = "  store i32 7, ptr @g\n";
@@ -182,24 +165,10 @@ fn the_image_runs_and_not_the_text_of_its_module(rt: HostRuntime) -> Result<(), 
 
 /// The module owns the call of its own function, which stands behind the kernel's, and not that of the kernel's. The call's start, and the
 /// call that is refused, are the two events.
-const NOT_CALLED: Wanted = Wanted::Run(Told {
-    schedule: &[0, 0],
-    report: "schedule 0*2
-call 0.0 m:main refused 2 m.shared call 0x10060
-image m guards 0 checks 1 wrappers 0
-owns m.shared call 0x10070
-",
-});
+const NOT_CALLED: Wanted = calls!(2 in [0, 0] => "refused 2 m.shared call 0x10060");
 
 /// The kernel may call all that is its own. The call's start, the call, a return from each of both and the call's end are the five events.
-const CALLED: Wanted = Wanted::Run(Told {
-    schedule: &[0, 0, 0, 0, 0],
-    report: "schedule 0*5
-call 0.0 m:main returned 5
-image m guards 0 checks 1 wrappers 0
-owns m.shared call 0x10070
-",
-});
+const CALLED: Wanted = calls!(5 in [0, 0, 0, 0, 0] => "returned 5");
 
 /// The check of the call of what the module is given.
 const CHECK: &str = "  call void @lxfi.check(ptr %f)\n";

@@ -143,6 +143,20 @@ struct Run {
     told: Told,
 }
 
+/// What is told of a run: its events, how many bytes the module owns behind it, and the call's end with what it noted.
+macro_rules! told {
+    ($count:literal in $schedule:ident, owns $size:literal => $end:literal) => {
+        Told { schedule: $schedule, report: concat!("schedule 0*", $count, "
+call 0.0 m:main ", $end, "
+image m guards 4 checks 0 wrappers 2
+owns m.shared write 0x1000000+", $size, "
+owns m.shared call 0x10060
+owns m.shared call 0x10070
+owns m.shared call 0x10080
+") }
+    };
+}
+
 const SEVENTEEN_EVENTS: &[u32] = &[0, 0, 0, 0, 0, 0, 0, 0, 0, 0, 0, 0, 0, 0, 0, 0, 0];
 
 const SIXTEEN_EVENTS: &[u32] = &[0, 0, 0, 0, 0, 0, 0, 0, 0, 0, 0, 0, 0, 0, 0, 0];
@@ -157,18 +171,7 @@ fn returns() -> Run {
     Run {
         case: FUELLED,
         interface: LENDS_ALL,
-        told: Told {
-            schedule: SEVENTEEN_EVENTS,
-            report: "schedule 0*17
-call 0.0 m:main returned 9
-note 0 7
-image m guards 4 checks 0 wrappers 2
-owns m.shared write 0x1000000+8
-owns m.shared call 0x10060
-owns m.shared call 0x10070
-owns m.shared call 0x10080
-",
-        },
+        told: told!(17 in SEVENTEEN_EVENTS, owns 8 => "returned 9\nnote 0 7"),
     }
 }
 
@@ -177,18 +180,7 @@ fn stops() -> Run {
     Run {
         case: SHORT_OF_FUEL,
         interface: LENDS_ALL,
-        told: Told {
-            schedule: SIXTEEN_EVENTS,
-            report: "schedule 0*16
-call 0.0 m:main budget
-note 0 7
-image m guards 4 checks 0 wrappers 2
-owns m.shared write 0x1000000+8
-owns m.shared call 0x10060
-owns m.shared call 0x10070
-owns m.shared call 0x10080
-",
-        },
+        told: told!(16 in SIXTEEN_EVENTS, owns 8 => "budget\nnote 0 7"),
     }
 }
 
@@ -197,17 +189,7 @@ fn is_refused() -> Run {
     Run {
         case: FUELLED,
         interface: LENDS_HALF,
-        told: Told {
-            schedule: EIGHT_EVENTS,
-            report: "schedule 0*8
-call 0.0 m:main refused 1 m.shared write 0x1000000+8
-image m guards 4 checks 0 wrappers 2
-owns m.shared write 0x1000000+4
-owns m.shared call 0x10060
-owns m.shared call 0x10070
-owns m.shared call 0x10080
-",
-        },
+        told: told!(8 in EIGHT_EVENTS, owns 4 => "refused 1 m.shared write 0x1000000+8"),
     }
 }
 

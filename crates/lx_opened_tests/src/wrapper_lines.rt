@@ -5,6 +5,47 @@ use crate::rows::{Row, Wanted, assert_rows};
 use crate::runs::Told;
 use std::test::Fail;
 
+/// What a call of `put` comes to: its events, how many checks its image has, and its end.
+macro_rules! put {
+    ($count:literal in $schedule:expr, checks $checks:literal => $end:literal) => {
+        Wanted::Run(Told { schedule: &$schedule, report: concat!("schedule 0*", $count, "
+call 0.0 m:main ", $end, "
+image m guards 0 checks ", $checks, " wrappers 1
+owns m.shared write 0x1000000+4
+owns m.shared call 0x10060
+owns m.shared call 0x10070
+") })
+    };
+}
+
+/// What a call of `lend` comes to: its events, its end, and what the module was given.
+macro_rules! lent {
+    ($count:literal in $schedule:expr => $end:literal, $given:literal) => {
+        Wanted::Run(Told { schedule: &$schedule, report: concat!("schedule 0*", $count, "
+call 0.0 m:main ", $end, "
+image m guards 1 checks 0 wrappers 1
+", $given, "owns m.shared write 0x1000010+4
+owns m.shared call 0x10060
+owns m.shared call 0x10070
+") })
+    };
+}
+
+/// What the checker says of a wrapper that is bent: where it differs.
+macro_rules! bent {
+    (line $line:literal, $function:literal, $instruction:literal) => {
+        Wanted::Refused(concat!("line ", $line, ": `@", $function, "`, instruction ", $instruction,
+            ": a wrapper is missing or differs, or the text is no image as a whole"))
+    };
+}
+
+/// Rows of which each puts a line in another's place, with the same wanted of all.
+macro_rules! all_rows {
+    ($wanted:expr; $($part:ident $other:literal,)+) => {
+        [$(Row($part, $other, $wanted)),+]
+    };
+}
+
 /// The actions before the body, of an import that has two.
 const FIRST: &str = "  call void @lxfi.pre(ptr @put, i32 0)\n";
 
@@ -13,57 +54,19 @@ const BOTH: &str = "  call void @lxfi.pre(ptr @put, i32 0)
 ";
 
 /// What the call's start, the enter and the first action that is done come to, where that asks for eight bytes.
-const EIGHT: Wanted = Wanted::Run(Told {
-    schedule: &[0, 0, 0],
-    report: "schedule 0*3
-call 0.0 m:main refused 1 m.shared write 0x1000000+8
-image m guards 0 checks 0 wrappers 1
-owns m.shared write 0x1000000+4
-owns m.shared call 0x10060
-owns m.shared call 0x10070
-",
-});
+const EIGHT: Wanted = put!(3 in [0, 0, 0], checks 0 => "refused 1 m.shared write 0x1000000+8");
 
 /// The same, where it asks for sixteen.
-const SIXTEEN: Wanted = Wanted::Run(Told {
-    schedule: &[0, 0, 0],
-    report: "schedule 0*3
-call 0.0 m:main refused 1 m.shared write 0x1000000+16
-image m guards 0 checks 0 wrappers 1
-owns m.shared write 0x1000000+4
-owns m.shared call 0x10060
-owns m.shared call 0x10070
-",
-});
+const SIXTEEN: Wanted = put!(3 in [0, 0, 0], checks 0 => "refused 1 m.shared write 0x1000000+16");
 
 /// Nothing is asked for before the body: the start, the enter, a return from each of both and the call's end are the five events.
-const UNCHECKED: Wanted = Wanted::Run(Told {
-    schedule: &[0, 0, 0, 0, 0],
-    report: "schedule 0*5
-call 0.0 m:main returned 5
-image m guards 0 checks 0 wrappers 1
-owns m.shared write 0x1000000+4
-owns m.shared call 0x10060
-owns m.shared call 0x10070
-",
-});
+const UNCHECKED: Wanted = put!(5 in [0, 0, 0, 0, 0], checks 0 => "returned 5");
 
 /// Behind the enter the wrapper comes to a line that cannot run.
-const TRAPPED: Wanted = Wanted::Run(Told {
-    schedule: &[0, 0, 0],
-    report: "schedule 0*3
-call 0.0 m:main trap 3
-image m guards 0 checks 0 wrappers 1
-owns m.shared write 0x1000000+4
-owns m.shared call 0x10060
-owns m.shared call 0x10070
-",
-});
+const TRAPPED: Wanted = put!(3 in [0, 0, 0], checks 0 => "trap 3");
 
 /// The checker names the line behind the enter.
-const PUT_DIFFERS: Wanted = Wanted::Refused(
-    "line 11: `@lxfi.out.put`, instruction 1: a wrapper is missing or differs, or the text is no image as a whole",
-);
+const PUT_DIFFERS: Wanted = bent!(line 11, "lxfi.out.put", 1);
 
 /// The second action in the place of the first, one that the import does not have, and both the other way round.
 const SECOND: &str = "  call void @lxfi.pre(ptr @put, i32 1)\n";
@@ -115,67 +118,22 @@ const WITH_ACTIONS: &str = "  call void @lxfi.pre(ptr @lend, i32 0)
 const CALL_ALONE: &str = "  %r = call ptr @lend(ptr %0)\n";
 
 /// The start, the enter, the action, the return, the action behind it, the store, the return and the call's end are the eight events.
-const GIVEN: Wanted = Wanted::Run(Told {
-    schedule: &[0, 0, 0, 0, 0, 0, 0, 0],
-    report: "schedule 0*8
-call 0.0 m:main returned
-image m guards 1 checks 0 wrappers 1
-owns m.shared write 0x1000000+8
-owns m.shared write 0x1000010+4
-owns m.shared call 0x10060
-owns m.shared call 0x10070
-",
-});
+const GIVEN: Wanted =
+    lent!(8 in [0, 0, 0, 0, 0, 0, 0, 0] => "returned", "owns m.shared write 0x1000000+8\n");
 
 /// An action is done once more, and there is an event more.
-const GIVEN_IN_NINE: Wanted = Wanted::Run(Told {
-    schedule: &[0, 0, 0, 0, 0, 0, 0, 0, 0],
-    report: "schedule 0*9
-call 0.0 m:main returned
-image m guards 1 checks 0 wrappers 1
-owns m.shared write 0x1000000+8
-owns m.shared write 0x1000010+4
-owns m.shared call 0x10060
-owns m.shared call 0x10070
-",
-});
+const GIVEN_IN_NINE: Wanted =
+    lent!(9 in [0, 0, 0, 0, 0, 0, 0, 0, 0] => "returned", "owns m.shared write 0x1000000+8\n");
 
 /// The action before the body is not done, and there is an event less.
-const GIVEN_IN_SEVEN: Wanted = Wanted::Run(Told {
-    schedule: &[0, 0, 0, 0, 0, 0, 0],
-    report: "schedule 0*7
-call 0.0 m:main returned
-image m guards 1 checks 0 wrappers 1
-owns m.shared write 0x1000000+8
-owns m.shared write 0x1000010+4
-owns m.shared call 0x10060
-owns m.shared call 0x10070
-",
-});
+const GIVEN_IN_SEVEN: Wanted =
+    lent!(7 in [0, 0, 0, 0, 0, 0, 0] => "returned", "owns m.shared write 0x1000000+8\n");
 
 /// The module was given nothing, so its store is refused: the start, the enter, the action, the return and the store.
-const NOT_GIVEN: Wanted = Wanted::Run(Told {
-    schedule: &[0, 0, 0, 0, 0],
-    report: "schedule 0*5
-call 0.0 m:main refused 1 m.shared write 0x1000000+8
-image m guards 1 checks 0 wrappers 1
-owns m.shared write 0x1000010+4
-owns m.shared call 0x10060
-owns m.shared call 0x10070
-",
-});
+const NOT_GIVEN: Wanted = lent!(5 in [0, 0, 0, 0, 0] => "refused 1 m.shared write 0x1000000+8", "");
 
 /// Nor was it asked for anything.
-const NO_ACTIONS: Wanted = Wanted::Run(Told {
-    schedule: &[0, 0, 0, 0],
-    report: "schedule 0*4
-call 0.0 m:main refused 1 m.shared write 0x1000000+8
-image m guards 1 checks 0 wrappers 1
-owns m.shared write 0x1000010+4
-owns m.shared call 0x10060
-owns m.shared call 0x10070
-",
-});
+const NO_ACTIONS: Wanted = lent!(4 in [0, 0, 0, 0] => "refused 1 m.shared write 0x1000000+8", "");
 
 static AROUND: [Row; 6] = [
     Row(ASKS, ASKS, GIVEN),
@@ -192,41 +150,11 @@ fn an_action_behind_the_body_is_done_where_its_line_stands(rt: HostRuntime) -> R
 }
 
 static AROUND_REFUSED: [Row; 5] = [
-    Row(
-        ASKS,
-        "",
-        Wanted::Refused(
-            "line 13: `@lxfi.out.lend`, instruction 1: a wrapper is missing or differs, or the text is no image as a whole",
-        ),
-    ),
-    Row(
-        ASKS,
-        ASKS_TWICE,
-        Wanted::Refused(
-            "line 14: `@lxfi.out.lend`, instruction 2: a wrapper is missing or differs, or the text is no image as a whole",
-        ),
-    ),
-    Row(
-        GIVES,
-        "",
-        Wanted::Refused(
-            "line 15: `@lxfi.out.lend`, instruction 3: a wrapper is missing or differs, or the text is no image as a whole",
-        ),
-    ),
-    Row(
-        GIVES,
-        GIVES_TWICE,
-        Wanted::Refused(
-            "line 16: `@lxfi.out.lend`, instruction 4: a wrapper is missing or differs, or the text is no image as a whole",
-        ),
-    ),
-    Row(
-        WITH_ACTIONS,
-        CALL_ALONE,
-        Wanted::Refused(
-            "line 13: `@lxfi.out.lend`, instruction 1: a wrapper is missing or differs, or the text is no image as a whole",
-        ),
-    ),
+    Row(ASKS, "", bent!(line 13, "lxfi.out.lend", 1)),
+    Row(ASKS, ASKS_TWICE, bent!(line 14, "lxfi.out.lend", 2)),
+    Row(GIVES, "", bent!(line 15, "lxfi.out.lend", 3)),
+    Row(GIVES, GIVES_TWICE, bent!(line 16, "lxfi.out.lend", 4)),
+    Row(WITH_ACTIONS, CALL_ALONE, bent!(line 13, "lxfi.out.lend", 1)),
 ];
 
 #[test]
@@ -277,20 +205,8 @@ static ENTERED: [Row; 5] = [
     Row(IN_ASKS, IN_ASKS, NOT_PROBED),
     Row(IN_ASKS, "", PROBED),
     Row(IN_WRAPPER, "", PROBED),
-    Row(
-        IN_ASKS,
-        "",
-        Wanted::Refused(
-            "line 10: `@lxfi.in.probe`, instruction 1: a wrapper is missing or differs, or the text is no image as a whole",
-        ),
-    ),
-    Row(
-        IN_WRAPPER,
-        "",
-        Wanted::Refused(
-            "line 1: `@lxfi.in.probe`, instruction 0: a wrapper is missing or differs, or the text is no image as a whole",
-        ),
-    ),
+    Row(IN_ASKS, "", bent!(line 10, "lxfi.in.probe", 1)),
+    Row(IN_WRAPPER, "", bent!(line 1, "lxfi.in.probe", 0)),
 ];
 
 #[test]
@@ -301,16 +217,7 @@ fn what_the_kernel_calls_of_a_module_is_entered_by_its_wrapper(
 }
 
 /// The start, the call by the address and the action are the three events.
-const CHECKED: Wanted = Wanted::Run(Told {
-    schedule: &[0, 0, 0],
-    report: "schedule 0*3
-call 0.0 m:main refused 1 m.shared write 0x1000000+8
-image m guards 0 checks 1 wrappers 1
-owns m.shared write 0x1000000+4
-owns m.shared call 0x10060
-owns m.shared call 0x10070
-",
-});
+const CHECKED: Wanted = put!(3 in [0, 0, 0], checks 1 => "refused 1 m.shared write 0x1000000+8");
 
 /// The wrapper of a kernel function that is entered by its address is none of the image's.
 static BY_ADDRESS: [Row; 2] = [Row(FIRST, FIRST, CHECKED), Row(FIRST, "", CHECKED)];
@@ -382,55 +289,23 @@ const NO_WRAPPER: Wanted = Wanted::Unformed(2);
 /// No enter, two, that of another function; an action of another function; a call of another function, with the arguments exchanged, with
 /// one that is no parameter; no `leave`, two, that of another function; a line of a body; another result; a second block; an action behind
 /// the call that stands before it, and one before it that stands behind.
-static UNFORMED: [Row; 15] = [
-    Row(ENTER, "", NO_WRAPPER),
-    Row(
-        ENTER,
-        "  call void @lxfi.enter(ptr @put)\n  call void @lxfi.enter(ptr @put)\n",
-        NO_WRAPPER,
-    ),
-    Row(ENTER, "  call void @lxfi.enter(ptr @main)\n", NO_WRAPPER),
-    Row(
-        FIRST,
-        "  call void @lxfi.pre(ptr @main, i32 0)\n",
-        NO_WRAPPER,
-    ),
-    Row(CALL, "  %r = call i64 @main(ptr %0, ptr %1)\n", NO_WRAPPER),
-    Row(CALL, "  %r = call i64 @put(ptr %1, ptr %0)\n", NO_WRAPPER),
-    Row(CALL, "  %r = call i64 @put(ptr %0, ptr @g)\n", NO_WRAPPER),
-    Row(LEAVE, "", NO_WRAPPER),
-    Row(
-        LEAVE,
-        "  call void @lxfi.leave(ptr @put)\n  call void @lxfi.leave(ptr @put)\n",
-        NO_WRAPPER,
-    ),
-    Row(LEAVE, "  call void @lxfi.leave(ptr @main)\n", NO_WRAPPER),
-    Row(
-        LEAVE,
-        "  %x = add i64 %r, 1\n  call void @lxfi.leave(ptr @put)\n",
-        NO_WRAPPER,
-    ),
-    Row(
-        END,
-        "  call void @lxfi.leave(ptr @put)\n  ret i64 5\n",
-        NO_WRAPPER,
-    ),
-    Row(
-        END,
-        "  call void @lxfi.leave(ptr @put)\n  ret i64 %r\nb:\n  ret i64 5\n",
-        NO_WRAPPER,
-    ),
-    Row(
-        FIRST,
-        "  call void @lxfi.post(ptr @put, i32 0)\n",
-        NO_WRAPPER,
-    ),
-    Row(
-        LEAVE,
-        "  call void @lxfi.pre(ptr @put, i32 0)\n  call void @lxfi.leave(ptr @put)\n",
-        NO_WRAPPER,
-    ),
-];
+static UNFORMED: [Row; 15] = all_rows! { NO_WRAPPER;
+    ENTER "",
+    ENTER "  call void @lxfi.enter(ptr @put)\n  call void @lxfi.enter(ptr @put)\n",
+    ENTER "  call void @lxfi.enter(ptr @main)\n",
+    FIRST "  call void @lxfi.pre(ptr @main, i32 0)\n",
+    CALL "  %r = call i64 @main(ptr %0, ptr %1)\n",
+    CALL "  %r = call i64 @put(ptr %1, ptr %0)\n",
+    CALL "  %r = call i64 @put(ptr %0, ptr @g)\n",
+    LEAVE "",
+    LEAVE "  call void @lxfi.leave(ptr @put)\n  call void @lxfi.leave(ptr @put)\n",
+    LEAVE "  call void @lxfi.leave(ptr @main)\n",
+    LEAVE "  %x = add i64 %r, 1\n  call void @lxfi.leave(ptr @put)\n",
+    END "  call void @lxfi.leave(ptr @put)\n  ret i64 5\n",
+    END "  call void @lxfi.leave(ptr @put)\n  ret i64 %r\nb:\n  ret i64 5\n",
+    FIRST "  call void @lxfi.post(ptr @put, i32 0)\n",
+    LEAVE "  call void @lxfi.pre(ptr @put, i32 0)\n  call void @lxfi.leave(ptr @put)\n",
+};
 
 #[test]
 fn what_is_named_as_a_wrapper_has_the_form_of_one(rt: HostRuntime) -> Result<(), Fail> {

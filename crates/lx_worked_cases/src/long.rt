@@ -7,6 +7,28 @@ use std::test::Fail;
 /// `#` stands for the number, and `$` for the same in hexadecimal.
 pub type Part = (&'static str, u32, u32);
 
+/// The case of a call that copies so many references, each in seven units and three events, up to what the module owns of them.
+macro_rules! references {
+    ($why:literal, $count:literal, $fuel:literal, $events:literal) => {
+        (concat!("---- ", $why, "
+---- case
+lxfi case 1
+kernel file many.ll
+interface file many.txt
+module m files.ll
+thread
+call m:main ", $count, " fuel ", $fuel, "
+---- whole
+status 0
+schedule 0*", $events, "
+call 0.0 m:main returned
+image m guards 0 checks 0 wrappers 1
+owns m.shared call 0x10060
+owns m.shared call 0x10090
+"), 0, 1)
+    };
+}
+
 /// Calls through a slot, each of eight events; references that are copied, each in three events; a module that may call more
 /// functions than 12 bits count; and a function of more blocks than 16 bits count.
 static LONG: [Part; 20] = [
@@ -45,47 +67,9 @@ owns m[0x1000020] ref device 0x1000020
         0,
         1,
     ),
-    (
-        "---- 1,000 copied references
----- case
-lxfi case 1
-kernel file many.ll
-interface file many.txt
-module m files.ll
-thread
-call m:main 1000 fuel 7003
----- whole
-status 0
-schedule 0*3003
-call 0.0 m:main returned
-image m guards 0 checks 0 wrappers 1
-owns m.shared call 0x10060
-owns m.shared call 0x10090
-",
-        0,
-        1,
-    ),
+    references!("1,000 copied references", 1000, 7003, 3003),
     ("owns m.shared ref file 0x$\n", 0, 1000),
-    (
-        "---- 5,000 references of one type
----- case
-lxfi case 1
-kernel file many.ll
-interface file many.txt
-module m files.ll
-thread
-call m:main 5000 fuel 35003
----- whole
-status 0
-schedule 0*15003
-call 0.0 m:main returned
-image m guards 0 checks 0 wrappers 1
-owns m.shared call 0x10060
-owns m.shared call 0x10090
-",
-        0,
-        1,
-    ),
+    references!("5,000 references of one type", 5000, 35003, 15003),
     ("owns m.shared ref file 0x$\n", 0, 5000),
     (
         "---- 4,097 functions that one module may call
