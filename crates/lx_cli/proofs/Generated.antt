@@ -16,7 +16,7 @@ use Rattle.lx_cli.specs.declared.answer.Answer.{Answer}
 use Rattle.lx_cli.specs.declared.answer.Answer.TheVariants as answer
 use Rattle.lx_cli.specs.Rows.{status_of}
 use Rattle.lx_cli.specs.Told.{TellsInput}
-use Rattle.lx_cli.proofs.Statuses.{five_or}
+use Rattle.lx_cli.proofs.Answered.{five_or}
 
 -- words ask for no more calls than a case may have
 

@@ -1,3 +1,4 @@
+pub mod Answered
 pub mod Generated
 pub mod Judging
 pub mod Leaves

@@ -1,6 +1,5 @@
 -- When each status comes.
 use Rattle.std.proofs.Common.{◌≡◌, ◌≢◌, ◌∙◌, sym, ap, subst, refl, ◌⊎◌, inl, inr, ℕ, ◌≤◌, Bool, true, false, List, [], ◌∷◌, ◌++◌, Option, Some, None, Result, Ok, Err, if◌then◌else◌, arith}
-use Rattle.std.proofs.lemmas.Bool.{cases_lt}
 use Rattle.lx_model.specs.World.{opening, is_whole}
 use Rattle.lx_outside.specs.declared.file_text.FileText.{FileText}
 use Rattle.lx_outside.specs.Files.{file_at}
@@ -18,21 +17,8 @@ use Rattle.lx_cli.specs.declared.answer.Answer.{Answer}
 use Rattle.lx_cli.specs.declared.answer.Answer.TheVariants as answer
 use Rattle.lx_cli.specs.Rows.{NoNewFault, answer_text, status_of}
 use Rattle.lx_cli.specs.Told.{TellsInput}
+use Rattle.lx_cli.proofs.Answered.{Comes, broken_of, fault_met, fault_of, five_or, missing_met, no_fault_in, refused_of, same_input}
 use Rattle.lx_cli.proofs.Replays.{whole_unbroken}
-
--- a status that a sink took whole, or 5
-pub five_or : (r s : ℕ) → (r ≢ 5 → r ≡ s) → (r ≡ 5) ⊎ (r ≡ s)
-five_or r s is = elim (cases_lt r 5) [
-  | inl below ↦ inr (is (λ e. omega (arith, e, below)))
-  | inr least ↦ elim (cases_lt 5 r) [
-    | inl above ↦ inr (is (λ e. omega (arith, e, above)))
-    | inr most ↦ inl (omega (arith, least, most))
-  ]
-]
-
--- the status of an answer that was taken whole
-pub status_is : (r k s : ℕ) → (r ≢ 5 → r ≡ s) → r ≡ k → (k ≡ 5 → ⊥) → s ≡ k
-status_is r k s status is other = sym (status (λ five. other (sym is ∙ five))) ∙ is
 
 -- no command comes to nothing
 pub none_comes : (words : List (List ℕ)) (files : List FileText) (r : Result Input InputStop) → command_of words ≡ None → ComesTo words files r → ⊥
@@ -165,41 +151,20 @@ module _ (input_laws : OneInput) (missing_end : MissingFilesEnd) (words : List (
     abbrev Told : Answer → Type 0
     Told b = TellsInput (command_of words) (ComesTo words files) b
 
-    -- no fault stands where the files come to an input
-    no_fault_in : {X : Type 0} (i : Input) (f : FaultLine) → ComesTo words files (Ok i) → ComesTo words files (Err (stops.Fault f)) → X
-    no_fault_in i f is_i is_f = let no = one (Ok i) (Err (stops.Fault f)) is_i is_f tt tt in absurd cc
-
-    -- and the files come to one input
-    same_input : (i j : Input) → ComesTo words files (Ok i) → ComesTo words files (Ok j) → i ≡ j
-    same_input i j is_i is_j = let same : ◌≡◌ {A = Result Input InputStop} (Ok i) (Ok j) = one (Ok i) (Ok j) is_i is_j tt tt in cc
+    comes : (b : Answer) → Told b → Comes (ComesTo words files) b
+    comes (answer.Fault f) told = told
+    comes (answer.Unread file) told = told
+    comes (answer.Broken entry) told = (told.0, told.1)
+    comes (answer.Report text returned) told = (told.0, told.1)
+    comes (answer.Text text) told = (told.0, told.1)
+    comes answer.Accepted told = (told.0, told.1)
+    comes (answer.Refused f) told = (told.0, told.1)
 
     pub fault_comes : (f : FaultLine) → ComesTo words files (Err (stops.Fault f)) → (result ≡ 3) ⊎ (result ≡ 4) ⊎ (result ≡ 5) ⊎ (result ≡ 6)
-    fault_comes f comes = elim (five_or result (status_of a) status) [
-      | inl five ↦ inr (inr (inl five))
-      | inr same ↦ on a is same
-    ] where
-      on : (b : Answer) → Told b → result ≡ status_of b → (result ≡ 3) ⊎ (result ≡ 4) ⊎ (result ≡ 5) ⊎ (result ≡ 6)
-      on (answer.Fault g) is same = inl same
-      on (answer.Unread file) is same = inr (inl same)
-      on (answer.Broken entry) is same = no_fault_in is.0 f is.1 comes
-      on (answer.Report text returned) is same = no_fault_in is.0 f is.1 comes
-      on (answer.Text text) is same = no_fault_in is.0 f is.1 comes
-      on answer.Accepted is same = no_fault_in is.0 f is.1 comes
-      on (answer.Refused g) is same = no_fault_in is.0 f is.1 comes
+    fault_comes = fault_met (ComesTo words files) one a (comes a is) result status
 
     pub missing_comes : (file : List ℕ) → ComesTo words files (Err (stops.Unread file)) → file_at (files_by files (command_of words)) file ≡ None → (result ≡ 4) ⊎ (result ≡ 5) ⊎ (result ≡ 6)
-    missing_comes file comes gone = elim (five_or result (status_of a) status) [
-      | inl five ↦ inr (inl five)
-      | inr same ↦ on a is same
-    ] where
-      on : (b : Answer) → Told b → result ≡ status_of b → (result ≡ 4) ⊎ (result ≡ 5) ⊎ (result ≡ 6)
-      on (answer.Fault g) is same = absurd (ends file (Err (stops.Fault g)) comes gone is tt)
-      on (answer.Unread file) is same = inl same
-      on (answer.Broken entry) is same = absurd (ends file (Ok is.0) comes gone is.1 tt)
-      on (answer.Report text returned) is same = absurd (ends file (Ok is.0) comes gone is.1 tt)
-      on (answer.Text text) is same = absurd (ends file (Ok is.0) comes gone is.1 tt)
-      on answer.Accepted is same = absurd (ends file (Ok is.0) comes gone is.1 tt)
-      on (answer.Refused g) is same = absurd (ends file (Ok is.0) comes gone is.1 tt)
+    missing_comes = missing_met (ComesTo words files) one a (comes a is) result status (files_by files (command_of words)) ends
 
     pub broken_comes : (i : Input) (entry : ℕ) → ComesTo words files (Ok i) → BrokenBy (command_of words) i entry → (result ≡ 7) ⊎ (result ≡ 4) ⊎ (result ≡ 5) ⊎ (result ≡ 6)
     broken_comes i entry comes at = elim (five_or result (status_of a) status) [
@@ -207,10 +172,10 @@ module _ (input_laws : OneInput) (missing_end : MissingFilesEnd) (words : List (
       | inr same ↦ on a is same
     ] where
       there : (j : Input) → ComesTo words files (Ok j) → BrokenBy (command_of words) j entry
-      there j is_j = subst (λ (k : Input). BrokenBy (command_of words) k entry) (same_input i j comes is_j) at
+      there j is_j = subst (λ (k : Input). BrokenBy (command_of words) k entry) (same_input (ComesTo words files) one i j comes is_j) at
 
       on : (b : Answer) → Told b → result ≡ status_of b → (result ≡ 7) ⊎ (result ≡ 4) ⊎ (result ≡ 5) ⊎ (result ≡ 6)
-      on (answer.Fault g) is same = no_fault_in i g comes is
+      on (answer.Fault g) is same = no_fault_in (ComesTo words files) one i g comes is
       on (answer.Unread file) is same = inr (inl same)
       on (answer.Broken other) is same = inl same
       on (answer.Report text well) is same = absurd (made_not_broken (command_of words) is.0 well text entry is.2 (there is.0 is.1))
@@ -224,10 +189,10 @@ module _ (input_laws : OneInput) (missing_end : MissingFilesEnd) (words : List (
       | inr same ↦ on a is same
     ] where
       there : (j : Input) → ComesTo words files (Ok j) → RefusedBy (command_of words) j line
-      there j is_j = subst (λ (k : Input). RefusedBy (command_of words) k line) (same_input i j comes is_j) at
+      there j is_j = subst (λ (k : Input). RefusedBy (command_of words) k line) (same_input (ComesTo words files) one i j comes is_j) at
 
       on : (b : Answer) → Told b → result ≡ status_of b → (result ≡ 8) ⊎ (result ≡ 4) ⊎ (result ≡ 5) ⊎ (result ≡ 6)
-      on (answer.Fault g) is same = no_fault_in i g comes is
+      on (answer.Fault g) is same = no_fault_in (ComesTo words files) one i g comes is
       on (answer.Unread file) is same = inr (inl same)
       on (answer.Broken entry) is same = absurd (refused_not_broken (command_of words) is.0 line entry (there is.0 is.1) is.2)
       on (answer.Report text well) is same = absurd (made_not_refused (command_of words) is.0 well text line is.2 (there is.0 is.1))
@@ -239,10 +204,10 @@ module _ (input_laws : OneInput) (missing_end : MissingFilesEnd) (words : List (
         → ComesTo words files (Ok i) → NoNewFault before now words files → result ≢ 5 → EndedBy (command_of words) i result ⊎ (result ≡ 6)
     all_comes before now i grew comes no_fault not_5 = on a is grew (status not_5) where
       here : (j : Input) → ComesTo words files (Ok j) → EndedBy (command_of words) j result → EndedBy (command_of words) i result ⊎ (result ≡ 6)
-      here j is_j ended = inl (subst (λ (k : Input). EndedBy (command_of words) k result) (same_input j i is_j comes) ended)
+      here j is_j ended = inl (subst (λ (k : Input). EndedBy (command_of words) k result) (same_input (ComesTo words files) one j i is_j comes) ended)
 
       on : (b : Answer) → Told b → ((file : List ℕ) → b ≡ answer.Unread file → now ≡ before ++ file ∷ []) → result ≡ status_of b → EndedBy (command_of words) i result ⊎ (result ≡ 6)
-      on (answer.Fault g) is grew same = no_fault_in i g comes is
+      on (answer.Fault g) is grew same = no_fault_in (ComesTo words files) one i g comes is
       on (answer.Unread file) is grew same = absurd (no_fault (file ∷ []) file (grew file refl) (0, omega arith, refl) is)
       on (answer.Broken entry) is grew same = here is.0 is.1 (ended_broken (command_of words) is.0 entry result is.2 same)
       on (answer.Report text true) is grew same = here is.0 is.1 (ended_well (command_of words) is.0 text result is.2 same)
@@ -257,50 +222,24 @@ module _ (words : List (List ℕ)) (files : List FileText) where
   Tells a = TellsInput (command_of words) (ComesTo words files) a
 
   pub fault_told : (a : Answer) → Tells a → status_of a ≡ 3 → (f : FaultLine) × ComesTo words files (Err (stops.Fault f))
-  fault_told (answer.Fault f) is status = (f, is)
-  fault_told (answer.Unread file) is status = absurd cc
-  fault_told (answer.Broken entry) is status = absurd cc
-  fault_told (answer.Report text true) is status = absurd cc
-  fault_told (answer.Report text false) is status = absurd cc
-  fault_told (answer.Text text) is status = absurd cc
-  fault_told answer.Accepted is status = absurd cc
-  fault_told (answer.Refused f) is status = absurd cc
+  fault_told a is status = let fault = fault_of a status in (fault.0, subst Tells fault.1 is)
 
   pub broken_told : (a : Answer) → Tells a → status_of a ≡ 7 → (i : Input) × (entry : ℕ) × ComesTo words files (Ok i) × BrokenBy (command_of words) i entry
-  broken_told (answer.Fault f) is status = absurd cc
-  broken_told (answer.Unread file) is status = absurd cc
-  broken_told (answer.Broken entry) is status = (is.0, entry, is.1, is.2)
-  broken_told (answer.Report text true) is status = absurd cc
-  broken_told (answer.Report text false) is status = absurd cc
-  broken_told (answer.Text text) is status = absurd cc
-  broken_told answer.Accepted is status = absurd cc
-  broken_told (answer.Refused f) is status = absurd cc
+  broken_told a is status =
+      let broken = broken_of a status in
+      let told = subst Tells broken.1 is in
+      (told.0, broken.0, told.1, told.2)
 
   pub refused_told : (a : Answer) → Tells a → status_of a ≡ 8 → (i : Input) × (line : FaultLine) × ComesTo words files (Ok i) × RefusedBy (command_of words) i line
-  refused_told (answer.Fault f) is status = absurd cc
-  refused_told (answer.Unread file) is status = absurd cc
-  refused_told (answer.Broken entry) is status = absurd cc
-  refused_told (answer.Report text true) is status = absurd cc
-  refused_told (answer.Report text false) is status = absurd cc
-  refused_told (answer.Text text) is status = absurd cc
-  refused_told answer.Accepted is status = absurd cc
-  refused_told (answer.Refused f) is status = (is.0, f, is.1, is.2)
+  refused_told a is status =
+      let refused = refused_of a status in
+      let told = subst Tells refused.1 is in
+      (told.0, refused.0, told.1, told.2)
 
   pub unread_told : (a : Answer) (file : List ℕ) → a ≡ answer.Unread file → Tells a → ComesTo words files (Err (stops.Unread file))
   unread_told a file is told = subst Tells is told
 
--- the file that was not read
-pub unread_of : (a : Answer) → status_of a ≡ 4 → (file : List ℕ) × (a ≡ answer.Unread file)
-unread_of (answer.Fault f) status = absurd cc
-unread_of (answer.Unread file) status = (file, refl)
-unread_of (answer.Broken entry) status = absurd cc
-unread_of (answer.Report text true) status = absurd cc
-unread_of (answer.Report text false) status = absurd cc
-unread_of (answer.Text text) status = absurd cc
-unread_of answer.Accepted status = absurd cc
-unread_of (answer.Refused f) status = absurd cc
-
--- and what is written is the line about it
+-- what is written about a file that was not read is the line about it
 pub unread_written : (a : Answer) (file text told : List ℕ) (now : Option (List ℕ)) → a ≡ answer.Unread file → text ≡ answer_text a → now ≡ Some (told ++ text) → now ≡ Some (told ++ unread_line file)
 unread_written a file text told now is same gained =
     let line : text ≡ unread_line file = same ∙ ap answer_text is in

@@ -15,8 +15,8 @@ use Rattle.lx_cli.specs.Command.{CommandTurn, Replay, Run, asked_of}
 use Rattle.lx_cli.specs.Rows.{status_of}
 use Rattle.lx_cli.specs.declared.answer.Answer.{Answer}
 use Rattle.lx_cli.specs.declared.answer.Answer.TheVariants as answer
+use Rattle.lx_cli.proofs.Answered.{Comes, broken_of, fault_met, fault_of, five_or, missing_met, no_fault_in, same_input}
 use Rattle.lx_cli.proofs.Replays.{whole_unbroken}
-use Rattle.lx_cli.proofs.Statuses.{five_or}
 use Rattle.lx_trace.specs.Traced.{IsReplayed, NoNewFault, TellsTraceOf, TellsTraced, run_of}
 
 -- a trace is of a whole schedule
@@ -39,36 +39,21 @@ ended i text returned result (asked, fits, traced) is = record {
 -- what each status tells, whatever the files come to
 module _ (turn : Result Input InputStop → Type 0) where
   pub fault_told : (a : Answer) → TellsTraced turn a → status_of a ≡ 3 → (f : FaultLine) × turn (Err (stops.Fault f))
-  fault_told (answer.Fault f) is status = (f, is)
-  fault_told (answer.Unread file) is status = absurd cc
-  fault_told (answer.Broken entry) is status = absurd cc
-  fault_told (answer.Report text true) is status = absurd cc
-  fault_told (answer.Report text false) is status = absurd cc
-  fault_told (answer.Text text) is status = absurd cc
-  fault_told answer.Accepted is status = absurd cc
-  fault_told (answer.Refused f) is status = absurd cc
+  fault_told a is status = let fault = fault_of a status in (fault.0, subst (TellsTraced turn) fault.1 is)
 
   pub broken_told : (case : List ℕ) (schedule : Option (List ℕ)) (a : Answer) → IsReplayed (run_of case schedule) turn a → status_of a ≡ 7 → (i : Input) × (entry : ℕ) × turn (Ok i) × IsBroken i entry
-  broken_told case None (answer.Broken entry) is status = absurd is.2
-  broken_told case (Some schedule) (answer.Broken entry) is status = (is.0, entry, is.1, is.2)
-  broken_told case o (answer.Fault f) is status = absurd cc
-  broken_told case o (answer.Unread file) is status = absurd cc
-  broken_told case o (answer.Report text true) is status = absurd cc
-  broken_told case o (answer.Report text false) is status = absurd cc
-  broken_told case o (answer.Text text) is status = absurd cc
-  broken_told case o answer.Accepted is status = absurd cc
-  broken_told case o (answer.Refused f) is status = absurd cc
+  broken_told case schedule a is status =
+      let broken = broken_of a status in
+      let told = subst (IsReplayed (run_of case schedule) turn) broken.1 is in
+      (told.0, broken.0, told.1, replayed schedule told.0 broken.0 told.2)
+    where
+      replayed : (o : Option (List ℕ)) (i : Input) (entry : ℕ) → BrokenBy (Some (run_of case o)) i entry → IsBroken i entry
+      replayed None i entry is = absurd is
+      replayed (Some s) i entry is = is
 
   -- the schedule of a run is whole
   pub whole_told : (case : List ℕ) (a : Answer) → IsReplayed (Run case) turn a → status_of a ≡ 7 → ⊥
-  whole_told case (answer.Broken entry) is status = is.2
-  whole_told case (answer.Fault f) is status = absurd cc
-  whole_told case (answer.Unread file) is status = absurd cc
-  whole_told case (answer.Report text true) is status = absurd cc
-  whole_told case (answer.Report text false) is status = absurd cc
-  whole_told case (answer.Text text) is status = absurd cc
-  whole_told case answer.Accepted is status = absurd cc
-  whole_told case (answer.Refused f) is status = absurd cc
+  whole_told case a is status = (subst (IsReplayed (Run case) turn) (broken_of a status).1 is).2
 
   pub unread_told : (a : Answer) (file : List ℕ) → a ≡ answer.Unread file → TellsTraced turn a → turn (Err (stops.Unread file))
   unread_told a file is told = subst (TellsTraced turn) is told
@@ -101,14 +86,6 @@ turn_ends ends files case (Some schedule) = ends files case (asked_of (Replay ca
 
 -- of what the files come to, which is settled
 module _ (files : List FileText) (turn : Result Input InputStop → Type 0) (one : IsOne turn) (ends : EndsAt files turn) where
-  -- no fault stands where the files come to an input
-  no_fault_in : {X : Type 0} (i : Input) (f : FaultLine) → turn (Ok i) → turn (Err (stops.Fault f)) → X
-  no_fault_in i f is_i is_f = let no = one (Ok i) (Err (stops.Fault f)) is_i is_f tt tt in absurd cc
-
-  -- and the files come to one input
-  same_input : (i j : Input) → turn (Ok i) → turn (Ok j) → i ≡ j
-  same_input i j is_i is_j = let same : ◌≡◌ {A = Result Input InputStop} (Ok i) (Ok j) = one (Ok i) (Ok j) is_i is_j tt tt in cc
-
   -- how a run ends, or a replay
 
   ended_well : (case : List ℕ) (schedule : Option (List ℕ)) (i : Input) (result : ℕ) → HasEnded i result → EndedBy (Some (run_of case schedule)) i result
@@ -120,33 +97,20 @@ module _ (files : List FileText) (turn : Result Input InputStop → Type 0) (one
   ended_broken case (Some schedule) i entry result is status = inr (status, entry, is)
 
   module _ (a : Answer) (is : TellsTraced turn a) (result : ℕ) (status : result ≢ 5 → result ≡ status_of a) where
+    comes : (b : Answer) → TellsTraced turn b → Comes turn b
+    comes (answer.Fault f) told = told
+    comes (answer.Unread file) told = told
+    comes (answer.Broken entry) told = (told.0, told.1)
+    comes (answer.Report text returned) told = (told.0, told.1)
+    comes (answer.Text text) told = (told.0, told.1)
+    comes answer.Accepted told = (told.0, told.1)
+    comes (answer.Refused f) told = (told.0, told.1)
+
     pub fault_comes : (f : FaultLine) → turn (Err (stops.Fault f)) → (result ≡ 3) ⊎ (result ≡ 4) ⊎ (result ≡ 5) ⊎ (result ≡ 6)
-    fault_comes f comes = elim (five_or result (status_of a) status) [
-      | inl five ↦ inr (inr (inl five))
-      | inr same ↦ on a is same
-    ] where
-      on : (b : Answer) → TellsTraced turn b → result ≡ status_of b → (result ≡ 3) ⊎ (result ≡ 4) ⊎ (result ≡ 5) ⊎ (result ≡ 6)
-      on (answer.Fault g) is same = inl same
-      on (answer.Unread file) is same = inr (inl same)
-      on (answer.Broken entry) is same = no_fault_in is.0 f is.1 comes
-      on (answer.Report text returned) is same = no_fault_in is.0 f is.1 comes
-      on (answer.Text text) is same = absurd is.2
-      on answer.Accepted is same = absurd is.2
-      on (answer.Refused g) is same = absurd is.2
+    fault_comes = fault_met turn one a (comes a is) result status
 
     pub missing_comes : (file : List ℕ) → turn (Err (stops.Unread file)) → file_at files file ≡ None → (result ≡ 4) ⊎ (result ≡ 5) ⊎ (result ≡ 6)
-    missing_comes file comes gone = elim (five_or result (status_of a) status) [
-      | inl five ↦ inr (inl five)
-      | inr same ↦ on a is same
-    ] where
-      on : (b : Answer) → TellsTraced turn b → result ≡ status_of b → (result ≡ 4) ⊎ (result ≡ 5) ⊎ (result ≡ 6)
-      on (answer.Fault g) is same = absurd (ends file (Err (stops.Fault g)) comes gone is tt)
-      on (answer.Unread file) is same = inl same
-      on (answer.Broken entry) is same = absurd (ends file (Ok is.0) comes gone is.1 tt)
-      on (answer.Report text returned) is same = absurd (ends file (Ok is.0) comes gone is.1 tt)
-      on (answer.Text text) is same = absurd is.2
-      on answer.Accepted is same = absurd is.2
-      on (answer.Refused g) is same = absurd is.2
+    missing_comes = missing_met turn one a (comes a is) result status files ends
 
     pub broken_comes : (i : Input) (entry : ℕ) → turn (Ok i) → IsBroken i entry → (result ≡ 7) ⊎ (result ≡ 4) ⊎ (result ≡ 5) ⊎ (result ≡ 6)
     broken_comes i entry comes at = elim (five_or result (status_of a) status) [
@@ -154,11 +118,11 @@ module _ (files : List FileText) (turn : Result Input InputStop → Type 0) (one
       | inr same ↦ on a is same
     ] where
       on : (b : Answer) → TellsTraced turn b → result ≡ status_of b → (result ≡ 7) ⊎ (result ≡ 4) ⊎ (result ≡ 5) ⊎ (result ≡ 6)
-      on (answer.Fault g) is same = no_fault_in i g comes is
+      on (answer.Fault g) is same = no_fault_in turn one i g comes is
       on (answer.Unread file) is same = inr (inl same)
       on (answer.Broken other) is same = inl same
       on (answer.Report text returned) is same =
-          absurd (trace_is_whole is.0 text returned entry is.2 (subst (λ (j : Input). IsBroken j entry) (same_input i is.0 comes is.1) at))
+          absurd (trace_is_whole is.0 text returned entry is.2 (subst (λ (j : Input). IsBroken j entry) (same_input turn one i is.0 comes is.1) at))
       on (answer.Text text) is same = absurd is.2
       on answer.Accepted is same = absurd is.2
       on (answer.Refused g) is same = absurd is.2
@@ -171,10 +135,10 @@ module _ (files : List FileText) (turn : Result Input InputStop → Type 0) (one
       Ends j = EndedBy (Some (run_of case schedule)) j result
 
       here : (j : Input) → turn (Ok j) → Ends j → Ends i ⊎ (result ≡ 6)
-      here j is_j ends = inl (subst Ends (same_input j i is_j comes) ends)
+      here j is_j ends = inl (subst Ends (same_input turn one j i is_j comes) ends)
 
       on : (b : Answer) → TellsTraced turn b → IsReplayed (run_of case schedule) turn b → ((file : List ℕ) → b ≡ answer.Unread file → now ≡ before ++ file ∷ []) → result ≡ status_of b → Ends i ⊎ (result ≡ 6)
-      on (answer.Fault g) is replayed grew same = no_fault_in i g comes is
+      on (answer.Fault g) is replayed grew same = no_fault_in turn one i g comes is
       on (answer.Unread file) is replayed grew same = absurd (no_fault (file ∷ []) file (grew file refl) (0, omega arith, refl) is)
       on (answer.Broken entry) is replayed grew same = here replayed.0 replayed.1 (ended_broken case schedule replayed.0 entry result replayed.2 same)
       on (answer.Report text true) is replayed grew same = here is.0 is.1 (ended_well case schedule is.0 result (ended is.0 text true result is.2 same))

@@ -2,9 +2,10 @@ use Rattle.std.proofs.Common.{◌≡◌, ◌∙◌, ◌≢◌, ◌⊎◌, inl, i
 use Rattle.lx_input.specs.Files.InputStop.TheVariants as stops
 use Rattle.lx_cli.specs.Command.{ComesTo, UntoldTurn, command_of, texts}
 use Rattle.lx_cli.specs.Rows.{status_of}
+use Rattle.lx_cli.proofs.Answered.{five_or, status_is, unread_of}
 use Rattle.lx_cli.proofs.Generated.{ends_well, few_calls}
 use Rattle.lx_cli.proofs.Written.{by_words, untold_by_words, usage_wrote, usage_short, answer_wrote, answer_short, answer_headline}
-use Rattle.lx_cli.proofs.Statuses.{none_comes, fault_comes, missing_comes, broken_comes, all_comes, refused_comes, fault_told, broken_told, refused_told, unread_of, run_is_whole, status_is, unread_told, five_or, few_statuses, unread_written, no_two, no_command, said_is}
+use Rattle.lx_cli.proofs.Statuses.{none_comes, fault_comes, missing_comes, broken_comes, all_comes, refused_comes, fault_told, broken_told, refused_told, run_is_whole, unread_told, few_statuses, unread_written, no_two, no_command, said_is}
 use Rattle.lx_cli.proofs.top.lxfi.Goals as goal
 
 -- no command

@@ -6,7 +6,8 @@ use Rattle.lx_input.specs.declared.input.Input.{Input}
 use Rattle.lx_cli.specs.Answer.{EndedBy, IsBroken}
 use Rattle.lx_cli.specs.Command.{Command, CommandTurn, Run, UntoldTurn, texts}
 use Rattle.lx_cli.specs.Rows.{status_of}
-use Rattle.lx_cli.proofs.Statuses.{five_or, no_two, status_is, unread_of, unread_written}
+use Rattle.lx_cli.proofs.Answered.{five_or, status_is, unread_of}
+use Rattle.lx_cli.proofs.Statuses.{no_two, unread_written}
 use Rattle.lx_trace.specs.Traced.{IsReplayed, NoNewFault, asked_trace, traced_by, usage_line}
 use Rattle.lx_trace.proofs.Statuses.{all_comes, broken_comes, broken_told, fault_comes, fault_told, few_statuses, missing_comes, one_turn, turn_ends, unread_told, whole_told}
 use Rattle.lx_trace.proofs.Telling.{is_told, none_asked, none_told}
