@@ -5,5 +5,6 @@ pub mod Made
 pub mod Ran
 pub mod Replays
 pub mod Reported
+pub mod Walked
 pub mod Wholes
 pub mod Certifying

@@ -1,18 +1,14 @@
 -- A run whose events are gathered, entry by entry of its schedule.
-use Rattle.std.proofs.Common.{◌≡◌, ◌∙◌, sym, ap, subst, ℕ, ◌+◌, ◌<◌, ◌≤◌, true, false, List, [], ◌∷◌, ◌++◌, append_assoc, length, drop, take, get_or, Option, Some, None, option_map}
+use Rattle.std.proofs.Common.{◌≡◌, ◌∙◌, sym, ap, subst, ℕ, ◌+◌, ◌<◌, ◌≤◌, true, List, [], ◌∷◌, ◌++◌, append_assoc, length, take, get_or, Option, Some}
 use Rattle.std.specs.Option.{option_to_list}
-use Rattle.std.proofs.lemmas.List.{drop_all, drop_more, take_all, take_more}
+use Rattle.std.proofs.lemmas.List.{take_all, take_more}
 use mathlib.Core.List.{append-nil}
 use Rattle.lx_caps.specs.History.{History}
 use Rattle.lx_model.specs.declared.program.Program.{Program}
 use Rattle.lx_model.specs.declared.program.ScriptCall.{ScriptCall}
-use Rattle.lx_model.specs.World.{World, can_act, event, is_done, opening, run}
-use Rattle.lx_model.proofs.Turns.{run_more}
-use Rattle.lx_runs.specs.Reports.{broken_at}
-use Rattle.lx_runs.proofs.Replays.{at_end, done_end, here, more as on}
-use Rattle.lx_runs.proofs.Wholes.{end_if, entry_if}
+use Rattle.lx_model.specs.World.{World, can_act, event, opening, run}
+use Rattle.lx_runs.proofs.Walked.{IsBrokenBehind, none_done, one_done}
 use Rattle.lx_trace_text.specs.declared.Traced.{Traced}
-use Rattle.lx_runs.proofs.Certifying.{none_added}
 use Rattle.lx_trace.specs.Run.{IsOfRun, StandsForTrace}
 use Rattle.lx_trace.specs.Trace.{behind, trace, traced_at}
 use Rattle.lx_trace.specs.declared.run.TraceRun.{TraceRun}
@@ -28,22 +24,11 @@ trace_more p (u ∷ s) t w =
 pub record HasGathered {C : Type 0} (stands : C → History → Type 0) (p : Program) (script : List (List ScriptCall)) (s : List ℕ) (n : ℕ) (r : TraceRun C) (events : List Traced) : Type 0 where
   pub stands_for : StandsForTrace stands p script (take n s) r
   pub gathered : events ≡ trace p (take n s) (opening p script)
-  pub broken : broken_at p s (opening p script) ≡ option_map (λ k. n + k) (broken_at p (drop n s) (behind p script (take n s)))
+  pub broken : IsBrokenBehind p script s n
 
 -- none is done
 pub none_gathered : {C : Type 0} (stands : C → History → Type 0) (p : Program) (script : List (List ScriptCall)) (s : List ℕ) (r : TraceRun C) (events : List Traced) → events ≡ [] → StandsForTrace stands p script [] r → HasGathered stands p script s 0 r events
-none_gathered stands p script s r events empty st = record { stands_for = st; gathered = empty; broken = none_added (broken_at p s (opening p script)) }
-
--- what is broken at the entry that comes, or behind it
-broken_from : (p : Program) (script : List (List ScriptCall)) (s : List ℕ) (n : ℕ) → n < length s
-    → broken_at p s (opening p script) ≡ option_map (λ k. n + k) (broken_at p (drop n s) (behind p script (take n s)))
-    → broken_at p s (opening p script) ≡ option_map (λ k. n + k) (entry_if (can_act (behind p script (take n s)) (get_or s n 0)) (broken_at p (drop (n + 1) s) (event p (get_or s n 0) (behind p script (take n s)))))
-broken_from p script s n below broken =
-    broken ∙ ap (λ (ts : List ℕ). option_map (λ k. n + k) (broken_at p ts (behind p script (take n s)))) (drop_more s n 0 below)
-
--- the world behind the entry that comes
-behind_more : (p : Program) (script : List (List ScriptCall)) (s : List ℕ) (n : ℕ) → n < length s → behind p script (take (n + 1) s) ≡ event p (get_or s n 0) (behind p script (take n s))
-behind_more p script s n below = ap (behind p script) (take_more s n 0 below) ∙ run_more p (take n s) (get_or s n 0) (opening p script)
+none_gathered stands p script s r events empty st = record { stands_for = st; gathered = empty; broken = none_done p script s }
 
 -- an entry that is done has its event
 pub one_gathered : {C : Type 0} (stands : C → History → Type 0) (p : Program) (script : List (List ScriptCall)) (s : List ℕ) (n : ℕ) (old new : TraceRun C) (events more : List Traced) (e : Traced) → n < length s
@@ -60,33 +45,10 @@ one_gathered stands p script s n old new events more e below has works st is pus
           ∙ ap (λ (o : Option Traced). trace p (take n s) (opening p script) ++ option_to_list o) (sym is)
           ∙ sym (trace_more p (take n s) t (opening p script))
           ∙ ap (λ (ts : List ℕ). trace p ts (opening p script)) (sym taken);
-      broken =
-          broken_from p script s n below has.broken
-          ∙ on (can_act (behind p script (take n s)) t) n (broken_at p (drop (n + 1) s) (event p t (behind p script (take n s)))) works
-          ∙ sym (ap (λ (w : World). option_map (λ k. n + 1 + k) (broken_at p (drop (n + 1) s) w)) (behind_more p script s n below));
+      broken = one_done p script s n below has.broken works;
     }
 
--- one whose thread has no work breaks the schedule
-pub broken_here : {C : Type 0} (stands : C → History → Type 0) (p : Program) (script : List (List ScriptCall)) (s : List ℕ) (n : ℕ) (r : TraceRun C) (events : List Traced) → n < length s
-    → HasGathered stands p script s n r events → can_act (behind p script (take n s)) (get_or s n 0) ≡ false → broken_at p s (opening p script) ≡ Some n
-broken_here stands p script s n r events below has idle =
-    broken_from p script s n below has.broken ∙ here (can_act (behind p script (take n s)) (get_or s n 0)) n (broken_at p (drop (n + 1) s) (event p (get_or s n 0) (behind p script (take n s)))) idle
-
--- behind the last entry
-
-broken_last : (p : Program) (script : List (List ScriptCall)) (s : List ℕ) (n : ℕ) → length s ≤ n
-    → broken_at p s (opening p script) ≡ option_map (λ k. n + k) (broken_at p (drop n s) (behind p script (take n s)))
-    → broken_at p s (opening p script) ≡ option_map (λ k. n + k) (end_if (is_done (behind p script (take n s))))
-broken_last p script s n past broken = broken ∙ ap (λ (ts : List ℕ). option_map (λ k. n + k) (broken_at p ts (behind p script (take n s)))) (drop_all n s past)
-
-pub work_left : {C : Type 0} (stands : C → History → Type 0) (p : Program) (script : List (List ScriptCall)) (s : List ℕ) (n : ℕ) (r : TraceRun C) (events : List Traced) → length s ≤ n
-    → HasGathered stands p script s n r events → is_done (behind p script (take n s)) ≡ false → broken_at p s (opening p script) ≡ Some n
-work_left stands p script s n r events past has work = broken_last p script s n past has.broken ∙ at_end (is_done (behind p script (take n s))) n work
-
-pub none_left : {C : Type 0} (stands : C → History → Type 0) (p : Program) (script : List (List ScriptCall)) (s : List ℕ) (n : ℕ) (r : TraceRun C) (events : List Traced) → length s ≤ n
-    → HasGathered stands p script s n r events → is_done (behind p script (take n s)) ≡ true → broken_at p s (opening p script) ≡ None
-none_left stands p script s n r events past has done = broken_last p script s n past has.broken ∙ done_end (is_done (behind p script (take n s))) n done
-
+-- behind the last entry all are
 pub all_gathered : {C : Type 0} (stands : C → History → Type 0) (p : Program) (script : List (List ScriptCall)) (s : List ℕ) (n : ℕ) (r : TraceRun C) (events : List Traced) → length s ≤ n
     → HasGathered stands p script s n r events → IsOfRun stands p script s r × (events ≡ trace p s (opening p script))
 all_gathered stands p script s n r events past has =

@@ -2,8 +2,9 @@ use Rattle.std.proofs.Common.{◌≡◌, ◌∙◌, sym, ap, false, length, take
 use Rattle.std.proofs.lemmas.Bool.{true_from_ne_false}
 use Rattle.lx_model.specs.World.{can_act}
 use Rattle.lx_world.specs.declared.fault.EventFault.{EventFault}
+use Rattle.lx_runs.proofs.Walked.{broken_here, none_left, work_left}
 use Rattle.lx_trace.specs.Trace.{behind}
-use Rattle.lx_trace.proofs.Gathering.{all_gathered, broken_here, none_gathered, none_left, one_gathered, work_left}
+use Rattle.lx_trace.proofs.Gathering.{all_gathered, none_gathered, one_gathered}
 use Rattle.lx_trace.proofs.input.gather.Goals as goal
 
 pub loop-entry-init : goal.loop-entry-init
@@ -17,7 +18,7 @@ returns-in-Err-NoWork-clause-broken g c = λ p script st.
     let fault = c.in-Err-NoWork.field-0-is in
     let number = c.in-Err-NoWork.ensures.number c.in-Err-NoWork.field-0-0 (ap Err fault) in
     let idle : can_act (behind p script (take n s)) (get_or s n 0) ≡ false = (c.in-Err-NoWork.ensures.no_work p script (take n s) has.stands_for).0 (ap Err (fault ∙ ap EventFault.NoWork number)) in
-    sym (broken_here _ p script s n c.loop-entry.run c.loop-entry.out.items c.loop-entry-test.true has idle)
+    sym (broken_here p script s n c.loop-entry-test.true has.broken idle)
 
 pub loop-entry-preserved : goal.loop-entry-preserved
 loop-entry-preserved g c = λ p script st.
@@ -33,7 +34,7 @@ returns-then-done-clause-broken g c = λ p script st.
     let s = c.args.schedule.now in
     let n = c.loop-entry.entry in
     let has = c.loop-entry.invariant p script st in
-    sym (none_left _ p script s n c.loop-entry.run c.loop-entry.out.items c.loop-entry-test.false has (sym (c.done.ensures p script (take n s) has.stands_for.of_run) ∙ c.if-done.true))
+    sym (none_left p script s n c.loop-entry-test.false has.broken (sym (c.done.ensures p script (take n s) has.stands_for.of_run) ∙ c.if-done.true))
 
 pub returns-then-done-clause-whole : goal.returns-then-done-clause-whole
 returns-then-done-clause-whole g c = λ p script st none.
@@ -47,4 +48,4 @@ returns-else-done-clause-broken g c = λ p script st.
     let n = c.loop-entry.entry in
     let has = c.loop-entry.invariant p script st in
     let ended : length s ≡ n = omega (arith, c.loop-entry-test.false, c.loop-entry.auto.entry-end) in
-    ap Some ended ∙ sym (work_left _ p script s n c.loop-entry.run c.loop-entry.out.items c.loop-entry-test.false has (sym (c.done.ensures p script (take n s) has.stands_for.of_run) ∙ c.if-done.false))
+    ap Some ended ∙ sym (work_left p script s n c.loop-entry-test.false has.broken (sym (c.done.ensures p script (take n s) has.stands_for.of_run) ∙ c.if-done.false))
