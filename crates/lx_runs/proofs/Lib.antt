@@ -2,6 +2,7 @@ pub mod Formed
 pub mod Imaged
 pub mod Journal
 pub mod Made
+pub mod Opening
 pub mod Ran
 pub mod Replays
 pub mod Reported

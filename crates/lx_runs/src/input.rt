@@ -3,6 +3,7 @@ ghost use Rattle.std.specs.Prelude.{[], IfOk};
 ghost use Rattle.lx_input.specs.Laws.{IsReady};
 ghost use Rattle.lx_runs.specs.Reports.{IsAccountOfRun, TellsRun};
 
+use crate::images::Guarding;
 use crate::open::{Opened, open_input};
 use crate::run::{Host, account_opened, run_opened};
 use crate::told::Told;
@@ -29,7 +30,7 @@ fn run_over<C: CapStore + Drop + Send, R: Threads + Wait + Sync, G: Gate + Sync>
         world,
         schedule,
         images,
-    } = open_input(host.alloc, input, caps)?;
+    } = open_input(host.alloc, input, Guarding::Spared, caps)?;
     run_opened(host, world, schedule, images)
 }
 
@@ -47,7 +48,7 @@ fn account_over<C: CapStore + Drop + Send, R: Threads + Wait + Sync, G: Gate + S
         world,
         schedule,
         images,
-    } = open_input(host.alloc, input, caps)?;
+    } = open_input(host.alloc, input, Guarding::Spared, caps)?;
     drop(schedule);
     account_opened(host, world, images)
 }

@@ -21,6 +21,7 @@ mod why;
 
 pub use images::{Guarding, images_of_program};
 pub use input::{account_input, run_input};
+pub use open::{Opened, open_input};
 pub use report::all_returned;
 pub use run::Host;
 pub use told::Told;

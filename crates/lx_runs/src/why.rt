@@ -1,30 +1,26 @@
 //! The certificates of an input that is replayed.
-ghost use Rattle.std.specs.Prelude.{◌≡◌, ◌≤◌, ◌++◌, ◌∷◌, [], All, ℕ, IfOk, List, None, OnOk, Some, is_some, length, map, true};
-ghost use Rattle.lx_annotation_tables.specs.Entries.{all_annotated};
-ghost use Rattle.lx_input.specs.Laws.{HasNoConflict, IsReady};
-ghost use Rattle.lx_link_texts.specs.WellFormed.{IsWellFormed};
+ghost use Rattle.std.specs.Prelude.{◌≡◌, ◌++◌, [], ℕ, IfOk, List, None, OnOk, Some, is_some, map, true};
+ghost use Rattle.lx_input.specs.Laws.{IsReady};
 ghost use Rattle.lx_model.specs.World.{opening};
 ghost use Rattle.lx_model.specs.declared.program.Program.{Program};
-ghost use Rattle.lx_model.specs.declared.program.ProgramModule.{ProgramModule};
 ghost use Rattle.lx_model.specs.declared.program.ScriptCall.{ScriptCall};
 ghost use Rattle.lx_runs.specs.Reports.{broken_at};
 ghost use Rattle.lx_runs.specs.Whys.{TellsWhy};
 ghost use Rattle.lx_why.specs.Certified.{AreCertified, certified};
+ghost use Rattle.lx_why.specs.Opened.{IsFullOpening};
 ghost use Rattle.lx_why.specs.Run.{StandsForWhy};
 ghost use Rattle.lx_why.specs.Why.{behind, certified_text};
 
-use crate::images::{Guarding, images_of_program};
+use crate::images::Guarding;
+use crate::open::{Opened, open_input};
 use lx_cap_tables::CapTables;
 use lx_caps::CapStore;
 use lx_certificates::Certs;
-use lx_input::{Besides, Input};
-use lx_model::program::{Calls, Program};
-use lx_opening::OpenFault;
-use lx_slot_types::Annotated;
+use lx_input::Input;
 use lx_why::{Logged, WhyRun};
 use lx_why_text::{Certified, why_text};
-use lx_words::{Memory, Name, Schedule};
-use lx_world::EventFault;
+use lx_words::{Memory, Name};
+use lx_world::{EventFault, World};
 use std::alloc::Global;
 
 /// What is certified of a run under a schedule.
@@ -35,35 +31,6 @@ pub enum Why {
     Broken(u64),
     /// The acts, and the certificates of each event.
     Text(Name),
-}
-
-/// The run of a program's images in which each store has its guard, before its first event.
-fn open_why<C: CapStore + Drop>(
-    alloc: Global,
-    program: Program,
-    script: &[Calls],
-    annotated: &[Annotated],
-    caps: C,
-) -> Result<WhyRun<C>, Memory>
-    requires formed { IsWellFormed program }
-    requires few { length script.now ≤ 16 }
-    requires annotated { annotated.now ≡ all_annotated program }
-    requires agree { All (λ (m : ProgramModule). HasNoConflict program.interface m.«module») program.modules }
-    requires new { C.stands caps [] }
-    ensures { IfOk result (λ run. StandsForWhy ⟦<Logged<C> as CapStore>⟧.stands program script.now [] run) }
-{
-    match images_of_program(alloc, &program, annotated, Guarding::Full) {
-        Ok(images) => match WhyRun::open(alloc, program, images, script, annotated, caps) {
-            Ok(run) => Ok(run),
-            Err(OpenFault::Memory) => Err(Memory),
-            Err(OpenFault::ImageDiffers { .. }) => unreachable!(),
-        },
-        Err(why) => {
-            drop(program);
-            drop(caps);
-            Err(why)
-        }
-    }
 }
 
 /// Adds the certificates of an event.
@@ -154,60 +121,20 @@ fn why_of<C: CapStore + Drop>(
     }
 }
 
-/// The same of a run that is given up behind it.
+/// The same of the run of a world that is opened, which is given up behind it.
 fn why_opened<C: CapStore + Drop>(
     alloc: Global,
-    mut run: WhyRun<C>,
-    schedule: Schedule,
+    world: World<Logged<C>>,
+    schedule: &[u32],
 ) -> Result<Why, Memory>
-    requires { (p : Program) × (script : List (List ScriptCall)) × StandsForWhy ⟦<Logged<C> as CapStore>⟧.stands p script [] run }
-    ensures { IfOk result (λ why. (p : Program) (script : List (List ScriptCall)) → StandsForWhy ⟦<Logged<C> as CapStore>⟧.stands p script [] run → TellsWhy p script (Some schedule) why) }
+    requires { (p : Program) × (script : List (List ScriptCall)) × IsFullOpening ⟦<Logged<C> as CapStore>⟧.stands p script world }
+    ensures { IfOk result (λ why. (p : Program) (script : List (List ScriptCall)) → IsFullOpening ⟦<Logged<C> as CapStore>⟧.stands p script world
+        → TellsWhy p script (Some schedule.now) why) }
 {
-    let why = why_of(alloc, &mut run, schedule.as_slice());
+    let mut run = WhyRun::over(alloc, world)?;
+    let why = why_of(alloc, &mut run, schedule);
     drop(run);
-    drop(schedule);
     why
-}
-
-/// The run of an input over a store of capabilities, and the schedule that is asked for.
-fn open_input<C: CapStore + Drop>(
-    alloc: Global,
-    input: Input,
-    caps: C,
-) -> Result<(WhyRun<C>, Option<Schedule>), Memory>
-    requires ready { IsReady input }
-    requires new { C.stands caps [] }
-    ensures run { IfOk result (λ opened. StandsForWhy ⟦<Logged<C> as CapStore>⟧.stands input.program input.script [] opened.0) }
-    ensures schedule { IfOk result (λ opened. opened.1 ≡ input.besides.schedule) }
-{
-    let Input {
-        program,
-        script,
-        annotated,
-        besides,
-    } = input;
-    let Besides {
-        number: _,
-        schedule,
-        image,
-    } = besides;
-    drop(image);
-    let run = open_why(
-        alloc,
-        program,
-        script.as_slice(),
-        annotated.as_slice(),
-        caps,
-    );
-    drop(script);
-    drop(annotated);
-    match run {
-        Ok(run) => Ok((run, schedule)),
-        Err(why) => {
-            drop(schedule);
-            Err(why)
-        }
-    }
 }
 
 /// Replays an input over a store of capabilities, and certifies it.
@@ -217,9 +144,19 @@ fn why_over<C: CapStore + Drop>(alloc: Global, input: Input, caps: C) -> Result<
     requires new { C.stands caps [] }
     ensures { IfOk result (TellsWhy input.program input.script input.besides.schedule) }
 {
-    match open_input(alloc, input, caps)? {
-        (run, Some(schedule)) => why_opened(alloc, run, schedule),
-        (_, None) => unreachable!(),
+    let Opened {
+        world,
+        schedule,
+        images,
+    } = open_input(alloc, input, Guarding::Full, Logged::new(alloc, caps))?;
+    drop(images);
+    match schedule {
+        Some(schedule) => {
+            let why = why_opened(alloc, world, schedule.as_slice());
+            drop(schedule);
+            why
+        }
+        None => unreachable!(),
     }
 }
 

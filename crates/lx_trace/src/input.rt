@@ -1,12 +1,9 @@
 //! The trace of an input that is replayed.
-ghost use Rattle.std.specs.Prelude.{◌≡◌, ◌≤◌, [], All, ℕ, IfOk, List, None, Some, is_some, length, true};
-ghost use Rattle.lx_annotation_tables.specs.Entries.{all_annotated};
-ghost use Rattle.lx_input.specs.Laws.{HasNoConflict, IsReady};
-ghost use Rattle.lx_link_texts.specs.WellFormed.{IsWellFormed};
+ghost use Rattle.std.specs.Prelude.{◌≡◌, [], ℕ, IfOk, List, None, Some, is_some, true};
+ghost use Rattle.lx_input.specs.Laws.{IsReady};
 ghost use Rattle.lx_model.specs.Account.{account};
 ghost use Rattle.lx_model.specs.World.{opening};
 ghost use Rattle.lx_model.specs.declared.program.Program.{Program};
-ghost use Rattle.lx_model.specs.declared.program.ProgramModule.{ProgramModule};
 ghost use Rattle.lx_model.specs.declared.program.ScriptCall.{ScriptCall};
 ghost use Rattle.lx_runs.specs.Reports.{all_returned, broken_at};
 ghost use Rattle.lx_runs.specs.Runs.{images_of};
@@ -14,90 +11,18 @@ ghost use Rattle.lx_trace.specs.Run.{IsOfRun, StandsForTrace};
 ghost use Rattle.lx_trace.specs.Tells.{TellsTrace};
 ghost use Rattle.lx_trace.specs.Trace.{behind, trace};
 ghost use Rattle.lx_trace_text.specs.Text.{trace_text};
+ghost use Rattle.lx_why.specs.Opened.{IsFullOpening};
 
 use crate::run::TraceRun;
-use lx_annotation_tables::image_counts;
 use lx_cap_tables::CapTables;
 use lx_caps::CapStore;
-use lx_image_check::Checked;
-use lx_input::{Besides, Input};
+use lx_input::Input;
 use lx_model::account::ImageCount;
-use lx_model::program::{Calls, Program};
-use lx_opening::OpenFault;
-use lx_runs::{Guarding, Told, all_returned, images_of_program};
-use lx_slot_types::Annotated;
+use lx_runs::{Guarding, Opened, Told, all_returned, open_input};
 use lx_trace_text::{Traced, trace_text};
-use lx_words::{Items, Memory, Name, Schedule};
-use lx_world::EventFault;
+use lx_words::{Items, Memory, Name};
+use lx_world::{EventFault, World};
 use std::alloc::Global;
-
-/// A run before its first event, the schedule that is asked for, and what the images of its modules have.
-struct Opened<C: CapStore + Drop> {
-    run: TraceRun<C>,
-    schedule: Option<Schedule>,
-    images: Items<ImageCount>,
-}
-
-/// The run of a program's images in which each store has its guard, before its first event.
-fn open_images<C: CapStore + Drop>(
-    alloc: Global,
-    program: Program,
-    script: &[Calls],
-    annotated: &[Annotated],
-    caps: C,
-) -> Result<TraceRun<C>, Memory>
-    requires formed { IsWellFormed program }
-    requires few { length script.now ≤ 16 }
-    requires annotated { annotated.now ≡ all_annotated program }
-    requires agree { All (λ (m : ProgramModule). HasNoConflict program.interface m.«module») program.modules }
-    requires new { C.stands caps [] }
-    ensures { IfOk result (λ run. StandsForTrace C.stands program script.now [] run) }
-{
-    match images_of_program(alloc, &program, annotated, Guarding::Full) {
-        Ok(images) => match TraceRun::open(alloc, program, images, script, annotated, caps) {
-            Ok(run) => Ok(run),
-            Err(OpenFault::Memory) => Err(Memory),
-            Err(OpenFault::ImageDiffers { .. }) => unreachable!(),
-        },
-        Err(why) => {
-            drop(program);
-            drop(caps);
-            Err(why)
-        }
-    }
-}
-
-/// The same, and what the images of the program's modules have.
-fn open_program<C: CapStore + Drop>(
-    alloc: Global,
-    program: Program,
-    script: &[Calls],
-    annotated: &[Annotated],
-    caps: C,
-) -> Result<(TraceRun<C>, Items<ImageCount>), Memory>
-    requires formed { IsWellFormed program }
-    requires few { length script.now ≤ 16 }
-    requires annotated { annotated.now ≡ all_annotated program }
-    requires agree { All (λ (m : ProgramModule). HasNoConflict program.interface m.«module») program.modules }
-    requires new { C.stands caps [] }
-    ensures run { IfOk result (λ opened. StandsForTrace C.stands program script.now [] opened.0) }
-    ensures images { IfOk result (λ opened. opened.1 ≡ images_of program) }
-{
-    match image_counts(alloc, &program, annotated) {
-        Ok(counts) => match open_images(alloc, program, script, annotated, caps) {
-            Ok(run) => Ok((run, counts)),
-            Err(why) => {
-                drop(counts);
-                Err(why)
-            }
-        },
-        Err(why) => {
-            drop(program);
-            drop(caps);
-            Err(why)
-        }
-    }
-}
 
 /// Runs the threads in the order of a schedule, and gathers the events. Where the schedule is not whole, the answer is its first entry, counted
 /// from 0, that names a thread without work, or its length where work remains behind it.
@@ -170,61 +95,20 @@ fn trace_of<C: CapStore + Drop>(
     }
 }
 
-/// The same of a run that is given up behind it.
+/// The same of the run of a world that is opened, which is given up behind it.
 fn trace_opened<C: CapStore + Drop>(
     alloc: Global,
-    mut run: TraceRun<C>,
+    world: World<C>,
     schedule: &[u32],
     images: Items<ImageCount>,
 ) -> Result<Told, Memory>
-    requires { (p : Program) × (script : List (List ScriptCall)) × StandsForTrace C.stands p script [] run × (images ≡ images_of p) }
-    ensures { IfOk result (λ told. (p : Program) (script : List (List ScriptCall)) → StandsForTrace C.stands p script [] run → TellsTrace p script (Some schedule.now) told) }
+    requires { (p : Program) × (script : List (List ScriptCall)) × IsFullOpening C.stands p script world × (images ≡ images_of p) }
+    ensures { IfOk result (λ told. (p : Program) (script : List (List ScriptCall)) → IsFullOpening C.stands p script world → TellsTrace p script (Some schedule.now) told) }
 {
+    let mut run = TraceRun::over(alloc, world)?;
     let told = trace_of(alloc, &mut run, schedule, images);
     drop(run);
     told
-}
-
-/// The run of an input over a store of capabilities.
-fn open_input<C: CapStore + Drop>(alloc: Global, input: Input, caps: C) -> Result<Opened<C>, Memory>
-    requires ready { IsReady input }
-    requires new { C.stands caps [] }
-    ensures run { IfOk result (λ opened. StandsForTrace C.stands input.program input.script [] opened.run) }
-    ensures schedule { IfOk result (λ opened. opened.schedule ≡ input.besides.schedule) }
-    ensures images { IfOk result (λ opened. opened.images ≡ images_of input.program) }
-{
-    let Input {
-        program,
-        script,
-        annotated,
-        besides,
-    } = input;
-    let Besides {
-        number: _,
-        schedule,
-        image,
-    } = besides;
-    drop(image);
-    let opened = open_program(
-        alloc,
-        program,
-        script.as_slice(),
-        annotated.as_slice(),
-        caps,
-    );
-    drop(script);
-    drop(annotated);
-    match opened {
-        Ok((run, images)) => Ok(Opened {
-            run,
-            schedule,
-            images,
-        }),
-        Err(why) => {
-            drop(schedule);
-            Err(why)
-        }
-    }
 }
 
 /// Replays an input over a store of capabilities, and tells its trace.
@@ -235,13 +119,13 @@ fn trace_over<C: CapStore + Drop>(alloc: Global, input: Input, caps: C) -> Resul
     ensures { IfOk result (TellsTrace input.program input.script input.besides.schedule) }
 {
     let Opened {
-        run,
+        world,
         schedule,
         images,
-    } = open_input(alloc, input, caps)?;
+    } = open_input(alloc, input, Guarding::Full, caps)?;
     match schedule {
         Some(schedule) => {
-            let told = trace_opened(alloc, run, schedule.as_slice(), images);
+            let told = trace_opened(alloc, world, schedule.as_slice(), images);
             drop(schedule);
             told
         }
@@ -261,12 +145,12 @@ fn trace_given<C: CapStore + Drop>(
     ensures { IfOk result (TellsTrace input.program input.script (Some given.now)) }
 {
     let Opened {
-        run,
+        world,
         schedule,
         images,
-    } = open_input(alloc, input, caps)?;
+    } = open_input(alloc, input, Guarding::Full, caps)?;
     drop(schedule);
-    trace_opened(alloc, run, given, images)
+    trace_opened(alloc, world, given, images)
 }
 
 /// Replays an input under the schedule that is asked for, and tells each event of the run: which call it belongs to, the line of the text at which

@@ -88,6 +88,7 @@ impl<C: CapStore + Drop> TraceRun<C> {
     ghost use Rattle.lx_model.specs.World.{can_act, is_done};
     ghost use Rattle.lx_runs.specs.Runs.{images_of};
     ghost use Rattle.lx_trace.specs.Run.{IsOfRun, IsPrepared, StandsForTrace};
+    ghost use Rattle.lx_why.specs.Opened.{IsFullOpening};
     ghost use Rattle.lx_world.specs.InCall.{call_at};
     ghost use Rattle.lx_world.specs.Wants.{asked_of};
     ghost use Rattle.lx_world.specs.Worlds.{StandsForWorld};
@@ -119,11 +120,23 @@ impl<C: CapStore + Drop> TraceRun<C> {
     {
         simulation_laws();
         let world = open_world(alloc, program, images, script, annotated, caps)?;
+        let run = Self::over(alloc, world)?;
+        Ok(run)
+    }
+
+    /// The run of a world that is opened over images in which each store and block write has its guard.
+    ///
+    /// # Errors
+    /// Want of memory; more functions than a number of 32 bits counts are that too.
+    pub fn over(alloc: Global, world: World<C>) -> Result<Self, Memory>
+        requires { (p : Program) × (script : List (List ScriptCall)) × IsFullOpening C.stands p script world }
+        ensures { IfOk result (λ run. (p : Program) (script : List (List ScriptCall)) → IsFullOpening C.stands p script world → StandsForTrace C.stands p script [] run) }
+    {
         match Lines::new(alloc, world.code()) {
             Ok(lines) => Ok(TraceRun { world, lines }),
             Err(why) => {
                 drop(world);
-                Err(OpenFault::from(why))
+                Err(why)
             }
         }
     }

@@ -4,6 +4,7 @@ pub mod Behind
 pub mod Certifying
 pub mod Growing
 pub mod Listing
+pub mod Opening
 pub mod Placed
 pub mod Standing
 pub mod True

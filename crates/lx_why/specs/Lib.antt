@@ -4,6 +4,7 @@ pub mod CertifiedLaws
 pub mod ListedNeeds
 pub mod Logged
 pub mod Noted
+pub mod Opened
 pub mod Run
 pub mod Why
 pub mod WhyLaws

@@ -71,6 +71,7 @@ impl<C: CapStore + Drop> WhyRun<C> {
     ghost use Rattle.lx_model.specs.Account.{account};
     ghost use Rattle.lx_model.specs.World.{can_act, is_done};
     ghost use Rattle.lx_why.specs.Certified.{CertifiesNext, acts_so_far};
+    ghost use Rattle.lx_why.specs.Opened.{IsFullOpening};
     ghost use Rattle.lx_why.specs.Run.{IsPrepared, StandsForWhy, acts_of};
     ghost use Rattle.lx_why.specs.Why.{behind};
     ghost use Rattle.lx_world.specs.declared.fault.EventFault.{EventFault};
@@ -100,15 +101,22 @@ impl<C: CapStore + Drop> WhyRun<C> {
         ensures differs { (n : ℕ) → IsErrOf result (OpenFault.ImageDiffers n) → IsFirstDifferent program images.items n }
     {
         simulation_laws();
-        let noted = nothing_noted(alloc)?;
         let store = Logged::new(alloc, caps);
-        match open_world(alloc, program, images, script, annotated, store) {
-            Ok(world) => Ok(WhyRun { world, noted }),
-            Err(fault) => {
-                drop(noted);
-                Err(fault)
-            }
-        }
+        let world = open_world(alloc, program, images, script, annotated, store)?;
+        let run = Self::over(alloc, world)?;
+        Ok(run)
+    }
+
+    /// The run of a world that is opened over images in which each store and block write has its guard.
+    ///
+    /// # Errors
+    /// Want of memory.
+    pub fn over(alloc: Global, world: World<Logged<C>>) -> Result<Self, Memory>
+        ensures { IfOk result (λ run. (p : Program) (script : List (List ScriptCall)) → IsFullOpening ⟦<Logged<C> as CapStore>⟧.stands p script world
+            → StandsForWhy ⟦<Logged<C> as CapStore>⟧.stands p script [] run) }
+    {
+        let noted = nothing_noted(alloc)?;
+        Ok(WhyRun { world, noted })
     }
 
     /// Notes the acts since the last event.

@@ -1,15 +1,20 @@
-use Rattle.lx_runs.proofs.Made.{made_accepted, made_count, none_differs}
-use Rattle.lx_runs.specs.declared.images.Guarding.TheVariants.{Spared}
+use Rattle.lx_why.proofs.Opening.{fully_opened}
+use Rattle.lx_runs.specs.Opened.{IsFullOver}
+use Rattle.lx_runs.proofs.Made.{made_accepted, made_count, made_full, none_differs}
 use Rattle.lx_runs.proofs.open.open_images.Goals as goal
 
 pub open_world-requires-clause-count : goal.open_world-requires-clause-count
-open_world-requires-clause-count g c = made_count Spared c.args.program.interface c.args.program.modules c.args.images.items c.requires.made
+open_world-requires-clause-count g c =
+    let made = c.requires.made in
+    made_count made.0 c.args.program.interface c.args.program.modules c.args.images.items made.1
 
 pub open_world-requires-clause-accepted : goal.open_world-requires-clause-accepted
-open_world-requires-clause-accepted g c = made_accepted Spared c.args.program.interface c.args.program.modules c.args.images.items c.requires.made
+open_world-requires-clause-accepted g c =
+    let made = c.requires.made in
+    made_accepted made.0 c.args.program.interface c.args.program.modules c.args.images.items made.1
 
-pub returns-in-Ok : goal.returns-in-Ok
-returns-in-Ok g c =
+pub returns-in-Ok-clause-opened : goal.returns-in-Ok-clause-opened
+returns-in-Ok-clause-opened g c =
     let given = c.requires in record {
       formed = given.formed;
       few = given.few;
@@ -19,8 +24,17 @@ returns-in-Ok g c =
       stands_for = c.in-Ok.ensures.opens;
     }
 
+pub returns-in-Ok-clause-full : goal.returns-in-Ok-clause-full
+unfolding IsFullOver
+returns-in-Ok-clause-full g c = λ made.
+    let p = c.args.program in
+    let images = c.args.images.items in
+    let opened = c.in-Ok.ensures in
+    fully_opened c.simulation_laws.ensures g.C.CapStore.stands p c.args.script.now images c.in-Ok.world c.requires.formed opened.images (made_full p images made) opened.opens opened.exact
+
 -- each image is of its module's text
 pub unreachable-requires : goal.unreachable-requires
 unreachable-requires g c =
+    let made = c.requires.made in
     let n = c.in-Err-ImageDiffers.field-0-0 in
-    none_differs Spared c.args.program c.args.images.items n c.requires.made (c.in-Err-ImageDiffers.ensures.differs n cc)
+    none_differs made.0 c.args.program c.args.images.items n made.1 (c.in-Err-ImageDiffers.ensures.differs n cc)

@@ -1,6 +1,12 @@
-use Rattle.std.proofs.Common.{sym, subst}
-use Rattle.lx_link_texts.specs.WellFormed.{FitsCalls}
+use Rattle.lx_words.proofs.Options.{if_ok}
+use Rattle.lx_runs.proofs.Opening.{opened_with}
 use Rattle.lx_runs.proofs.open.open_input.Goals as goal
 
-pub open_program-opened-requires-clause-fits : goal.open_program-opened-requires-clause-fits
-open_program-opened-requires-clause-fits g c = subst (FitsCalls c.args.input.program) (sym c.as_slice.ensures) c.requires.ready.linked.fits
+pub open_made-requires-clause-made : goal.open_made-requires-clause-made
+open_made-requires-clause-made g c = (c.args.guarding, c.in-Ok.ensures.made)
+
+pub returns-in-Ok-clause-full : goal.returns-in-Ok-clause-full
+returns-in-Ok-clause-full g c =
+    if_ok c.open_made.result
+    (λ opened full. opened_with g.C.CapStore.stands c.args.guarding c.args.input.program c.args.input.script c.in-Ok.made.images.items opened.world c.in-Ok.ensures.made full)
+    c.open_made.ensures.full
